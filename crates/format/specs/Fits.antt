@@ -1,0 +1,40 @@
+-- Values within the limits.
+use Prim.Native.Nat.{ℕ, _≤_}
+use mathlib.Core.Path.{_≡_}
+use mathlib.Core.Option.{none, some}
+use mathlib.Core.List.{List, [], _∷_}
+use lib.Dec.{T}
+use lib.ListN.{length}
+use Rattle.format.specs.declared.Column.{Column}
+use Rattle.format.specs.Limits.{maxSlot}
+use Rattle.format.specs.Lists.{Bytes}
+use Rattle.format.specs.Kinds.{Shape, fixed, variable, Slot, width, columnShape}
+use Rattle.format.specs.Key.{allowed}
+
+-- bytes, as many as the shape asks, for a bool 00 or 01; variable bytes no more than the limit
+abbrev pub Fits : ℕ → Shape → List ℕ → Type 0
+Fits limit (fixed k) v = Bytes v × (length v ≡ width k) × T (allowed k v)
+Fits limit variable v = Bytes v × (length v ≤ limit)
+
+abbrev pub SlotFits : ℕ → Shape → Slot → Type 0
+SlotFits limit sh none = Unit {0}
+SlotFits limit sh (some v) = Fits limit sh v
+
+-- a row of values: a slot for each column
+abbrev pub RowFits : List Column → List Slot → Type 0
+RowFits [] [] = Unit {0}
+RowFits [] (s ∷ ss) = ⊥
+RowFits (col ∷ cols) [] = ⊥
+RowFits (col ∷ cols) (s ∷ ss) = SlotFits maxSlot (columnShape col) s × RowFits cols ss
+
+-- every slot of a column
+abbrev pub AllSlots : Shape → List Slot → Type 0
+AllSlots sh [] = Unit {0}
+AllSlots sh (s ∷ ss) = SlotFits maxSlot sh s × AllSlots sh ss
+
+-- n slots to a column, each within the limits
+abbrev pub SheetFits : ℕ → List Column → List (List Slot) → Type 0
+SheetFits n [] [] = Unit {0}
+SheetFits n [] (ss ∷ sss) = ⊥
+SheetFits n (col ∷ cols) [] = ⊥
+SheetFits n (col ∷ cols) (ss ∷ sss) = (length ss ≡ n) × AllSlots (columnShape col) ss × SheetFits n cols sss

@@ -1,0 +1,51 @@
+-- The C entries: the same answers on lent bytes. Offsets and the answer are eight bytes a number, low byte first.
+use Prim.Native.Nat.{ℕ, _*_, _/_}
+use mathlib.Core.Bool.{cond}
+use mathlib.Core.List.{List, [], _∷_, map}
+use lib.Dec.{ltb}
+use lib.ListN.{length, take, drop}
+use Rattle.format.specs.declared.Answer.{Answer}
+use Rattle.format.specs.declared.Returned.{Returned}
+use Rattle.format.specs.Lists.{each, joined, over, low, lowBytes}
+use Rattle.format.specs.Numbers.{numbersOf}
+use Rattle.format.specs.Entries.{checkListAnswer, measureAnswer, encodeAnswer, encodeRows, encodeOffsets, decodeAnswer, decodeSheet}
+
+-- the numbers of lent bytes; a shorter tail does not count
+abbrev pub eights : List ℕ → List ℕ
+eights bs = each 0 (length bs / 8) (λ i. low (take 8 (drop (8 * i) bs)))
+
+abbrev pub eightBytes : List ℕ → List ℕ
+eightBytes ns = joined (map (lowBytes 8) ns)
+
+abbrev pub numberBytes : Returned → List ℕ
+numberBytes a = eightBytes (a .0 ∷ a .1 ∷ a .2 ∷ [])
+
+-- the lent answer at exit: the three numbers in front, on refusals too; if it cannot hold them all, no lent byte changes
+abbrev pub answerBytes : Answer → List ℕ → List ℕ
+answerBytes a lent = cond (ltb (length lent) 24) lent (over (numberBytes (numbersOf a)) lent)
+
+-- another lent buffer at exit, if the answer holds the three numbers
+abbrev pub unlessShort : List ℕ → List ℕ → List ℕ → List ℕ
+unlessShort lent new old = cond (ltb (length lent) 24) old new
+
+unfoldable pub lentCheckList : List ℕ → List ℕ → List ℕ
+lentCheckList list lent = answerBytes (checkListAnswer list) lent
+
+unfoldable pub lentMeasure : List ℕ → ℕ → List ℕ → List ℕ → List ℕ
+lentMeasure list n sheet lent = answerBytes (measureAnswer list n sheet) lent
+
+unfoldable pub lentEncode : List ℕ → ℕ → List ℕ → ℕ → List ℕ → List ℕ → List ℕ
+lentEncode list n sheet rowRoom offsets lent = answerBytes (encodeAnswer list n sheet rowRoom (length offsets / 8)) lent
+
+unfoldable pub lentEncodeRows : List ℕ → ℕ → List ℕ → List ℕ → List ℕ → List ℕ → List ℕ
+lentEncodeRows list n sheet rows offsets lent = unlessShort lent (encodeRows list n sheet rows (length offsets / 8)) rows
+
+unfoldable pub lentEncodeOffsets : List ℕ → ℕ → List ℕ → ℕ → List ℕ → List ℕ → List ℕ
+lentEncodeOffsets list n sheet rowRoom offsets lent =
+    unlessShort lent (over (eightBytes (encodeOffsets list n sheet rowRoom (eights offsets))) offsets) offsets
+
+unfoldable pub lentDecode : List ℕ → ℕ → List ℕ → List ℕ → ℕ → List ℕ → List ℕ
+lentDecode list n rows offsets sheetRoom lent = answerBytes (decodeAnswer list n rows (eights offsets) sheetRoom) lent
+
+unfoldable pub lentDecodeSheet : List ℕ → ℕ → List ℕ → List ℕ → List ℕ → List ℕ → List ℕ
+lentDecodeSheet list n rows offsets sheet lent = unlessShort lent (decodeSheet list n rows (eights offsets) sheet) sheet

@@ -1,0 +1,19 @@
+-- Document 01 as definitions, in its order: what a reader must believe.
+pub mod Limits
+pub mod Check
+pub mod Lists
+pub mod Kinds
+pub mod Columns
+pub mod Order
+pub mod Key
+pub mod Field
+pub mod Row
+pub mod Value
+pub mod Fits
+pub mod Sheet
+pub mod Cleared
+pub mod Read
+pub mod Numbers
+pub mod Entries
+pub mod Program
+pub mod Lent

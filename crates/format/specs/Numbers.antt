@@ -1,0 +1,47 @@
+-- The numbers returned: this paper's number and values for each answer.
+use Prim.Native.Nat.{ℕ}
+use Rattle.format.specs.declared.RowFault.{RowFault}
+use Rattle.format.specs.declared.RowFault.the-variants.{Cut, Lead, NullRest, BoolByte, EndByte, Padding, Extra, TooLong}
+use Rattle.format.specs.declared.Refusal.{Refusal}
+use Rattle.format.specs.declared.Refusal.the-variants.{ListCut, UnknownKind, OptionBits, Width, ManyColumns, ManyRows, ColumnCut, SpareBit, Ends, LongSlot, BytesAfter, ManyBytes, RowRoom, OffsetRoom, Offsets, Row, SheetRoom, Input}
+use Rattle.format.specs.declared.Answer.{Answer}
+use Rattle.format.specs.declared.Answer.the-variants.{Done, Refused}
+use Rattle.format.specs.declared.Returned.{Returned}
+
+abbrev pub three : ℕ → ℕ → ℕ → Returned
+three a b c = record { 0 = a; 1 = b; 2 = c }
+
+abbrev pub faultNumber : RowFault → ℕ
+faultNumber Cut = 16
+faultNumber Lead = 17
+faultNumber NullRest = 18
+faultNumber BoolByte = 19
+faultNumber EndByte = 20
+faultNumber Padding = 21
+faultNumber Extra = 22
+faultNumber TooLong = 23
+
+-- the table of refusals
+abbrev pub refusalNumbers : Refusal → Returned
+refusalNumbers (ListCut place) = three 1 place 0
+refusalNumbers (UnknownKind place) = three 2 place 0
+refusalNumbers (OptionBits place) = three 3 place 0
+refusalNumbers (Width place) = three 4 place 0
+refusalNumbers (ManyColumns place) = three 5 place 0
+refusalNumbers (ManyRows n) = three 6 n 0
+refusalNumbers (ColumnCut c) = three 7 c 0
+refusalNumbers (SpareBit c) = three 8 c 0
+refusalNumbers (Ends c r) = three 9 c r
+refusalNumbers (LongSlot c r) = three 10 c r
+refusalNumbers (BytesAfter place) = three 11 place 0
+refusalNumbers (ManyBytes total) = three 12 total 0
+refusalNumbers (RowRoom total) = three 13 total 0
+refusalNumbers (OffsetRoom count) = three 14 count 0
+refusalNumbers (Offsets i) = three 15 i 0
+refusalNumbers (Row f r c) = three (faultNumber f) r c
+refusalNumbers (SheetRoom bytes) = three 24 bytes 0
+refusalNumbers Input = three 25 0 0
+
+abbrev pub numbersOf : Answer → Returned
+numbersOf (Done a b) = three 0 a b
+numbersOf (Refused r) = refusalNumbers r

@@ -1,0 +1,153 @@
+// The types that every crate shares, and the numbers of document 01 for each answer. What a column list, a sheet and a
+// row mean stands in specs/.
+ghost use mathlib.Core.Path.{_≡_};
+ghost use Rattle.format.specs.Numbers.{faultNumber, refusalNumbers, numbersOf};
+
+// The ceilings of document 01; specs/Limits.antt has the same numbers.
+pub const MAX_COLUMNS: usize = 16;
+
+pub const MAX_ROWS: u64 = 4096;
+
+pub const MAX_WIDTH: usize = 1024;
+
+pub const MAX_SLOT: usize = 65535;
+
+pub const MAX_TOTAL: u64 = 16777216;
+
+// What the values of a column are, kinds 1 to 16 in this order; fixed binary carries its width.
+pub enum Kind {
+    Bool,
+    I8,
+    I16,
+    I32,
+    I64,
+    U8,
+    U16,
+    U32,
+    U64,
+    F16,
+    F32,
+    F64,
+    DayTime,
+    MonthDayNano,
+    FixedBinary(usize),
+    Variable,
+}
+
+// Bit 0 and bit 1 of the options byte.
+pub struct SortOptions {
+    pub descending: bool,
+    pub nulls_first: bool,
+}
+
+pub struct Column {
+    pub kind: Kind,
+    pub options: SortOptions,
+}
+
+// The columns of a list: the first `count` of the array.
+pub struct Schema {
+    pub columns: [Column; 16],
+    pub count: usize,
+}
+
+// What can be wrong in the bytes of a row: refusals 16 to 23.
+pub enum RowFault {
+    Cut,
+    Lead,
+    NullRest,
+    BoolByte,
+    EndByte,
+    Padding,
+    Extra,
+    TooLong,
+}
+
+// The reasons in the order of their numbers, each with what document 01 reports of it; 16 to 23 are one case, with row and column.
+pub enum Refusal {
+    ListCut(usize),
+    UnknownKind(usize),
+    OptionBits(usize),
+    Width(usize),
+    ManyColumns(usize),
+    ManyRows(u64),
+    ColumnCut(usize),
+    SpareBit(usize),
+    Ends(usize, usize),
+    LongSlot(usize, usize),
+    BytesAfter(usize),
+    ManyBytes(u64),
+    RowRoom(u64),
+    OffsetRoom(u64),
+    Offsets(usize),
+    Row(RowFault, usize, usize),
+    SheetRoom(usize),
+    Input,
+}
+
+// What a check answers that gives nothing else.
+pub enum Check {
+    Pass,
+    Refuse(Refusal),
+}
+
+// What an entry answers: the second and third number of a success, or the refusal.
+pub enum Answer {
+    Done(u64, u64),
+    Refused(Refusal),
+}
+
+// The three numbers returned.
+pub struct Returned(pub u64, pub u64, pub u64);
+
+// The number of a row's fault.
+fn fault_number(f: RowFault) -> u64
+    ensures { λ r. ⌜ r ≡ faultNumber f ⌝ }
+{
+    match f {
+        RowFault::Cut => 16,
+        RowFault::Lead => 17,
+        RowFault::NullRest => 18,
+        RowFault::BoolByte => 19,
+        RowFault::EndByte => 20,
+        RowFault::Padding => 21,
+        RowFault::Extra => 22,
+        RowFault::TooLong => 23,
+    }
+}
+
+// The numbers of a refusal.
+pub fn refusal_numbers(r: Refusal) -> Returned
+    ensures { λ x. ⌜ x ≡ refusalNumbers r ⌝ }
+{
+    match r {
+        Refusal::ListCut(place) => Returned(1, place as u64, 0),
+        Refusal::UnknownKind(place) => Returned(2, place as u64, 0),
+        Refusal::OptionBits(place) => Returned(3, place as u64, 0),
+        Refusal::Width(place) => Returned(4, place as u64, 0),
+        Refusal::ManyColumns(place) => Returned(5, place as u64, 0),
+        Refusal::ManyRows(n) => Returned(6, n, 0),
+        Refusal::ColumnCut(c) => Returned(7, c as u64, 0),
+        Refusal::SpareBit(c) => Returned(8, c as u64, 0),
+        Refusal::Ends(c, row) => Returned(9, c as u64, row as u64),
+        Refusal::LongSlot(c, row) => Returned(10, c as u64, row as u64),
+        Refusal::BytesAfter(place) => Returned(11, place as u64, 0),
+        Refusal::ManyBytes(total) => Returned(12, total, 0),
+        Refusal::RowRoom(total) => Returned(13, total, 0),
+        Refusal::OffsetRoom(count) => Returned(14, count, 0),
+        Refusal::Offsets(i) => Returned(15, i as u64, 0),
+        Refusal::Row(f, row, c) => Returned(fault_number(f), row as u64, c as u64),
+        Refusal::SheetRoom(bytes) => Returned(24, bytes as u64, 0),
+        Refusal::Input => Returned(25, 0, 0),
+    }
+}
+
+// The three numbers of an answer.
+pub fn numbers(a: Answer) -> Returned
+    ensures { λ r. ⌜ r ≡ numbersOf a ⌝ }
+{
+    match a {
+        Answer::Done(second, third) => Returned(0, second, third),
+        Answer::Refused(r) => refusal_numbers(r),
+    }
+}
