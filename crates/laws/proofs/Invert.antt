@@ -1,0 +1,42 @@
+-- Law B: inverted bytes stand in the reverse order.
+use Prim.Native.Nat.{ℕ, zero, suc, _+_, _-_, _<_, compare, Ordering, Ordering·lt as lt, Ordering·eq as eq, Ordering·gt as gt}
+use mathlib.Core.Path.{_≡_, refl, ap, ap₂, sym, _∙_}
+use mathlib.Core.List.{List, [], _∷_, _++_, map}
+use native.Mathlib.Omega.{arith}
+use native.Mathlib.Nat.{sub-le}
+use lib.ListN.{length, getD, length-map}
+use Rattle.format.specs.Key.{invert, inverted}
+use Rattle.format.specs.Lists.{Bytes}
+use Rattle.format.specs.Order.{cmp, swap, then}
+use Rattle.laws.proofs.Compare.{Tri, below, same, above, tri, compare-of, swap-then, swap-eq}
+use Rattle.laws.proofs.Sep.{sep, Ranks, ranks-even, ranks-cmp}
+
+turned : (x y : ℕ) (o : Ordering) → x < 256 → y < 256 → Tri x y o → Tri (255 - x) (255 - y) (swap o)
+turned x y o hx hy (below h) = above (omega arith)
+turned x y o hx hy (same h) = same (ap invert h)
+turned x y o hx hy (above h) = below (omega arith)
+
+pub compare-invert : (x y : ℕ) → x < 256 → y < 256 → compare (255 - x) (255 - y) ≡ swap (compare x y)
+compare-invert x y hx hy = compare-of (255 - x) (255 - y) (swap (compare x y)) (turned x y (compare x y) hx hy (tri x y))
+
+pub sep-invert : (f g : List ℕ) → Bytes f → Bytes g → sep (inverted f) (inverted g) ≡ swap (sep f g)
+sep-invert [] g bf bg = refl
+sep-invert (x ∷ xs) [] bf bg = refl
+sep-invert (x ∷ xs) (y ∷ ys) bf bg =
+    ap₂ then (compare-invert x y (bf .0) (bg .0)) (sep-invert xs ys (bf .1) (bg .1)) ∙ sym (swap-then (compare x y) (sep xs ys))
+
+-- Law B, for strings of which neither begins the other
+pub ranks-invert : {o : Ordering} {f g : List ℕ} → Bytes f → Bytes g → Ranks o f g → Ranks (swap o) (inverted f) (inverted g)
+ranks-invert {o} {f} {g} bf bg k = record {
+  first = sep-invert f g bf bg ∙ ap swap (k .first);
+  alike = λ e. ap inverted (k .alike (swap-eq o e));
+}
+
+-- Law B, for strings of one length
+pub cmp-invert : (f g : List ℕ) → Bytes f → Bytes g → length f ≡ length g → cmp (inverted f) (inverted g) ≡ swap (cmp f g)
+cmp-invert f g bf bg e = ranks-cmp (ranks-invert bf bg (ranks-even f g e))
+
+-- twice is once back
+pub invert-invert : (f : List ℕ) → Bytes f → inverted (inverted f) ≡ f
+invert-invert [] b = refl
+invert-invert (x ∷ xs) b = ap₂ {C = List ℕ} (λ a r. a ∷ r) (omega arith) (invert-invert xs (b .1))

@@ -1,0 +1,9 @@
+-- Theorems about the definitions of crate format.
+pub mod Compare
+pub mod Sep
+pub mod Bytes
+pub mod Invert
+pub mod KeyLaws
+pub mod Unkey
+pub mod Stream
+pub mod Lengths

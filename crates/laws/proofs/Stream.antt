@@ -1,0 +1,159 @@
+-- The blocks of a value, byte by byte; the laws of the variableBytes field.
+use Prim.Native.Nat.{ℕ, zero, suc, _+_, _-_, _<_, _≤_, compare, Ordering, Ordering·lt as lt, Ordering·eq as eq, Ordering·gt as gt}
+use mathlib.Core.Path.{_≡_, refl, ap, ap₂, sym, _∙_, subst}
+use mathlib.Core.Logic.{_⊎_, inl, inr}
+use mathlib.Core.Bool.{Bool, true, false, cond, not}
+use mathlib.Core.Option.{Option, none, some}
+use mathlib.Core.List.{List, [], _∷_, _++_, map, append-assoc, append-nil}
+use native.Mathlib.Omega.{arith}
+use native.Mathlib.Nat.{sub-self, sub-eq-zero-of-le, add-zero, add-suc, suc-add, zero-add}
+use lib.Dec.{ltb, leb, T, ltb→lt, nltb→le}
+use lib.ListN.{length, take, drop, replicate, take-append-drop, length-drop, length-take}
+use lib.Seq.{length-take-le}
+use Rattle.format.specs.Field.{block, blockSize, blocks, variableBytes}
+use Rattle.format.specs.Key.{inverted}
+use Rattle.format.specs.Lists.{Bytes}
+use Rattle.format.specs.Order.{cmp, swap, then}
+use Rattle.laws.proofs.Compare.{choose, Tri, below, same, above, tri, compare-of, compare-lt, compare-gt, compare-self, compare-swap, swap-then}
+use Rattle.laws.proofs.Sep.{sep, sep-self, Ranks, cmp-same, ranks-cmp}
+use borrow.Author.Tests.{lt-ltb, le-ltb, le-leb, lt-leb}
+
+pub sep-swap : (f g : List ℕ) → sep g f ≡ swap (sep f g)
+sep-swap [] [] = refl
+sep-swap [] (y ∷ ys) = refl
+sep-swap (x ∷ xs) [] = refl
+sep-swap (x ∷ xs) (y ∷ ys) = ap₂ then (compare-swap x y) (sep-swap xs ys) ∙ sym (swap-then (compare x y) (sep xs ys))
+
+pub sep-common : (z f g : List ℕ) → sep (z ++ f) (z ++ g) ≡ sep f g
+sep-common [] f g = refl
+sep-common (x ∷ z) f g = rw (compare-self x) (sep-common z f g)
+
+-- a zero byte is before or at any other
+zero-first : (y : ℕ) (o : Ordering) → Tri 0 y o → then o lt ≡ lt
+zero-first y o (below h) = refl
+zero-first y o (same h) = refl
+zero-first y o (above h) = absurd (omega arith)
+
+-- what is left to write of x in block k, of which u bytes are written
+abbrev pub stream : (ℕ → ℕ) → ℕ → ℕ → List ℕ → List ℕ
+stream size k u [] = replicate (size k - u) 0 ++ (u ∷ [])
+stream size k u (x ∷ xs) = cond (ltb u (size k)) (x ∷ stream size k (suc u) xs) (255 ∷ x ∷ stream size (suc k) 1 xs)
+
+one-less : (s u : ℕ) → u < s → s - u ≡ suc (s - suc u)
+one-less s u h = omega arith
+
+-- ---- the order: every end byte but FF is below FF
+module _ (size : ℕ → ℕ) (small : (k : ℕ) → size k < 255) where
+  -- zeros and the count u of a block that ends come before any block that holds more than u
+  ends-first : (ys : List ℕ) (k u v : ℕ) → u < v → v ≤ size k → sep (replicate (size k - v) 0 ++ (u ∷ [])) (stream size k v ys) ≡ lt
+  ends-first [] k u v h m = rw (sep-common (replicate (size k - v) 0) (u ∷ []) (v ∷ [])) (rw (compare-lt u v h))
+  ends-first (y ∷ ys) k u v h m = go (choose v (size k)) (λ n. ends-first ys k u (suc v) (omega arith) n)
+    where
+      go : (v < size k) ⊎ (size k ≤ v) → (suc v ≤ size k → sep (replicate (size k - suc v) 0 ++ (u ∷ [])) (stream size k (suc v) ys) ≡ lt)
+          → sep (replicate (size k - v) 0 ++ (u ∷ [])) (stream size k v (y ∷ ys)) ≡ lt
+      go (inl n) ih = rw (lt-ltb v (size k) n) (rw (one-less (size k) v n) (rw (ih n) (zero-first y (compare 0 y) (tri 0 y))))
+      go (inr n) ih = rw (le-ltb v (size k) n) (rw (sub-eq-zero-of-le n) (rw (compare-lt u 255 (omega (arith, small k)))))
+
+  beginning-first : (y : ℕ) (ys : List ℕ) (k u : ℕ) → u ≤ size k → sep (stream size k u []) (stream size k u (y ∷ ys)) ≡ lt
+  beginning-first y ys k u m = go (choose u (size k))
+    where
+      go : (u < size k) ⊎ (size k ≤ u) → sep (stream size k u []) (stream size k u (y ∷ ys)) ≡ lt
+      go (inl n) = rw (lt-ltb u (size k) n) (rw (one-less (size k) u n) (rw (ends-first ys k u (suc u) (omega arith) n) (zero-first y (compare 0 y) (tri 0 y))))
+      go (inr n) = rw (le-ltb u (size k) n) (rw (sub-eq-zero-of-le n) (rw (compare-lt u 255 (omega (arith, small k)))))
+
+  pub stream-order : (some-room : (k : ℕ) → 0 < size k) (x y : List ℕ) (k u : ℕ) → u ≤ size k → sep (stream size k u x) (stream size k u y) ≡ cmp x y
+  stream-order room [] [] k u m = sep-self (stream size k u [])
+  stream-order room [] (y ∷ ys) k u m = beginning-first y ys k u m
+  stream-order room (x ∷ xs) [] k u m = sep-swap (stream size k u []) (stream size k u (x ∷ xs)) ∙ ap swap (beginning-first x xs k u m)
+  stream-order room (x ∷ xs) (y ∷ ys) k u m = go (choose u (size k)) (stream-order room xs ys)
+    where
+      go : (u < size k) ⊎ (size k ≤ u) → ((k u : ℕ) → u ≤ size k → sep (stream size k u xs) (stream size k u ys) ≡ cmp xs ys)
+          → sep (stream size k u (x ∷ xs)) (stream size k u (y ∷ ys)) ≡ then (compare x y) (cmp xs ys)
+      go (inl n) ih = rw (lt-ltb u (size k) n) (ap (then (compare x y)) (ih k (suc u) n))
+      go (inr n) ih = rw (le-ltb u (size k) n) (ap (then (compare x y)) (ih (suc k) 1 (room (suc k))))
+
+-- ---- the blocks are the stream
+
+pub full-block : (d : List ℕ) (s e : ℕ) → length d ≡ s → block s d e ≡ d ++ (e ∷ [])
+full-block d s e h = rw h (rw (sub-self s) (ap (λ (z : List ℕ). z ++ (e ∷ [])) (append-nil d)))
+
+module _ (size : ℕ → ℕ) where
+  -- data that fits into what is left of a block
+  stream-data : (d r : List ℕ) (k u : ℕ) → u + length d ≤ size k → stream size k u (d ++ r) ≡ d ++ stream size k (u + length d) r
+  stream-data [] r k u h = rw (add-zero u)
+  stream-data (x ∷ d) r k u h =
+      rw (lt-ltb u (size k) (omega arith)) (rw (add-suc u (length d)) (ap (λ (z : List ℕ). x ∷ z)
+      (rw (← suc-add u (length d)) (stream-data d r k (suc u) (omega arith)))))
+
+  pub stream-last : (x : List ℕ) (k : ℕ) → length x ≤ size k → stream size k 0 x ≡ block (size k) x (length x)
+  stream-last x k h =
+      ap (stream size k 0) (sym (append-nil x))
+      ∙ stream-data x [] k 0 (omega arith)
+      ∙ rw (zero-add (length x)) (sym (append-assoc x (replicate (size k - length x) 0) (length x ∷ [])))
+
+  -- a full block, and what follows
+  full-end : (k : ℕ) → 0 < size (suc k) → (r : List ℕ) → 0 < length r → stream size k (size k) r ≡ 255 ∷ stream size (suc k) 0 r
+  full-end k room [] h = absurd (omega arith)
+  full-end k room (y ∷ ys) h = rw (le-ltb (size k) (size k) (omega arith)) (rw (lt-ltb 0 (size (suc k)) room))
+
+  pub stream-full : (room : (k : ℕ) → 0 < size k) (d r : List ℕ) (k : ℕ) → length d ≡ size k → 0 < length r
+      → stream size k 0 (d ++ r) ≡ block (size k) d 255 ++ stream size (suc k) 0 r
+  stream-full room d r k long h =
+      stream-data d r k 0 (omega arith)
+      ∙ ap (λ (n : ℕ). d ++ stream size k n r) (zero-add (length d) ∙ long)
+      ∙ ap (λ (z : List ℕ). d ++ z) (full-end k (room (suc k)) r h)
+      ∙ sym (append-assoc d (255 ∷ []) (stream size (suc k) 0 r))
+      ∙ ap (λ (z : List ℕ). z ++ stream size (suc k) 0 r) (sym (full-block d (size k) 255 long))
+
+  pub stream-more : (room : (k : ℕ) → 0 < size k) (x : List ℕ) (k : ℕ) → size k < length x
+      → stream size k 0 x ≡ block (size k) (take (size k) x) 255 ++ stream size (suc k) 0 (drop (size k) x)
+  stream-more room x k h =
+      ap (stream size k 0) (sym (take-append-drop (size k) x))
+      ∙ stream-full room (take (size k) x) (drop (size k) x) k (length-take-le (size k) x (omega arith)) (omega (arith, length-drop (size k) x))
+
+  pub blocks-stream : (room : (k : ℕ) → 0 < size k) (n : ℕ) (x : List ℕ) (k : ℕ) → 0 < length x → length x ≤ n → blocks size n k x ≡ stream size k 0 x
+  blocks-stream room zero x k h m = absurd (omega arith)
+  blocks-stream room (suc n) x k h m = go (choose (size k) (length x)) (blocks-stream room n (drop (size k) x) (suc k))
+    where
+      go : (size k < length x) ⊎ (length x ≤ size k)
+          → (0 < length (drop (size k) x) → length (drop (size k) x) ≤ n → blocks size n (suc k) (drop (size k) x) ≡ stream size (suc k) 0 (drop (size k) x))
+          → blocks size (suc n) k x ≡ stream size k 0 x
+      go (inl l) ih = rw (lt-leb (length x) (size k) l)
+          (ap (λ (z : List ℕ). block (size k) (take (size k) x) 255 ++ z) (ih (omega (arith, length-drop (size k) x)) (omega (arith, length-drop (size k) x, room k)))
+          ∙ sym (stream-more room x k l))
+      go (inr l) ih = rw (le-leb (length x) (size k) l) (sym (stream-last x k l))
+
+-- ---- Law C
+
+pub blockSize-room : (k : ℕ) → 0 < blockSize k
+blockSize-room k = go (ltb k 4)
+  where
+    go : (b : Bool) → 0 < cond b 8 32
+    go true = omega arith
+    go false = omega arith
+
+pub blockSize-small : (k : ℕ) → blockSize k < 255
+blockSize-small k = go (ltb k 4)
+  where
+    go : (b : Bool) → cond b 8 32 < 255
+    go true = omega arith
+    go false = omega arith
+
+-- the field of a nonempty value, as the stream
+pub variable-stream : (x : ℕ) (xs : List ℕ) → variableBytes (x ∷ xs) ≡ 2 ∷ stream blockSize 0 0 (x ∷ xs)
+variable-stream x xs = ap (λ (z : List ℕ). 2 ∷ z) (blocks-stream blockSize blockSize-room (suc (length xs)) (x ∷ xs) 0 (omega arith) (omega arith))
+
+pub variable-first : (x y : List ℕ) → sep (variableBytes x) (variableBytes y) ≡ cmp x y
+variable-first [] [] = refl
+variable-first [] (y ∷ ys) = refl
+variable-first (x ∷ xs) [] = refl
+variable-first (x ∷ xs) (y ∷ ys) =
+    ap₂ sep (variable-stream x xs) (variable-stream y ys)
+    ∙ stream-order blockSize blockSize-small blockSize-room (x ∷ xs) (y ∷ ys) 0 0 (omega arith)
+
+-- the fields of two values stand as the values do; equal, or neither begins the other
+pub variable-ranks : (x y : List ℕ) → Ranks (cmp x y) (variableBytes x) (variableBytes y)
+variable-ranks x y = record { first = variable-first x y; alike = λ e. ap variableBytes (cmp-same x y e) }
+
+pub variable-order : (x y : List ℕ) → cmp (variableBytes x) (variableBytes y) ≡ cmp x y
+variable-order x y = ranks-cmp (variable-ranks x y)

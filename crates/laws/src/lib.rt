@@ -1,0 +1,1 @@
+// No code: the crate holds theorems about the definitions of crate format, in proofs/.
