@@ -46,6 +46,14 @@ width (integer n) = n
 width (float n) = n
 width (parts ns) = sum ns
 
+-- the value bytes of a kind; variable bytes have no count of their own
+abbrev pub shapeBytes : Shape → ℕ
+shapeBytes (fixed k) = width k
+shapeBytes variable = 0
+
+abbrev pub valueBytes : Kind → ℕ
+valueBytes kind = shapeBytes (shape kind)
+
 -- the shape of a column's values
 abbrev pub columnShape : Column → Shape
 columnShape col = shape (col .kind)

@@ -1,5 +1,5 @@
 -- Reading rows back: each field is read from the part of the row that the previous one left.
-use Prim.Native.Nat.{ℕ, zero, suc, _+_}
+use Prim.Native.Nat.{ℕ, zero, suc, _+_, _-_}
 use mathlib.Core.Bool.{Bool, true, false, cond, _&&_, _||_}
 use mathlib.Core.Option.{none, some}
 use mathlib.Core.List.{List, [], _∷_, _++_}
@@ -9,6 +9,8 @@ use Rattle.format.specs.declared.SortOptions.{SortOptions}
 use Rattle.format.specs.declared.Column.{Column}
 use Rattle.format.specs.declared.RowFault.{RowFault}
 use Rattle.format.specs.declared.RowFault.the-variants.{Cut, Lead, NullRest, BoolByte, EndByte, Padding, Extra, TooLong}
+use Rattle.format.specs.declared.FieldRead.{FieldRead}
+use Rattle.format.specs.declared.FieldRead.the-variants.{Null, Value, Fault}
 use Rattle.format.specs.declared.Check.{Check}
 use Rattle.format.specs.declared.Check.the-variants.{Pass, Refuse}
 use Rattle.format.specs.declared.Refusal.the-variants.{Row}
@@ -32,6 +34,11 @@ allZero (x ∷ xs) = eqb x 0 && allZero xs
 abbrev pub fromBad : List ℕ → ℕ
 fromBad [] = 0
 fromBad (x ∷ xs) = cond (eqb x 0) (fromBad xs) (suc (length xs))
+
+-- something was read
+abbrev pub Good : {A : Type 0} → Parsed A → Type 0
+Good (got v r) = Unit {0}
+Good (fault f l) = ⊥
 
 -- ---- variable bytes
 
@@ -119,6 +126,12 @@ slotRead (fault f l) = none
 abbrev pub leftAfter : Parsed Slot → List ℕ
 leftAfter (got s r) = r
 leftAfter (fault f l) = []
+
+-- the same as a field reader answers it, of the bytes s: a field's length, and the count of a value's bytes in the sheet
+abbrev pub fieldRead : List ℕ → Parsed Slot → FieldRead
+fieldRead s (got none r) = Null (length s - length r)
+fieldRead s (got (some v) r) = Value (length s - length r) (length v)
+fieldRead s (fault f l) = Fault f l
 
 -- a fault is refused with its row and column, and else what follows is judged
 abbrev pub fieldCheck : ℕ → ℕ → Parsed Slot → (List ℕ → Check) → Check

@@ -1,6 +1,8 @@
 // The types that every crate shares, and the numbers of document 01 for each answer. What a column list, a sheet and a
 // row mean stands in specs/.
 ghost use mathlib.Core.Path.{_≡_};
+ghost use Rattle.format.specs.Kinds.{valueBytes};
+ghost use Rattle.format.specs.Field.{nullByte};
 ghost use Rattle.format.specs.Numbers.{faultNumber, refusalNumbers, numbersOf};
 
 // The ceilings of document 01; specs/Limits.antt has the same numbers.
@@ -97,8 +99,50 @@ pub enum Answer {
     Refused(Refusal),
 }
 
+// What a field reader answers of the part of the row that is left: a null or a value with the field's length, and how many
+// bytes the value has in the sheet; or the fault, and how many bytes are left from the bad byte on.
+pub enum FieldRead {
+    Null(usize),
+    Value(usize, usize),
+    Fault(RowFault, usize),
+}
+
 // The three numbers returned.
 pub struct Returned(pub u64, pub u64, pub u64);
+
+// The value bytes of a kind; variable bytes have no count of their own.
+pub fn width(kind: Kind) -> usize
+    ensures { λ r. ⌜ r ≡ valueBytes kind ⌝ }
+{
+    match kind {
+        Kind::Bool => 1,
+        Kind::I8 => 1,
+        Kind::I16 => 2,
+        Kind::I32 => 4,
+        Kind::I64 => 8,
+        Kind::U8 => 1,
+        Kind::U16 => 2,
+        Kind::U32 => 4,
+        Kind::U64 => 8,
+        Kind::F16 => 2,
+        Kind::F32 => 4,
+        Kind::F64 => 8,
+        Kind::DayTime => 8,
+        Kind::MonthDayNano => 16,
+        Kind::FixedBinary(w) => w,
+        Kind::Variable => 0,
+    }
+}
+
+// The null byte: 00 for nulls first, FF for last.
+pub fn null_sentinel(options: SortOptions) -> u8
+    ensures { λ r. ⌜ r ≡ nullByte options ⌝ }
+{
+    if options.nulls_first {
+        return 0;
+    }
+    255
+}
 
 // The number of a row's fault.
 fn fault_number(f: RowFault) -> u64

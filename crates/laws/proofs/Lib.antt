@@ -1,4 +1,5 @@
 -- Theorems about the definitions of crate format.
+pub mod Append
 pub mod Compare
 pub mod Sep
 pub mod Bytes
