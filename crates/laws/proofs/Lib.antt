@@ -1,4 +1,6 @@
 -- Theorems about the definitions of crate format.
+pub mod Table
+pub mod Run
 pub mod Append
 pub mod Compare
 pub mod Sep
