@@ -8,3 +8,7 @@ pub mod KeyLaws
 pub mod Unkey
 pub mod Stream
 pub mod Lengths
+pub mod Directed
+pub mod Sound
+pub mod Fields
+pub mod RowOrder
