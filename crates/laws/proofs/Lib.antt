@@ -12,3 +12,10 @@ pub mod Directed
 pub mod Sound
 pub mod Fields
 pub mod RowOrder
+pub mod Parsed
+pub mod ReadBlocks
+pub mod ReadVariable
+pub mod ReadFixed
+pub mod ReadField
+pub mod ReadRow
+pub mod FaultPlace
