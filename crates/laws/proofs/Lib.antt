@@ -10,3 +10,14 @@ pub mod KeyLaws
 pub mod Unkey
 pub mod Stream
 pub mod Lengths
+pub mod Directed
+pub mod Sound
+pub mod Fields
+pub mod RowOrder
+pub mod Parsed
+pub mod ReadBlocks
+pub mod ReadVariable
+pub mod ReadFixed
+pub mod ReadField
+pub mod ReadRow
+pub mod FaultPlace
