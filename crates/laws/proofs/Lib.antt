@@ -10,3 +10,4 @@ pub mod Stream
 pub mod Lengths
 pub mod Lists
 pub mod Checks
+pub mod Sheets
