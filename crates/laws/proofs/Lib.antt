@@ -11,3 +11,4 @@ pub mod Lengths
 pub mod Lists
 pub mod Checks
 pub mod Sheets
+pub mod Places
