@@ -12,3 +12,4 @@ pub mod Lists
 pub mod Checks
 pub mod Sheets
 pub mod Places
+pub mod Turned
