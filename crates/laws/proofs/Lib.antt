@@ -8,6 +8,10 @@ pub mod KeyLaws
 pub mod Unkey
 pub mod Stream
 pub mod Lengths
+pub mod Directed
+pub mod Sound
+pub mod Fields
+pub mod RowOrder
 pub mod Lists
 pub mod Checks
 pub mod Sheets
