@@ -17,3 +17,5 @@ pub mod Checks
 pub mod Sheets
 pub mod Places
 pub mod Turned
+pub mod Totals
+pub mod Cleared

@@ -83,7 +83,7 @@ stands-from n k at [] s c d l e h = absurd (omega arith)
 stands-from n k at (col ∷ cols) s zero d l e h = rw add-zero (first-stands n k at col cols s l e .0)
 stands-from n k at (col ∷ cols) s (suc c) d l e h =
     let p = first-stands n k at col cols s l e in
-    rw (add-suc, ← suc-add) (stands-from n (suc k) (at + columnBytes (layout col) n (drop at s)) cols s c d (p .0 .room) (p .1) (omega arith))
+    rw (add-suc k c, ← suc-add k c) (stands-from n (suc k) (at + columnBytes (layout col) n (drop at s)) cols s c d (p .0 .room) (p .1) (omega arith))
 
 pub column-stands : (n : ℕ) (cols : List Column) (s : List ℕ) (c : ℕ) (d : Column) → sheetFault n cols s ≡ Pass → c < length cols
     → Stands (getD cols c d) n c (place n cols s c) s
