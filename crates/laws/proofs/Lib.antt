@@ -19,3 +19,4 @@ pub mod Places
 pub mod Turned
 pub mod Totals
 pub mod Cleared
+pub mod Room
