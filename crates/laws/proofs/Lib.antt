@@ -20,3 +20,4 @@ pub mod Turned
 pub mod Totals
 pub mod Cleared
 pub mod Room
+pub mod Cuts
