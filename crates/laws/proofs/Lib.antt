@@ -12,6 +12,13 @@ pub mod Directed
 pub mod Sound
 pub mod Fields
 pub mod RowOrder
+pub mod Parsed
+pub mod ReadBlocks
+pub mod ReadVariable
+pub mod ReadFixed
+pub mod ReadField
+pub mod ReadRow
+pub mod FaultPlace
 pub mod Lists
 pub mod Checks
 pub mod Sheets
