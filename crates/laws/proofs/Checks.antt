@@ -15,6 +15,8 @@ use Rattle.format.specs.Check.{both, failIf}
 use Rattle.format.specs.Entries.{answer}
 
 -- ---- checks that pass
+
+-- a refusal is not a pass
 pub refuse-pass : {r : Refusal} → Refuse r ≡ Pass → ⊥
 refuse-pass e = let z : _≡_ {A = ℕ} 0 1 = cc in omega arith
 

@@ -28,3 +28,6 @@ pub mod Totals
 pub mod Cleared
 pub mod Room
 pub mod Cuts
+pub mod Unique
+pub mod Accept
+pub mod Trips
