@@ -1,22 +1,22 @@
 -- The cleared sheet of slots that fit: it passes, it has these slots, and how long it is. Assumes nothing.
 use Prim.Native.Nat.{ℕ, zero, suc, _+_, _-_, _*_, _/_, _%_, _^_, _<_, _≤_}
 use mathlib.Core.Path.{_≡_, refl, ap, ap₂, sym, _∙_, subst}
-use mathlib.Core.Bool.{Bool, not}
+use mathlib.Core.Bool.{Bool}
 use mathlib.Core.Option.{none, some}
 use mathlib.Core.List.{List, [], _∷_, _++_, map, append-assoc}
-use native.Mathlib.Nat.{pow-suc, add-zero, zero-add}
+use native.Mathlib.Nat.{pow-suc, zero-add}
 use native.Mathlib.Omega.{arith}
-use lib.Dec.{ltb, eqb, ltb→lt}
+use lib.Dec.{eqb, ltb→lt}
 use lib.ListN.{length, getD, take, drop, length-append, length-map, length-replicate, List·getD-map}
-use lib.Seq.{take-at, drop-at, drop-append-seam}
-use borrow.Author.Tests.{le-ltb, eq-eqb}
+use lib.Seq.{drop-at}
+use borrow.Author.Tests.{eq-eqb}
 use Rattle.format.specs.declared.Check.the-variants.{Pass}
 use Rattle.format.specs.declared.Column.{Column}
 use Rattle.format.specs.Limits.{maxRows, maxSlot}
-use Rattle.format.specs.Lists.{each, endsFrom, joined, low, lowBytes, sum}
+use Rattle.format.specs.Lists.{endsFrom, joined, low, lowBytes, sum}
 use Rattle.format.specs.Kinds.{Fixed, bool, plain, number, integer, float, parts, Shape, fixed, variable, Slot, width, columnShape}
 use Rattle.format.specs.Fits.{SlotFits, AllSlots, SheetFits}
-use Rattle.format.specs.Sheet.{Layout, bits, ended, wide, layoutFor, layout, packed, bit, bitsFault, end, endsFault, valuesFault, valuesBytes, boolByte, valueAt, slotIf, columnFault, columnBytes, slotAt, columnSlots, sheetFaultFrom, sheetFault, sheetSlots}
+use Rattle.format.specs.Sheet.{Layout, bits, ended, wide, layoutFor, layout, packed, bit, end, endsFault, valuesFault, valuesBytes, boolByte, valueAt, slotIf, columnFault, columnBytes, slotAt, columnSlots, sheetFaultFrom, sheetFault, sheetSlots}
 use Rattle.format.specs.Cleared.{pack, valid, isTrue, fixedSlot, variableSlot, clearedValues, clearedColumn, clearedSheet}
 use Rattle.bits.proofs.Bits.{length-pack, bit-before, bits-pass}
 use Rattle.laws.proofs.Lists.{Every, each-is, length-joined, long-at, endAt, length-ends, end-first, end-next, end-last, end-most, cut-at}

@@ -12,7 +12,7 @@ use borrow.Author.Tests.{eq-eqb, eqb-true, not-false}
 use Rattle.format.specs.declared.Check.the-variants.{Pass}
 use Rattle.format.specs.Limits.{maxTotal}
 use Rattle.format.specs.Lists.{Bytes, each, endsFrom, joined}
-use Rattle.format.specs.Entries.{offsetRoomFault, totalFault, fallFault, offsetsFault, rowBytes, cutRows}
+use Rattle.format.specs.Entries.{offsetRoomFault, fallFault, offsetsFault, rowBytes, cutRows}
 use Rattle.laws.proofs.Bytes.{bytes-take, bytes-drop}
 use Rattle.laws.proofs.Lists.{Every, every-each, each-is, endAt, length-ends, end-first, end-next, end-last, cut-at}
 use Rattle.laws.proofs.Checks.{failIf-pass, enough, pass-enough, both-pass, pass-both}

@@ -31,3 +31,4 @@ pub mod Cuts
 pub mod Unique
 pub mod Accept
 pub mod Trips
+pub mod SheetOrder

@@ -1,14 +1,14 @@
 -- How long the cleared sheet of some rows is: what decode's room check adds up, row by row. Assumes nothing.
 use Prim.Native.Nat.{ℕ, suc, _+_, _*_, _≤_}
-use mathlib.Core.Path.{_≡_, refl, ap, sym, _∙_}
-use mathlib.Core.List.{List, [], _∷_, _++_, map, tail}
+use mathlib.Core.Path.{_≡_, refl, ap, _∙_}
+use mathlib.Core.List.{List, [], _∷_, map, tail}
 use native.Mathlib.Omega.{arith}
 use lib.ListN.{length, length-append, length-map}
 use Rattle.format.specs.declared.Column.{Column}
 use Rattle.format.specs.Limits.{maxRows}
 use Rattle.format.specs.Lists.{sum}
 use Rattle.format.specs.Kinds.{Slot, columnShape}
-use Rattle.format.specs.Fits.{RowFits, SheetFits}
+use Rattle.format.specs.Fits.{RowFits}
 use Rattle.format.specs.Sheet.{Layout, bits, ended, wide, layout, packed, turned}
 use Rattle.format.specs.Cleared.{clearedColumn, clearedSheet}
 use Rattle.laws.proofs.Lists.{Every}

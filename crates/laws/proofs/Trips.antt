@@ -8,25 +8,24 @@ use lib.ListN.{length, getD, take, drop, length-map}
 use lib.Seq.{take-at, length-take-le}
 use Rattle.format.specs.declared.Answer.{Answer}
 use Rattle.format.specs.declared.Answer.the-variants.{Done}
-use Rattle.format.specs.declared.Check.{Check}
 use Rattle.format.specs.declared.Check.the-variants.{Pass}
 use Rattle.format.specs.declared.Column.{Column}
 use Rattle.format.specs.Limits.{maxTotal}
 use Rattle.format.specs.Lists.{Bytes, endsFrom, joined, over}
 use Rattle.format.specs.Kinds.{Slot}
-use Rattle.format.specs.Columns.{listFault, columns}
+use Rattle.format.specs.Columns.{columns}
 use Rattle.format.specs.Fits.{RowFits, SheetFits}
 use Rattle.format.specs.Row.{row}
 use Rattle.format.specs.Sheet.{sheetSlots, nulls, turned}
 use Rattle.format.specs.Cleared.{clearedSheet}
 use Rattle.format.specs.Read.{rowFault, rowSlots, rowsFault}
-use Rattle.format.specs.Entries.{answer, written, sheetRows, sheetTotal, measureCheck, encodeCheck, encodeAnswer, encodeRows, encodeOffsets, cutRows, rowsSlots, decodedSheet, decodeCheck, decodeAnswer, decodeSheet}
+use Rattle.format.specs.Entries.{sheetRows, sheetTotal, measureCheck, encodeCheck, encodeAnswer, encodeRows, encodeOffsets, cutRows, rowsSlots, decodedSheet, decodeCheck, decodeAnswer, decodeSheet}
 use Rattle.laws.proofs.Lists.{Every, length-each}
 use Rattle.laws.proofs.Checks.{both-pass, pass-both, answer-done}
 use Rattle.laws.proofs.Sheets.{sheet-fits}
-use Rattle.laws.proofs.Turned.{slotsAt, turned-turned, rows-fit, sheet-count, rows-count, columns-fit}
+use Rattle.laws.proofs.Turned.{turned-turned, rows-many, rows-fit, sheet-count, rows-count, columns-fit}
 use Rattle.laws.proofs.Cleared.{cleared-passes, cleared-slots}
-use Rattle.laws.proofs.Cuts.{Cuts, written-cuts, written-rows, cut-bytes, cut-joined, cut-ends}
+use Rattle.laws.proofs.Cuts.{written-cuts, written-rows, cut-bytes, cut-joined, cut-ends}
 use Rattle.laws.proofs.Accept.{Accepted, Readable, measured, measure-pass, encoded, encode-pass, decoded, decode-pass}
 use Rattle.laws.proofs.ReadRow.{row-passes, row-slots, passed-row}
 
@@ -60,18 +59,15 @@ module _ (cols : List Column) (n : ℕ) (sheet t u : List ℕ) (b : Bytes sheet)
   fits : SheetFits n cols slots
   fits = sheet-fits n cols sheet b (a .passes)
 
-  many : length rows ≡ n
-  many = length-map (turned n slots) (row cols) ∙ length-each 0 n (slotsAt slots)
-
   -- decode cuts the same rows out
   cut-back : cutRows n (joined rows ++ t) (endsFrom 0 rows ++ u) ≡ rows
-  cut-back = written-rows rows t u n many
+  cut-back = written-rows rows t u n (rows-many n cols slots)
 
   -- refuses none
   pub written-readable : Readable cols n (joined rows ++ t) (endsFrom 0 rows ++ u)
   written-readable = record {
     few = a .few;
-    cuts = written-cuts rows t u n many (a .small);
+    cuts = written-cuts rows t u n (rows-many n cols slots) (a .small);
     passes = ap (rowsFault 0 cols) cut-back ∙ rows-pass 0 cols (turned n slots) (rows-fit n cols slots fits);
   }
 
@@ -262,3 +258,12 @@ module _ (list : List ℕ) (n : ℕ) (s t rows offsets : List ℕ) where
     row-bytes = rw (p, q, e);
     row-ends = rw (p, q, e);
   }
+
+-- so are an accepted sheet and its cleared sheet
+pub cleared-alike : (list : List ℕ) (n : ℕ) (sheet rows offsets : List ℕ) → Bytes sheet → measureCheck list n sheet ≡ Pass
+    → Alike list n sheet (clearedSheet n (columns list) (sheetSlots n (columns list) sheet)) rows offsets
+cleared-alike list n sheet rows offsets b e =
+    let l = measured list n sheet e in
+    let cols : List Column = columns list in
+    let z : List ℕ = clearedSheet n cols (sheetSlots n cols sheet) in
+    same-slots-alike list n sheet z rows offsets e (measure-pass list n z (l .0) (cleared-accepted cols n sheet [] [] b (l .1))) (sym (cleared-same cols n sheet [] [] b (l .1)))
