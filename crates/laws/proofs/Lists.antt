@@ -58,6 +58,10 @@ each-list (x ∷ xs) d = ap (λ l. x ∷ l) (each-next 0 (length xs) (λ i. getD
 pub each-is : {A : Type 0} (xs : List A) (d : A) (n : ℕ) (f : ℕ → A) → length xs ≡ n → ((i : ℕ) → i < n → f i ≡ getD xs i d) → each 0 n f ≡ xs
 each-is xs d n f e h = each-same 0 n f (λ i. getD xs i d) (λ j a b. h j (omega arith)) ∙ ap (λ m. each 0 m (λ i. getD xs i d)) (sym e) ∙ each-list xs d
 
+-- a list mapped is f of its elements
+pub map-is : {A B : Type 0} (f : A → B) (xs : List A) (d : A) → map f xs ≡ each 0 (length xs) (λ i. f (getD xs i d))
+map-is f xs d = ap (map f) (sym (each-list xs d)) ∙ map-each f 0 (length xs) (λ i. getD xs i d)
+
 -- ---- parts of one length
 pub length-joined : (w : ℕ) (xs : List (List ℕ)) → Every (λ x. length x ≡ w) xs → length (joined xs) ≡ length xs * w
 length-joined w [] h = omega arith

@@ -1,6 +1,6 @@
 -- Encode and decode undo one another: what encode wrote is decoded to the cleared sheet, what decode wrote is encoded to the
 -- same rows and offsets, and sheets that differ only in null slots are encoded alike. Assumes nothing.
-use Prim.Native.Nat.{ℕ, suc, _≤_}
+use Prim.Native.Nat.{ℕ, suc, _+_, _≤_}
 use mathlib.Core.Path.{_≡_, refl, ap, ap₂, sym, subst, _∙_}
 use mathlib.Core.List.{List, [], _∷_, _++_, map}
 use native.Mathlib.Omega.{arith}
@@ -11,20 +11,21 @@ use Rattle.format.specs.declared.Answer.the-variants.{Done}
 use Rattle.format.specs.declared.Check.the-variants.{Pass}
 use Rattle.format.specs.declared.Column.{Column}
 use Rattle.format.specs.Limits.{maxTotal}
-use Rattle.format.specs.Lists.{Bytes, endsFrom, joined, over}
+use Rattle.format.specs.Lists.{Bytes, each, endsFrom, joined, over, sum}
 use Rattle.format.specs.Kinds.{Slot}
 use Rattle.format.specs.Columns.{columns}
 use Rattle.format.specs.Fits.{RowFits, SheetFits}
 use Rattle.format.specs.Row.{row}
-use Rattle.format.specs.Sheet.{sheetSlots, nulls, turned}
+use Rattle.format.specs.Sheet.{layout, sheetSlots, nullsIn, nulls, turned}
 use Rattle.format.specs.Cleared.{clearedSheet}
 use Rattle.format.specs.Read.{rowFault, rowSlots, rowsFault}
-use Rattle.format.specs.Entries.{sheetRows, sheetTotal, measureCheck, encodeCheck, encodeAnswer, encodeRows, encodeOffsets, cutRows, rowsSlots, decodedSheet, decodeCheck, decodeAnswer, decodeSheet}
-use Rattle.laws.proofs.Lists.{Every, length-each}
+use Rattle.format.specs.Entries.{sheetRows, sheetTotal, measureCheck, encodeCheck, encodeAnswer, encodeRows, encodeOffsets, rowBytes, cutRows, rowsSlots, decodedSheet, decodeCheck, decodeAnswer, decodeSheet}
+use Rattle.laws.proofs.Lists.{Every, length-each, map-each, map-is}
 use Rattle.laws.proofs.Checks.{both-pass, pass-both, answer-done}
 use Rattle.laws.proofs.Sheets.{sheet-fits}
 use Rattle.laws.proofs.Turned.{turned-turned, rows-many, rows-fit, sheet-count, rows-count, columns-fit}
 use Rattle.laws.proofs.Cleared.{cleared-passes, cleared-slots}
+use Rattle.laws.proofs.Room.{frame, rowAdded, cleared-length, turned-nulls}
 use Rattle.laws.proofs.Cuts.{written-cuts, written-rows, cut-bytes, cut-joined, cut-ends}
 use Rattle.laws.proofs.Accept.{Accepted, Readable, measured, measure-pass, encoded, encode-pass, decoded, decode-pass}
 use Rattle.laws.proofs.ReadRow.{row-passes, row-slots, passed-row}
@@ -135,6 +136,20 @@ module _ (cols : List Column) (n : ℕ) (bytes offsets : List ℕ) (b : Bytes by
     passes = cleared-passes n cols (rowsSlots cols cut) (r .few) read-fits;
     small = omega (arith, out-total, r .cuts .small);
   }
+
+  -- how long it is: each column its frame, and what each row adds
+  pub out-length : (d : Column)
+      → length out ≡ sum (each 0 (length cols) (λ c. frame (layout (getD cols c d)) n)) + sum (each 0 n (λ r. rowAdded cols (rowSlots cols (rowBytes bytes offsets r))))
+  out-length d =
+      cleared-length n cols read (r .few) count (passed .1)
+      ∙ ap₂ (λ (x y : List ℕ). sum x + sum y) (map-is (λ col. frame (layout col) n) cols d)
+      (ap (map (rowAdded cols)) (map-each (rowSlots cols) 0 n (rowBytes bytes offsets)) ∙ map-each (rowAdded cols) 0 n (λ r. rowSlots cols (rowBytes bytes offsets r)))
+
+  -- its nulls, row by row
+  pub out-nulls : nulls (rowsSlots cols cut) ≡ sum (each 0 n (λ r. nullsIn (rowSlots cols (rowBytes bytes offsets r))))
+  out-nulls =
+      turned-nulls cols read (passed .1)
+      ∙ ap sum (ap (map nullsIn) (map-each (rowSlots cols) 0 n (rowBytes bytes offsets)) ∙ map-each nullsIn 0 n (λ r. rowSlots cols (rowBytes bytes offsets r)))
 
 -- ---- what the entries answer and write where they refuse nothing
 module _ (list : List ℕ) (n : ℕ) (sheet rows offsets : List ℕ) (e : encodeCheck list n sheet (length rows) (length offsets) ≡ Pass) where
