@@ -32,3 +32,4 @@ pub mod Unique
 pub mod Accept
 pub mod Trips
 pub mod SheetOrder
+pub mod OutBytes

@@ -107,7 +107,7 @@ module _ (cols : List Column) (n : ℕ) (bytes offsets : List ℕ) (b : Bytes by
   count : length read ≡ n
   count = length-map cut (rowSlots cols) ∙ length-each 0 n _
 
-  read-fits : SheetFits n cols (rowsSlots cols cut)
+  pub read-fits : SheetFits n cols (rowsSlots cols cut)
   read-fits = columns-fit n cols read count (passed .1)
 
   -- it has the slots that were read
