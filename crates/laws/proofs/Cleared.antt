@@ -81,7 +81,8 @@ wide-read k n c ss t e h = record {
   long = len;
   back = λ i l.
       ap (slotIf (valid (getD ss i none)))
-      (long-at (width k) xs t i (fixedSlot (width k) none) (all-wide k ss h) (omega (arith, length-map ss (fixedSlot (width k)))) ∙ List·getD-map (fixedSlot (width k)) ss i none)
+      (long-at (width k) xs t i (fixedSlot (width k) none) (all-wide k ss h) (omega (arith, length-map ss (fixedSlot (width k))))
+      ∙ List·getD-map (fixedSlot (width k)) ss i none)
       ∙ fixed-back (width k) (getD ss i none);
 }
   where
@@ -246,7 +247,8 @@ module _ (sh : Shape) (n c : ℕ) (ss : List Slot) (t : List ℕ) (few : n ≤ m
       ap₂ (λ (b : Bool) (z : List ℕ). slotIf b (valueAt ly n z i)) (valid-at i l) rest ∙ r .back i l))
 
 -- ---- sheets
-passes-from : (n c at : ℕ) (cols : List Column) (sss : List (List Slot)) → n ≤ maxRows → SheetFits n cols sss → sheetFaultFrom n c at cols (clearedSheet n cols sss) ≡ Pass
+passes-from : (n c at : ℕ) (cols : List Column) (sss : List (List Slot)) → n ≤ maxRows → SheetFits n cols sss
+    → sheetFaultFrom n c at cols (clearedSheet n cols sss) ≡ Pass
 passes-from n c at [] [] few h = refl
 passes-from n c at [] (ss ∷ sss) few h = absurd h
 passes-from n c at (col ∷ cols) [] few h = absurd h
@@ -256,11 +258,13 @@ passes-from n c at (col ∷ cols) (ss ∷ sss) few h =
     pass-both (columnFault (layout col) n c (clearedColumn (layout col) n ss ++ t)) _ (column-passes (columnShape col) n c ss t few (h .0) (h .1))
     (ap (sheetFaultFrom n (suc c) (at + k) cols) (column-past (columnShape col) n c ss t few (h .0) (h .1)) ∙ passes-from n (suc c) (at + k) cols sss few (h .2))
 
-pub cleared-passes : (n : ℕ) (cols : List Column) (sss : List (List Slot)) → n ≤ maxRows → SheetFits n cols sss → sheetFault n cols (clearedSheet n cols sss) ≡ Pass
+pub cleared-passes : (n : ℕ) (cols : List Column) (sss : List (List Slot)) → n ≤ maxRows → SheetFits n cols sss
+    → sheetFault n cols (clearedSheet n cols sss) ≡ Pass
 unfolding sheetFault
 cleared-passes n cols sss few h = passes-from n 0 0 cols sss few h
 
-pub cleared-slots : (n : ℕ) (cols : List Column) (sss : List (List Slot)) → n ≤ maxRows → SheetFits n cols sss → sheetSlots n cols (clearedSheet n cols sss) ≡ sss
+pub cleared-slots : (n : ℕ) (cols : List Column) (sss : List (List Slot)) → n ≤ maxRows → SheetFits n cols sss
+    → sheetSlots n cols (clearedSheet n cols sss) ≡ sss
 cleared-slots n [] [] few h = refl
 cleared-slots n [] (ss ∷ sss) few h = absurd h
 cleared-slots n (col ∷ cols) [] few h = absurd h

@@ -119,7 +119,8 @@ cut-from p (x ∷ xs) t zero k e h =
     (ap (drop k) (append-assoc p (x ++ joined xs) t) ∙ drop-at p ((x ++ joined xs) ++ t) k e ∙ append-assoc x (joined xs) t)
     ∙ take-at x (joined xs ++ t) (length x) refl
 cut-from p (x ∷ xs) t (suc i) k e h =
-    ap (λ (y : List ℕ). take (endAt (k + length x) xs (suc i) - endAt (k + length x) xs i) (drop (endAt (k + length x) xs i) (y ++ t))) (sym (append-assoc p x (joined xs)))
+    let from : ℕ → ℕ = endAt (k + length x) xs in
+    ap (λ (y : List ℕ). take (from (suc i) - from i) (drop (from i) (y ++ t))) (sym (append-assoc p x (joined xs)))
     ∙ cut-from (p ++ x) xs t i (k + length x) (length-append p x ∙ omega arith) (omega arith)
 
 -- part i lies between ends i and i + 1

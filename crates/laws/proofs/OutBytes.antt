@@ -1,9 +1,9 @@
 -- What encode and decode write is bytes, whatever they answer. Assumes nothing.
-use Prim.Native.Nat.{ℕ, zero, suc, _/_, _^_, _<_, _≤_}
+use Prim.Native.Nat.{ℕ, zero, suc, _/_, _<_, _≤_}
 use mathlib.Core.Path.{_≡_, refl, subst}
 use mathlib.Core.Bool.{Bool}
 use mathlib.Core.Option.{none, some}
-use mathlib.Core.List.{List, [], _∷_, _++_, map, append-nil}
+use mathlib.Core.List.{List, [], _∷_, map, append-nil}
 use native.Mathlib.Nat.{mod-lt, pow-le-pow-right}
 use native.Mathlib.Omega.{arith}
 use lib.Dec.{lit<}
@@ -13,10 +13,10 @@ use Rattle.format.specs.declared.Check.the-variants.{Pass, Refuse}
 use Rattle.format.specs.declared.Column.{Column}
 use Rattle.format.specs.Lists.{Bytes, endsFrom, joined, lowBytes}
 use Rattle.format.specs.Kinds.{Fixed, bool, plain, number, integer, float, parts, Shape, fixed, variable, Slot, width, columnShape}
-use Rattle.format.specs.Fits.{SlotFits, RowFits, AllSlots, SheetFits}
+use Rattle.format.specs.Fits.{RowFits, AllSlots, SheetFits}
 use Rattle.format.specs.Columns.{columns}
 use Rattle.format.specs.Row.{row}
-use Rattle.format.specs.Sheet.{Layout, bits, ended, wide, layoutFor, layout, packed, sheetSlots, turned}
+use Rattle.format.specs.Sheet.{layoutFor, layout, packed, sheetSlots, turned}
 use Rattle.format.specs.Cleared.{byteOf, pack, valid, isTrue, fixedSlot, variableSlot, clearedValues, clearedColumn, clearedSheet}
 use Rattle.format.specs.Entries.{written, sheetRows, encodeCheck, encodeRows, cutRows, rowsSlots, decodedSheet, decodeCheck, decodeSheet}
 use Rattle.bits.proofs.Flags.{byte-small}
@@ -26,7 +26,7 @@ use Rattle.laws.proofs.Lists.{Every}
 use Rattle.laws.proofs.Sheets.{sheet-fits}
 use Rattle.laws.proofs.Turned.{rows-fit}
 use Rattle.laws.proofs.Accept.{encoded, decoded}
-use Rattle.laws.proofs.Trips.{read-fits}
+use Rattle.laws.proofs.RowsBack.{read-fits}
 
 bytes-joined : (xs : List (List ℕ)) → Every Bytes xs → Bytes (joined xs)
 bytes-joined [] h = tt
@@ -71,7 +71,9 @@ values-bytes (fixed (integer w)) n ss h = wide-bytes (integer w) w ss h
 values-bytes (fixed (float w)) n ss h = wide-bytes (float w) w ss h
 values-bytes (fixed (parts ws)) n ss h = wide-bytes (parts ws) (width (parts ws)) ss h
 values-bytes variable n ss h =
-    bytes-append (joined (map (lowBytes 4) ends)) (joined (map variableSlot ss)) (bytes-joined (map (lowBytes 4) ends) (all-low ends)) (bytes-joined (map variableSlot ss) (variable-bytes ss h))
+    bytes-append (joined (map (lowBytes 4) ends)) (joined (map variableSlot ss))
+    (bytes-joined (map (lowBytes 4) ends) (all-low ends))
+    (bytes-joined (map variableSlot ss) (variable-bytes ss h))
   where
     ends : List ℕ
     ends = endsFrom 0 (map variableSlot ss)
@@ -82,7 +84,9 @@ cleared-bytes n [] (ss ∷ sss) h = absurd h
 cleared-bytes n (col ∷ cols) [] h = absurd h
 cleared-bytes n (col ∷ cols) (ss ∷ sss) h =
     bytes-append (clearedColumn (layout col) n ss) (clearedSheet n cols sss)
-    (bytes-append (pack (packed n) (map valid ss)) (clearedValues (layout col) n ss) (bytes-pack (packed n) (map valid ss)) (values-bytes (columnShape col) n ss (h .1)))
+    (bytes-append (pack (packed n) (map valid ss)) (clearedValues (layout col) n ss)
+    (bytes-pack (packed n) (map valid ss))
+    (values-bytes (columnShape col) n ss (h .1)))
     (cleared-bytes n cols sss (h .2))
 
 -- ---- the lent buffers at exit
@@ -96,12 +100,22 @@ rows-bytes cols (ys ∷ yss) h = (bytes-row cols ys (h .0), rows-bytes cols yss 
 
 pub encode-bytes : (list : List ℕ) (n : ℕ) (sheet rows : List ℕ) (offsetRoom : ℕ) → Bytes sheet → Bytes rows → Bytes (encodeRows list n sheet rows offsetRoom)
 unfolding encodeRows
-encode-bytes list n sheet rows offsetRoom b old = written-bytes (encodeCheck list n sheet (length rows) offsetRoom) _ rows (λ e.
-    let a = encoded list n sheet (length rows) offsetRoom e .1 in
-    bytes-joined (sheetRows n (columns list) sheet) (rows-bytes (columns list) (turned n (sheetSlots n (columns list) sheet))
-    (rows-fit n (columns list) (sheetSlots n (columns list) sheet) (sheet-fits n (columns list) sheet b (a .passes))))) old
+encode-bytes list n sheet rows offsetRoom b old = written-bytes (encodeCheck list n sheet (length rows) offsetRoom) (joined (sheetRows n cols sheet)) rows new old
+  where
+    cols : List Column
+    cols = columns list
+
+    new : encodeCheck list n sheet (length rows) offsetRoom ≡ Pass → Bytes (joined (sheetRows n cols sheet))
+    new e =
+        let fits = sheet-fits n cols sheet b (encoded list n sheet (length rows) offsetRoom e .1 .passes) in
+        bytes-joined (sheetRows n cols sheet) (rows-bytes cols (turned n (sheetSlots n cols sheet)) (rows-fit n cols (sheetSlots n cols sheet) fits))
 
 pub decode-bytes : (list : List ℕ) (n : ℕ) (bytes offsets sheet : List ℕ) → Bytes bytes → Bytes sheet → Bytes (decodeSheet list n bytes offsets sheet)
 unfolding decodeSheet
-decode-bytes list n bytes offsets sheet b old = written-bytes (decodeCheck list n bytes offsets (length sheet)) _ sheet (λ e.
-    cleared-bytes n (columns list) (rowsSlots (columns list) (cutRows n bytes offsets)) (read-fits (columns list) n bytes offsets b (decoded list n bytes offsets (length sheet) e .1))) old
+decode-bytes list n bytes offsets sheet b old =
+    written-bytes (decodeCheck list n bytes offsets (length sheet)) (decodedSheet n (columns list) (cutRows n bytes offsets)) sheet new old
+  where
+    new : decodeCheck list n bytes offsets (length sheet) ≡ Pass → Bytes (decodedSheet n (columns list) (cutRows n bytes offsets))
+    new e =
+        cleared-bytes n (columns list) (rowsSlots (columns list) (cutRows n bytes offsets))
+        (read-fits (columns list) n bytes offsets b (decoded list n bytes offsets (length sheet) e .1))

@@ -76,8 +76,8 @@ first-stands n c at col cols s l e =
       rw past-column at (p .1),
     )
 
-stands-from : (n k at : ℕ) (cols : List Column) (s : List ℕ) (c : ℕ) (d : Column) → at ≤ length s → sheetFaultFrom n k at cols (drop at s) ≡ Pass → c < length cols
-    → Stands (getD cols c d) n (k + c) (placeFrom n at cols s c) s
+stands-from : (n k at : ℕ) (cols : List Column) (s : List ℕ) (c : ℕ) (d : Column) → at ≤ length s
+    → sheetFaultFrom n k at cols (drop at s) ≡ Pass → c < length cols → Stands (getD cols c d) n (k + c) (placeFrom n at cols s c) s
 stands-from n k at [] s c d l e h = absurd (omega arith)
 stands-from n k at (col ∷ cols) s zero d l e h = rw add-zero (first-stands n k at col cols s l e .0)
 stands-from n k at (col ∷ cols) s (suc c) d l e h =
@@ -89,7 +89,8 @@ pub column-stands : (n : ℕ) (cols : List Column) (s : List ℕ) (c : ℕ) (d :
 unfolding sheetFault
 column-stands n cols s c d e l = rw zero-add at (stands-from n 0 0 cols s c d (omega arith) e l)
 
-last-from : (n c at : ℕ) (cols : List Column) (s : List ℕ) → at ≤ length s → sheetFaultFrom n c at cols (drop at s) ≡ Pass → placeFrom n at cols s (length cols) ≡ length s
+last-from : (n c at : ℕ) (cols : List Column) (s : List ℕ) → at ≤ length s → sheetFaultFrom n c at cols (drop at s) ≡ Pass
+    → placeFrom n at cols s (length cols) ≡ length s
 last-from n c at [] s l e = omega (arith, enough 0 (length (drop at s)) _ _ e .0, length-drop at s)
 last-from n c at (col ∷ cols) s l e =
     let p = first-stands n c at col cols s l e in

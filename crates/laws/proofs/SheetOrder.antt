@@ -19,8 +19,7 @@ use Rattle.laws.proofs.RowOrder.{row-order, row-apart}
 use Rattle.laws.proofs.Sheets.{sheet-fits}
 use Rattle.laws.proofs.Turned.{slotsAt, rows-many, row-at, row-fits}
 use Rattle.laws.proofs.Cuts.{written-row}
-use Rattle.laws.proofs.Accept.{encoded}
-use Rattle.laws.proofs.Trips.{encode-done, encode-rows, encode-offsets}
+use Rattle.laws.proofs.Accept.{encoded, encode-done, encode-rows, encode-offsets}
 
 -- a sheet that encode did not refuse, with the lent rows and offsets
 pub record Wrote (list : List ℕ) (n : ℕ) (sheet rows offsets : List ℕ) : Type 0 where
@@ -61,7 +60,8 @@ module _ {list : List ℕ} {n : ℕ} {sheet rows offsets : List ℕ} (w : Wrote 
 module _ {list : List ℕ} {n m : ℕ} {s t rows offsets rows₂ offsets₂ : List ℕ} (v : Wrote list n s rows offsets) (w : Wrote list m t rows₂ offsets₂)
     (r q : ℕ) (lr : r < n) (lq : q < m) where
   -- comparing their bytes compares their values
-  pub encoded-order : compareAnswer (encodedRow list n s rows offsets r) (encodedRow list m t rows₂ offsets₂ q) ≡ sign (rowOrder (columns list) (rowAt list n s r) (rowAt list m t q))
+  pub encoded-order : compareAnswer (encodedRow list n s rows offsets r) (encodedRow list m t rows₂ offsets₂ q)
+      ≡ sign (rowOrder (columns list) (rowAt list n s r) (rowAt list m t q))
   unfolding compareAnswer
   encoded-order =
       ap sign (ap₂ {C = Ordering} (λ (x y : List ℕ). cmp x y) (encoded-row v r lr) (encoded-row w q lq)

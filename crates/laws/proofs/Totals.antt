@@ -57,7 +57,8 @@ total-from n at (col ∷ cols) s d h =
     one-more col cols (columnSlots (layout col) n (drop at s)) (sheetSlots n cols (drop (columnBytes (layout col) n (drop at s)) (drop at s))) (h .1) 0 n
     ∙ ap₂ _+_ first
     (ap (sheetTotal n cols) (past-column (layout col) n at s)
-    ∙ total-from n (at + columnBytes (layout col) n (drop at s)) cols s d (subst (λ (z : List ℕ). SheetFits n cols (sheetSlots n cols z)) (past-column (layout col) n at s) (h .2))
+    ∙ total-from n (at + columnBytes (layout col) n (drop at s)) cols s d
+    (subst (λ (z : List ℕ). SheetFits n cols (sheetSlots n cols z)) (past-column (layout col) n at s) (h .2))
     ∙ ap sum (sym (each-next 0 (length cols) (λ c. columnTotal (getD (col ∷ cols) c d) n (drop (placeFrom n at (col ∷ cols) s c) s)))))
   where
     first : sum (each 0 n (λ r. fieldLength (columnShape col) (getD (columnSlots (layout col) n (drop at s)) r none))) ≡ columnTotal col n (drop at s)
@@ -98,6 +99,7 @@ field-most (fixed k) s w h = omega arith
 field-most variable none w h = omega arith
 field-most variable (some v) w h = padded-most (length v) (h .1)
 
-pub total-most : (col : Column) (n c : ℕ) (s : List ℕ) → Bytes s → columnFault (layout col) n c s ≡ Pass → valueBytes (col .kind) ≤ maxWidth → columnTotal col n s ≤ n * maxField
+pub total-most : (col : Column) (n c : ℕ) (s : List ℕ) → Bytes s → columnFault (layout col) n c s ≡ Pass → valueBytes (col .kind) ≤ maxWidth
+    → columnTotal col n s ≤ n * maxField
 total-most col n c s b e w = sum-most (λ r. fieldLength (columnShape col) (slotAt (layout col) n s r)) maxField 0 n (λ r x y.
     field-most (columnShape col) (slotAt (layout col) n s r) w (slot-fits (columnShape col) n c s b e r (omega arith)))

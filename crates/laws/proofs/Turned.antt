@@ -25,7 +25,8 @@ turned-turned m n sss e h = each-is sss [] m (slotsAt (turned n sss)) e list
     list : (j : ℕ) → j < m → slotsAt (turned n sss) j ≡ getD sss j []
     list j l =
         map-each (λ (ss : List Slot). getD ss j none) 0 n (slotsAt sss)
-        ∙ each-is (getD sss j []) none n _ (every-at (λ ss. length ss ≡ n) sss [] j h (omega arith)) (λ i k. List·getD-map (λ (ss : List Slot). getD ss i none) sss j [])
+        ∙ each-is (getD sss j []) none n _ (every-at (λ ss. length ss ≡ n) sss [] j h (omega arith))
+        (λ i k. List·getD-map (λ (ss : List Slot). getD ss i none) sss j [])
 
 -- ---- the rows of n slots to a column
 
