@@ -16,5 +16,6 @@ pub mod Cleared
 pub mod Read
 pub mod Numbers
 pub mod Entries
+pub mod Promises
 pub mod Program
 pub mod Lent
