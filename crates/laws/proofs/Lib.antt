@@ -33,6 +33,7 @@ pub mod Cuts
 pub mod Unique
 pub mod Accept
 pub mod RowsBack
-pub mod Trips
-pub mod SheetOrder
+pub mod Exact
+pub mod Demand2
+pub mod Demand3
 pub mod OutBytes

@@ -1,6 +1,7 @@
--- The order of the rows that encode writes, cut out by the offsets that it writes: as their values stand. Assumes nothing.
+-- Demand 3, on what encode writes, cut out by the offsets that it writes: comparing row bytes is comparing values, unequal rows never
+-- begin one another, and equal bytes are equal values. Assumes nothing.
 use Prim.Native.Nat.{ℕ, _<_, Ordering}
-use mathlib.Core.Path.{_≡_, ap, ap₂, _∙_}
+use mathlib.Core.Path.{_≡_, ap, ap₂, sym, _∙_}
 use mathlib.Core.List.{List}
 use lib.ListN.{length, drop}
 use Rattle.format.specs.declared.Answer.the-variants.{Done}
@@ -16,6 +17,7 @@ use Rattle.format.specs.Sheet.{sheetSlots}
 use Rattle.format.specs.Value.{rowOrder}
 use Rattle.format.specs.Entries.{sheetRows, encodeCheck, encodeAnswer, encodeRows, encodeOffsets, rowBytes, sign, compareAnswer}
 use Rattle.laws.proofs.RowOrder.{row-order, row-apart}
+use Rattle.laws.proofs.ReadRow.{row-injective}
 use Rattle.laws.proofs.Sheets.{sheet-fits}
 use Rattle.laws.proofs.Turned.{slotsAt, rows-many, row-at, row-fits}
 use Rattle.laws.proofs.Cuts.{written-row}
@@ -73,3 +75,9 @@ module _ {list : List ℕ} {n m : ℕ} {s t rows offsets rows₂ offsets₂ : Li
       × (¬ Begins (encodedRow list m t rows₂ offsets₂ q) (encodedRow list n s rows offsets r))
   encoded-apart =
       rw (encoded-row v r lr, encoded-row w q lq) (row-apart (columns list) (rowAt list n s r) (rowAt list m t q) (encoded-fits v r lr) (encoded-fits w q lq))
+
+  -- equal bytes are equal values
+  pub encoded-equal : encodedRow list n s rows offsets r ≡ encodedRow list m t rows₂ offsets₂ q → rowAt list n s r ≡ rowAt list m t q
+  encoded-equal e =
+      row-injective (columns list) (rowAt list n s r) (rowAt list m t q) (encoded-fits v r lr) (encoded-fits w q lq)
+      (sym (encoded-row v r lr) ∙ e ∙ encoded-row w q lq)
