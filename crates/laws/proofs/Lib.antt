@@ -8,3 +8,6 @@ pub mod KeyLaws
 pub mod Unkey
 pub mod Stream
 pub mod Lengths
+pub mod Lists
+pub mod Checks
+pub mod Sheets
