@@ -10,4 +10,5 @@ pub mod Stream
 pub mod Lengths
 pub mod Lists
 pub mod Checks
+pub mod Columns
 pub mod Sheets

@@ -86,7 +86,7 @@ wide-fits : (k : Fixed) (n c : ℕ) (s : List ℕ) → ((x : List ℕ) → T (al
 wide-fits k n c s any b e i l = (
   bytes-take (width k) (drop (i * width k) s) (bytes-drop (i * width k) s b),
   length-take-le (width k) (drop (i * width k) s)
-  (omega (arith, length-drop (i * width k) s, within i n (width k) l, enough (length s) (n * width k) _ _ e .0)),
+      (omega (arith, length-drop (i * width k) s, within i n (width k) l, enough (length s) (n * width k) _ _ e .0)),
   any (take (width k) (drop (i * width k) s)),
 )
 

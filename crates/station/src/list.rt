@@ -5,7 +5,13 @@ ghost use lib.ListN.{length, getD};
 ghost use Rattle.format.specs.Columns.{kindOf, optionsOf, descriptionBytes, widthAt, columnAt, descriptionFault};
 ghost use Rattle.format.specs.Entries.{checkListAnswer};
 ghost use Rattle.station.specs.Schemas.{ListedAs};
-use format::{Answer, Check, Column, Kind, Refusal, Schema, SortOptions};
+use format::Answer;
+use format::Check;
+use format::Column;
+use format::Kind;
+use format::Refusal;
+use format::Schema;
+use format::SortOptions;
 
 // What a list says: its first fault, and the columns of one that has none.
 pub struct Listed {

@@ -1,72 +1,67 @@
+-- `station::list::check_description` meets its contract: each return is the definition's case for the tests that led there.
+-- Assumes nothing.
 use borrow.Author.Needs.{needs}
+use borrow.Author.Tests.{lt-ltb, le-ltb}
+use native.Mathlib.Omega.{arith}
 use Rattle.station.proofs.list.check_description.Statement.{statement}
 use Rattle.station.proofs.list.check_description.Tie as tie
-use Rattle.station.proofs.list.check_description.Reads as reads
-use Rattle.station.proofs.list.check_description.Lts as lts
-use Rattle.station.proofs.list.description_bytes.Reads as description-bytes-reads
-use Rattle.station.proofs.list.width_at.Reads as width-at-reads
 
--- src/list.rt:84:16
-shared-slice-read-kind : tie.Need-shared-slice-read-kind
-shared-slice-read-kind c = search needs
-
--- src/list.rt:86:9
 returns : tie.Need-returns
-returns c = ?
+returns c = simp (lt-ltb _ _ (c .if1 .taken))
 
--- src/list.rt:89:9
 returns-2 : tie.Need-returns-2
-returns-2 c = ?
+returns-2 c = simp (le-ltb _ _ (c .before .if1 .left), lt-ltb _ _ (c .if2 .taken))
 
--- src/list.rt:91:8
-sub-if3 : tie.Need-sub-if3
-sub-if3 c = search needs
-
--- src/list.rt:91:26
-description-bytes-requires : tie.Need-description-bytes-requires
-description-bytes-requires c κs = search needs
-
--- src/list.rt:92:9
 returns-3 : tie.Need-returns-3
-returns-3 c = ?
+returns-3 c =
+    simp (
+      le-ltb _ _ (c .before .before .before .if1 .left),
+      le-ltb _ _ (c .before .before .if2 .left),
+      lt-ltb _ _ (rw (c .before .description-bytes .ensures .0) at (c .if3 .taken)),
+    )
 
--- src/list.rt:94:17
-add-if4 : tie.Need-add-if4
-add-if4 c = search needs
-
--- src/list.rt:94:12
-shared-slice-read-if4 : tie.Need-shared-slice-read-if4
-shared-slice-read-if4 c = search needs
-
--- src/list.rt:95:9
 returns-4 : tie.Need-returns-4
-returns-4 c = ?
+returns-4 c =
+    simp (
+      le-ltb _ _ (c .before .before .before .before .before .if1 .left),
+      le-ltb _ _ (c .before .before .before .before .if2 .left),
+      le-ltb _ _ (rw (c .before .before .before .description-bytes .ensures .0) at (c .before .before .if3 .left)),
+      lt-ltb _ _ (c .if4 .taken),
+    )
 
--- src/list.rt:97:28
-width-at-requires : tie.Need-width-at-requires
-width-at-requires c κs = search needs
-
--- src/list.rt:98:9
 returns-5 : tie.Need-returns-5
-returns-5 c = ?
+returns-5 c =
+    simp (
+      le-ltb _ _ (c .before .before .before .before .before .before .before .if1 .left),
+      le-ltb _ _ (c .before .before .before .before .before .before .if2 .left),
+      le-ltb _ _ (rw (c .before .before .before .before .before .description-bytes .ensures .0) at (c .before .before .before .before .if3 .left)),
+      le-ltb _ _ (c .before .before .if4 .left),
+      lt-ltb _ _ (rw (c .before .width-at .ensures) at (c .if5 .taken)),
+    )
 
--- src/list.rt:80:1
 returns-6 : tie.Need-returns-6
-returns-6 c = ?
+returns-6 c =
+    simp (
+      le-ltb _ _ (c .before .before .before .before .before .before .before .if1 .left),
+      le-ltb _ _ (c .before .before .before .before .before .before .if2 .left),
+      le-ltb _ _ (rw (c .before .before .before .before .before .description-bytes .ensures .0) at (c .before .before .before .before .if3 .left)),
+      le-ltb _ _ (c .before .before .if4 .left),
+      le-ltb _ _ (rw (c .before .width-at .ensures) at (c .if5 .left)),
+    )
 
 pub check-description-spec : {M : Type 1} → statement M
 check-description-spec =
     tie.close
     (tie.spec
-    shared-slice-read-kind
+    (λ c. search needs)
     returns
     returns-2
-    sub-if3
-    description-bytes-requires
+    (λ c. search needs)
+    (λ c κs. search needs)
     returns-3
-    add-if4
-    shared-slice-read-if4
+    (λ c. search needs)
+    (λ c. search needs)
     returns-4
-    width-at-requires
+    (λ c κs. search needs)
     returns-5
     returns-6)

@@ -1,48 +1,30 @@
+-- `station::list::column_at` meets its contract: kind, width and options of the description, which is whole. Assumes nothing.
 use borrow.Author.Needs.{needs}
+use native.Mathlib.Omega.{arith}
+use lib.ListN.{getD}
+use Rattle.laws.proofs.Columns.{bytes-least}
 use Rattle.station.proofs.list.column_at.Statement.{statement}
 use Rattle.station.proofs.list.column_at.Tie as tie
-use Rattle.station.proofs.list.column_at.Reads as reads
-use Rattle.station.proofs.list.column_at.Lts as lts
-use Rattle.station.proofs.list.kind_of.Reads as kind-of-reads
-use Rattle.station.proofs.list.options_of.Reads as options-of-reads
-use Rattle.station.proofs.list.width_at.Reads as width-at-reads
 
--- src/list.rt:108:24
 shared-slice-read-kind-of : tie.Need-shared-slice-read-kind-of
-shared-slice-read-kind-of c = ?
+shared-slice-read-kind-of c = omega (arith, bytes-least (getD (c .before .before .args .list .now) (c .before .before .args .at) 0))
 
--- src/list.rt:108:34
-width-at-requires : tie.Need-width-at-requires
-width-at-requires c κs = search needs
-
--- src/list.rt:108:9
-kind-of-requires : tie.Need-kind-of-requires
-kind-of-requires c κs = search needs
-
--- src/list.rt:109:35
-add-options-of : tie.Need-add-options-of
-add-options-of c = search needs
-
--- src/list.rt:109:30
 shared-slice-read-options-of : tie.Need-shared-slice-read-options-of
-shared-slice-read-options-of c = ?
+shared-slice-read-options-of c =
+    let a = c .before .before .before .before .before .args in
+    omega (arith, bytes-least (getD (a .list .now) (a .at) 0))
 
--- src/list.rt:109:9
-options-of-requires : tie.Need-options-of-requires
-options-of-requires c κs = search needs
-
--- src/list.rt:104:1
 returns : tie.Need-returns
-returns c = ?
+returns c = rw (c .before .before .kind-of .ensures, c .options-of .ensures, c .before .before .before .width-at .ensures)
 
 pub column-at-spec : {M : Type 1} → statement M
 column-at-spec =
     tie.close
     (tie.spec
     shared-slice-read-kind-of
-    width-at-requires
-    kind-of-requires
-    add-options-of
+    (λ c κs. search needs)
+    (λ c κs. search needs)
+    (λ c. search needs)
     shared-slice-read-options-of
-    options-of-requires
+    (λ c κs. search needs)
     returns)

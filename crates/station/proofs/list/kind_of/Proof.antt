@@ -1,89 +1,46 @@
+-- `station::list::kind_of` meets its contract: each arm is the table's entry for the byte that was matched, and past 15 the
+-- table says variable bytes. Assumes nothing.
+use borrow.Author.Tests.{ne-eqb}
 use Rattle.station.proofs.list.kind_of.Statement.{statement}
 use Rattle.station.proofs.list.kind_of.Tie as tie
-use Rattle.station.proofs.list.kind_of.Reads as reads
-use Rattle.station.proofs.list.kind_of.Lts as lts
 
--- src/list.rt:24:1
-returns : tie.Need-returns
-returns c = ?
-
--- src/list.rt:24:1
-returns-2 : tie.Need-returns-2
-returns-2 c = ?
-
--- src/list.rt:24:1
-returns-3 : tie.Need-returns-3
-returns-3 c = ?
-
--- src/list.rt:24:1
-returns-4 : tie.Need-returns-4
-returns-4 c = ?
-
--- src/list.rt:24:1
-returns-5 : tie.Need-returns-5
-returns-5 c = ?
-
--- src/list.rt:24:1
-returns-6 : tie.Need-returns-6
-returns-6 c = ?
-
--- src/list.rt:24:1
-returns-7 : tie.Need-returns-7
-returns-7 c = ?
-
--- src/list.rt:24:1
-returns-8 : tie.Need-returns-8
-returns-8 c = ?
-
--- src/list.rt:24:1
-returns-9 : tie.Need-returns-9
-returns-9 c = ?
-
--- src/list.rt:24:1
-returns-10 : tie.Need-returns-10
-returns-10 c = ?
-
--- src/list.rt:24:1
-returns-11 : tie.Need-returns-11
-returns-11 c = ?
-
--- src/list.rt:24:1
-returns-12 : tie.Need-returns-12
-returns-12 c = ?
-
--- src/list.rt:24:1
-returns-13 : tie.Need-returns-13
-returns-13 c = ?
-
--- src/list.rt:24:1
-returns-14 : tie.Need-returns-14
-returns-14 c = ?
-
--- src/list.rt:24:1
-returns-15 : tie.Need-returns-15
-returns-15 c = ?
-
--- src/list.rt:24:1
-returns-16 : tie.Need-returns-16
-returns-16 c = ?
+variable : tie.Need-returns-16
+variable c =
+    simp (
+      ne-eqb _ _ (c .match .rest .1),
+      ne-eqb _ _ (c .match .rest .0 .1),
+      ne-eqb _ _ (c .match .rest .0 .0 .1),
+      ne-eqb _ _ (c .match .rest .0 .0 .0 .1),
+      ne-eqb _ _ (c .match .rest .0 .0 .0 .0 .1),
+      ne-eqb _ _ (c .match .rest .0 .0 .0 .0 .0 .1),
+      ne-eqb _ _ (c .match .rest .0 .0 .0 .0 .0 .0 .1),
+      ne-eqb _ _ (c .match .rest .0 .0 .0 .0 .0 .0 .0 .1),
+      ne-eqb _ _ (c .match .rest .0 .0 .0 .0 .0 .0 .0 .0 .1),
+      ne-eqb _ _ (c .match .rest .0 .0 .0 .0 .0 .0 .0 .0 .0 .1),
+      ne-eqb _ _ (c .match .rest .0 .0 .0 .0 .0 .0 .0 .0 .0 .0 .1),
+      ne-eqb _ _ (c .match .rest .0 .0 .0 .0 .0 .0 .0 .0 .0 .0 .0 .1),
+      ne-eqb _ _ (c .match .rest .0 .0 .0 .0 .0 .0 .0 .0 .0 .0 .0 .0 .1),
+      ne-eqb _ _ (c .match .rest .0 .0 .0 .0 .0 .0 .0 .0 .0 .0 .0 .0 .0 .1),
+      ne-eqb _ _ (c .match .rest .0 .0 .0 .0 .0 .0 .0 .0 .0 .0 .0 .0 .0 .0 .1),
+    )
 
 pub kind-of-spec : {M : Type 1} → statement M
 kind-of-spec =
     tie.close
     (tie.spec
-    returns
-    returns-2
-    returns-3
-    returns-4
-    returns-5
-    returns-6
-    returns-7
-    returns-8
-    returns-9
-    returns-10
-    returns-11
-    returns-12
-    returns-13
-    returns-14
-    returns-15
-    returns-16)
+    (λ c. rw (c .match .keys1))
+    (λ c. rw (c .match .keys2))
+    (λ c. rw (c .match .keys3))
+    (λ c. rw (c .match .keys4))
+    (λ c. rw (c .match .keys5))
+    (λ c. rw (c .match .keys6))
+    (λ c. rw (c .match .keys7))
+    (λ c. rw (c .match .keys8))
+    (λ c. rw (c .match .keys9))
+    (λ c. rw (c .match .keys10))
+    (λ c. rw (c .match .keys11))
+    (λ c. rw (c .match .keys12))
+    (λ c. rw (c .match .keys13))
+    (λ c. rw (c .match .keys14))
+    (λ c. rw (c .match .keys15))
+    variable)

@@ -1,100 +1,60 @@
+-- `station::list::read_list` meets its contract. The invariant: what was read, with what the definitions say from here on, is
+-- what they say of the whole list. The measure is the room for columns. Assumes nothing.
+use borrow.Author.Needs.{needs}
+use Prim.Native.Nat.{_-_, _≤_}
+use mathlib.Core.Path.{_≡_, sym, _∙_}
+use native.Mathlib.Omega.{arith}
+use Rattle.format.specs.Limits.{maxColumns}
+use Rattle.laws.proofs.Columns.{description-passed}
+use Rattle.station.proofs.ListTurns.{Turn, start, more, empty, full, bad, good}
 use Rattle.station.proofs.list.read_list.Statement.{statement}
 use Rattle.station.proofs.list.read_list.Tie as tie
-use Rattle.station.proofs.list.read_list.Reads as reads
-use Rattle.station.proofs.list.read_list.Lts as lts
-use Rattle.station.proofs.list.answered.Reads as answered-reads
-use Rattle.station.proofs.list.check_description.Reads as check-description-reads
-use Rattle.station.proofs.list.column_at.Reads as column-at-reads
-use Rattle.station.proofs.list.description_bytes.Reads as description-bytes-reads
 
 abbrev Inv-loop : tie.InvT-loop
-Inv-loop list columns₀ count₀ at₀ columns count at = ?
+Inv-loop list columns₀ count₀ at₀ columns count at = Turn list columns count at
 
 abbrev μ-loop : tie.MeasureT-loop
-μ-loop list columns₀ count₀ at₀ columns count at = ?
+μ-loop list columns₀ count₀ at₀ columns count at = maxColumns - count
 
--- src/list.rt:146:9
-answered-requires : tie.Need-answered-requires Inv-loop μ-loop
-answered-requires c κs = ?
-
--- src/list.rt:146:9
 returns : tie.Need-returns Inv-loop μ-loop
-returns c = ?
+returns c = empty (c .before .before .before .args .list .now) _ (c .before .if1 .taken) (c .answered .ensures .0)
 
--- src/list.rt:148:5
 loop-holds : tie.Need-loop-holds Inv-loop μ-loop
-loop-holds c = ?
+loop-holds c = start (c .before .before .args .list .now)
 
--- src/list.rt:150:13
-answered-requires-2 : tie.Need-answered-requires-2 Inv-loop μ-loop
-answered-requires-2 c κs = ?
-
--- src/list.rt:150:13
 returns-2 : tie.Need-returns-2 Inv-loop μ-loop
-returns-2 c = ?
+returns-2 c =
+    let t = c .before .before in
+    full _ _ _ _ (t .before .loop .inv) _ (t .loop-test .taken) (c .before .if2 .taken) (c .answered2 .ensures .0)
 
--- src/list.rt:152:13
-check-description-requires : tie.Need-check-description-requires Inv-loop μ-loop
-check-description-requires c κs = ?
-
--- src/list.rt:153:30
-enum-known-check : tie.Need-enum-known-check Inv-loop μ-loop
-enum-known-check c = ?
-
--- src/list.rt:154:13
-answered-requires-3 : tie.Need-answered-requires-3 Inv-loop μ-loop
-answered-requires-3 c κs = ?
-
--- src/list.rt:154:13
 returns-3 : tie.Need-returns-3 Inv-loop μ-loop
-returns-3 c = ?
+returns-3 c =
+    let t = c .before .before .before .before .before .before in
+    let found = c .before .before .before .before .check-description .ensures in
+    bad _ _ _ _ (t .before .loop .inv) _ _ (t .loop-test .taken) (c .before .before .before .before .before .if2 .left)
+    (sym found ∙ c .before .before .check .given .1) (c .answered3 .ensures .0)
 
-enum-told : tie.Need-enum-told Inv-loop μ-loop
-enum-told c = ?
-
--- src/list.rt:156:26
 column-at-requires : tie.Need-column-at-requires Inv-loop μ-loop
-column-at-requires c κs = ?
+column-at-requires c κs =
+    let t = c .before .before .before .before in
+    let found = c .before .before .check-description .ensures in
+    let list = t .before .before .before .before .args .list .now in
+    omega (arith, t .loop-test .taken, description-passed list (t .before .loop .at) (sym found ∙ c .enum-told .given .1) .0)
 
--- src/list.rt:156:9
-mul-columns : tie.Need-mul-columns Inv-loop μ-loop
-mul-columns c = ?
-
--- src/list.rt:156:9
-array-set-from-columns : tie.Need-array-set-from-columns Inv-loop μ-loop
-array-set-from-columns c = ?
-
--- src/list.rt:157:9
-add-count : tie.Need-add-count Inv-loop μ-loop
-add-count c = ?
-
--- src/list.rt:158:33
 shared-slice-read-description-bytes : tie.Need-shared-slice-read-description-bytes Inv-loop μ-loop
-shared-slice-read-description-bytes c = ?
+shared-slice-read-description-bytes c = omega arith
 
--- src/list.rt:158:15
-description-bytes-requires : tie.Need-description-bytes-requires Inv-loop μ-loop
-description-bytes-requires c κs = ?
-
--- src/list.rt:158:9
-add-at : tie.Need-add-at Inv-loop μ-loop
-add-at c = ?
-
--- src/list.rt:148:5
-loop-less : tie.Need-loop-less Inv-loop μ-loop
-loop-less c = ?
-
--- src/list.rt:148:5
 loop-again : tie.Need-loop-again Inv-loop μ-loop
-loop-again c = ?
+loop-again c =
+    let t = c .before .before .before .before .before .before .before in
+    let found = c .before .before .before .before .before .check-description .ensures in
+    more _ _ _ _ _ _ (t .before .loop .inv) (t .loop-test .taken) (c .before .before .before .before .before .before .if2 .left)
+    (sym found ∙ c .before .before .before .enum-told .given .1) (c .before .before .column-at .ensures) (c .description-bytes .ensures .0)
 
--- src/list.rt:160:5
-answered-requires-4 : tie.Need-answered-requires-4 Inv-loop μ-loop
-answered-requires-4 c κs = ?
-
--- src/list.rt:131:1
 returns-4 : tie.Need-returns-4 Inv-loop μ-loop
-returns-4 c = ?
+returns-4 c =
+    let r = c .answered4 .ensures in
+    good _ _ _ _ (c .before .before .loop .inv) _ (c .before .loop-test .left) (omega arith) (r .0) (r .1) (r .2)
 
 pub read-list-spec : {M : Type 1} → statement M
 read-list-spec =
@@ -102,24 +62,24 @@ read-list-spec =
     (tie.spec
     Inv-loop
     μ-loop
-    answered-requires
+    (λ c κs. search needs)
     returns
     loop-holds
-    answered-requires-2
+    (λ c κs. search needs)
     returns-2
-    check-description-requires
-    enum-known-check
-    answered-requires-3
+    (λ c κs. search needs)
+    (λ c. search needs)
+    (λ c κs. search needs)
     returns-3
-    enum-told
+    (λ c. search needs)
     column-at-requires
-    mul-columns
-    array-set-from-columns
-    add-count
+    (λ c. omega arith)
+    (λ c. omega arith)
+    (λ c. omega arith)
     shared-slice-read-description-bytes
-    description-bytes-requires
-    add-at
-    loop-less
+    (λ c κs. search needs)
+    (λ c. omega arith)
+    (λ c. omega arith)
     loop-again
-    answered-requires-4
+    (λ c κs. search needs)
     returns-4)

@@ -1,53 +1,29 @@
+-- `station::list::width_at` meets its contract: outside kind 15 there is no width, and in kind 15 its two bytes are there,
+-- since the description takes four. Assumes nothing.
 use borrow.Author.Needs.{needs}
+use native.Mathlib.Omega.{arith}
+use mathlib.Core.Path.{sym}
+use lib.ListN.{getD}
+use Rattle.laws.proofs.Columns.{bytes-wide, bytes-least, width-wide, width-plain}
 use Rattle.station.proofs.list.width_at.Statement.{statement}
 use Rattle.station.proofs.list.width_at.Tie as tie
-use Rattle.station.proofs.list.width_at.Reads as reads
-use Rattle.station.proofs.list.width_at.Lts as lts
-use Rattle.station.proofs.list.wide.Reads as wide-reads
 
--- src/list.rt:73:8
 shared-slice-read-if1 : tie.Need-shared-slice-read-if1
-shared-slice-read-if1 c = ?
+shared-slice-read-if1 c = omega (arith, bytes-least (getD (c .before .before .args .list .now) (c .before .before .args .at) 0))
 
--- src/list.rt:74:9
 returns : tie.Need-returns
-returns c = ?
+returns c = let a = c .before .before .before .args in sym (width-plain (a .list .now) (a .at) (c .if1 .taken))
 
--- src/list.rt:76:15
-add-wide : tie.Need-add-wide
-add-wide c = search needs
-
--- src/list.rt:76:10
 shared-slice-read-wide : tie.Need-shared-slice-read-wide
-shared-slice-read-wide c = ?
+shared-slice-read-wide c = omega (arith, bytes-wide _ (c .before .if1 .left))
 
--- src/list.rt:76:5
-wide-requires : tie.Need-wide-requires
-wide-requires c κs = search needs
-
--- src/list.rt:76:42
-add-wide-2 : tie.Need-add-wide-2
-add-wide-2 c = search needs
-
--- src/list.rt:76:37
 shared-slice-read-wide-2 : tie.Need-shared-slice-read-wide-2
-shared-slice-read-wide-2 c = ?
+shared-slice-read-wide-2 c = omega (arith, bytes-wide _ (c .before .before .before .if1 .left))
 
--- src/list.rt:76:32
-wide-requires-2 : tie.Need-wide-requires-2
-wide-requires-2 c κs = search needs
-
--- src/list.rt:76:26
-mul-result : tie.Need-mul-result
-mul-result c = search needs
-
--- src/list.rt:76:5
-add-result : tie.Need-add-result
-add-result c = search needs
-
--- src/list.rt:69:1
 returns-2 : tie.Need-returns-2
-returns-2 c = ?
+returns-2 c =
+    let a = c .before .before .before .before .before .before .before .args in
+    omega (arith, width-wide (a .list .now) (a .at) (c .before .before .before .before .if1 .left))
 
 pub width-at-spec : {M : Type 1} → statement M
 width-at-spec =
@@ -55,12 +31,12 @@ width-at-spec =
     (tie.spec
     shared-slice-read-if1
     returns
-    add-wide
+    (λ c. search needs)
     shared-slice-read-wide
-    wide-requires
-    add-wide-2
+    (λ c κs. search needs)
+    (λ c. search needs)
     shared-slice-read-wide-2
-    wide-requires-2
-    mul-result
-    add-result
+    (λ c κs. search needs)
+    (λ c. search needs)
+    (λ c. search needs)
     returns-2)
