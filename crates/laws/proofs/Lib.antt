@@ -8,7 +8,17 @@ pub mod KeyLaws
 pub mod Unkey
 pub mod Stream
 pub mod Lengths
+pub mod Directed
+pub mod Sound
+pub mod Fields
+pub mod RowOrder
 pub mod Lists
 pub mod Checks
 pub mod Columns
 pub mod Sheets
+pub mod Places
+pub mod Turned
+pub mod Totals
+pub mod Cleared
+pub mod Room
+pub mod Cuts
