@@ -1,3 +1,5 @@
--- The loops of this crate: what holds at the head of each, and what each way out of a turn gives.
+-- What the proofs of this crate share: the arms of a match on a kind; for each loop what holds at its head, and what each way
+-- out of a turn gives.
+pub mod Arms
 pub mod ListTurns
 pub mod EndTurns
