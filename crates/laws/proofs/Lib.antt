@@ -13,6 +13,7 @@ pub mod Sound
 pub mod Fields
 pub mod RowOrder
 pub mod Lists
+pub mod Parts
 pub mod Checks
 pub mod Columns
 pub mod Sheets

@@ -115,3 +115,109 @@ fn check_values(kind: Kind, part: &[u8], n: usize, c: usize) -> Check
         }
     }
 }
+
+// Column c in front of the part: validity 7, 8, then its values.
+fn check_column(kind: Kind, part: &[u8], n: usize, c: usize) -> Check
+    requires { ⌜ n ≤ maxRows ⌝ }
+    requires { ⌜ valueBytes kind ≤ maxWidth ⌝ }
+    ensures { λ r. ⌜ r ≡ columnFault (layoutFor (shape kind)) n c (now (part .entry)) ⌝ }
+{
+    let check = check_bits(part, n, c);
+    if let Check::Refuse(r) = check {
+        return Check::Refuse(r);
+    }
+    let valid = packed(n);
+    check_values(kind, &part[valid..], n, c)
+}
+
+// The bytes of a column's values, which are there.
+fn values_bytes(kind: Kind, part: &[u8], n: usize) -> usize
+    requires { ⌜ n ≤ maxRows ⌝ }
+    requires { ⌜ valuesBytes (layoutFor (shape kind)) n (now part) ≤ length (now part) ⌝ }
+    ensures { λ r. ⌜ r ≡ valuesBytes (layoutFor (shape kind)) n (now (part .entry)) ⌝ }
+{
+    match kind {
+        Kind::Bool => packed(n),
+        Kind::Variable => 4 * (n + 1) + end_at(part, n),
+        _ => n * format::width(kind),
+    }
+}
+
+// The bytes of a column, which are there.
+fn column_bytes(kind: Kind, part: &[u8], n: usize) -> usize
+    requires { ⌜ n ≤ maxRows ⌝ }
+    requires { ⌜ columnBytes (layoutFor (shape kind)) n (now part) ≤ length (now part) ⌝ }
+    ensures { λ r. ⌜ r ≡ columnBytes (layoutFor (shape kind)) n (now (part .entry)) ⌝ }
+{
+    let valid = packed(n);
+    valid + values_bytes(kind, &part[valid..], n)
+}
+
+// The null rows of a column whose validity bytes pass: n less their ones.
+fn null_rows(part: &[u8], n: usize) -> u64
+    requires { ⌜ n ≤ maxRows ⌝ }
+    requires { ⌜ packedFor n ≤ length (now part) ⌝ }
+    requires { ⌜ spareSet (take (packedFor n) (now part)) n ≡ false ⌝ }
+    ensures { λ r. ⌜ ((ly : Layout) → r ≡ nullsIn (columnSlots ly n (now (part .entry)))) ⌝ }
+    ensures { λ r. ⌜ r ≤ n ⌝ }
+{
+    let valid = packed(n);
+    (n - bits::count_ones(&part[..valid])) as u64
+}
+
+// What was found, with the answer to it.
+fn found(check: Check, facts: [Facts; 16], nulls: u64) -> Sheeted
+    ensures { λ r. ⌜ (r .check ≡ check) × (r .facts ≡ facts) × (r .nulls ≡ nulls) ⌝ }
+{
+    Sheeted {
+        check: check,
+        facts: facts,
+        nulls: nulls,
+    }
+}
+
+// The sheet, column by column, and at the end 11.
+pub fn check_sheet(schema: Schema, n: usize, sheet: &[u8]) -> Sheeted
+    requires { ⌜ n ≤ maxRows ⌝ }
+    requires { ⌜ schema .count ≤ maxColumns ⌝ }
+    requires { ⌜ Narrow (colsOf schema) ⌝ }
+    ensures { λ r. ⌜ SheetedAs n (colsOf schema) (now (sheet .entry)) r ⌝ }
+{
+    let count = schema.count;
+    let columns = schema.columns;
+    let options = SortOptions {
+        descending: false,
+        nulls_first: false,
+    };
+    let none = Column {
+        kind: Kind::Bool,
+        options: options,
+    };
+    let blank = Facts {
+        column: none,
+        base: 0,
+    };
+    let mut facts = [blank; format::MAX_COLUMNS];
+    let mut nulls: u64 = 0;
+    let mut at: usize = 0;
+    let mut c: usize = 0;
+    while c < count {
+        let column = columns[c];
+        let kind = column.kind;
+        let check = check_column(kind, &sheet[at..], n, c);
+        if let Check::Refuse(r) = check {
+            return found(Check::Refuse(r), facts, 0);
+        }
+        facts[c] = Facts {
+            column: column,
+            base: at,
+        };
+        nulls += null_rows(&sheet[at..], n);
+        at += column_bytes(kind, &sheet[at..], n);
+        c += 1;
+    }
+    if at < sheet.len() {
+        return found(Check::Refuse(Refusal::BytesAfter(at)), facts, 0);
+    }
+    found(Check::Pass, facts, nulls)
+}
