@@ -3,3 +3,4 @@
 pub mod Arms
 pub mod ListTurns
 pub mod EndTurns
+pub mod SheetTurns

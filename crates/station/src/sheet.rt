@@ -204,7 +204,8 @@ pub fn check_sheet(schema: Schema, n: usize, sheet: &[u8]) -> Sheeted
     while c < count {
         let column = columns[c];
         let kind = column.kind;
-        let check = check_column(kind, &sheet[at..], n, c);
+        let part = &sheet[at..];
+        let check = check_column(kind, part, n, c);
         if let Check::Refuse(r) = check {
             return found(Check::Refuse(r), facts, 0);
         }
@@ -212,8 +213,8 @@ pub fn check_sheet(schema: Schema, n: usize, sheet: &[u8]) -> Sheeted
             column: column,
             base: at,
         };
-        nulls += null_rows(&sheet[at..], n);
-        at += column_bytes(kind, &sheet[at..], n);
+        nulls += null_rows(part, n);
+        at += column_bytes(kind, part, n);
         c += 1;
     }
     if at < sheet.len() {
