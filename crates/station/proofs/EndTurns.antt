@@ -56,5 +56,5 @@ module _ (c : ℕ) (s : List ℕ) (n row last next : ℕ) (t : Turn c s n row la
     here = omega arith;
     ends = e;
     says = ap (λ (j : ℕ). endsFault c s j (n - (row + 1))) (add-one row)
-    ∙ sym (pass c s row (n - (row + 1)) (rw (end-next, t .ends) at g) (rw (end-next, t .ends) at h)) ∙ from;
+        ∙ sym (pass c s row (n - (row + 1)) (rw (end-next, t .ends) at g) (rw (end-next, t .ends) at h)) ∙ from;
   }

@@ -55,9 +55,9 @@ pub record Turn (s : List ℕ) (array : List Column) (count at : ℕ) : Type 0 w
   pub faults : listFaultFrom room s at ≡ listFaultFrom maxColumns s 0
   pub says : read ++ columnsFrom room s at ≡ columns s
 
-pub start : (s : List ℕ) → Turn s (replicate maxColumns noColumn) 0 0
+pub start : (s : List ℕ) (none : Column) → none ≡ noColumn → Turn s (replicate maxColumns none) 0 0
 unfolding columns
-start s = record { room = maxColumns; read = []; counts = refl; long = refl; made = refl; faults = refl; says = refl }
+start s none e = record { room = maxColumns; read = []; counts = refl; long = refl; made = ap (replicate maxColumns) e; faults = refl; says = refl }
 
 -- ---- the ways on from the head of a turn
 pub more : (s : List ℕ) (array : List Column) (count at : ℕ) (col : Column) (size : ℕ) → Turn s array count at → at < length s

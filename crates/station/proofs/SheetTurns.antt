@@ -38,9 +38,9 @@ pub record Turn (n : ℕ) (cols : List Column) (sheet : List ℕ) (facts : List 
   pub columns : (k : ℕ) → k < c → getD facts k noFacts .column ≡ getD cols k noColumn
   pub places : (k : ℕ) → k < c → getD facts k noFacts .base ≡ place n cols sheet k
 
-pub start : (n : ℕ) (cols : List Column) (sheet : List ℕ) → Turn n cols sheet (replicate maxColumns noFacts) 0 0 0
+pub start : (n : ℕ) (cols : List Column) (sheet : List ℕ) (blank : Facts) → Turn n cols sheet (replicate maxColumns blank) 0 0 0
 unfolding sheetFault
-start n cols sheet = record {
+start n cols sheet blank = record {
   here = omega arith;
   inside = omega arith;
   stands = refl;
@@ -129,7 +129,7 @@ module _ (n : ℕ) (cols : List Column) (sheet : List ℕ) (facts : List Facts) 
         record {
           check = a ∙ sym p;
           facts = λ _ k m. rw b (known p k m);
-          nulls = λ _. d ∙ total-is
+          nulls = λ _. d ∙ total-is;
         }
       where
         known : sheetFault n cols sheet ≡ Pass → Known n cols sheet facts

@@ -4,7 +4,7 @@ ghost use Prim.Native.Nat.{_+_, _<_, _≤_};
 ghost use lib.ListN.{length, getD};
 ghost use Rattle.format.specs.Columns.{kindOf, optionsOf, descriptionBytes, widthAt, columnAt, descriptionFault};
 ghost use Rattle.format.specs.Entries.{checkListAnswer};
-ghost use Rattle.station.specs.Schemas.{ListedAs};
+ghost use Rattle.station.specs.Schemas.{noColumn, ListedAs};
 use format::Answer;
 use format::Check;
 use format::Column;
@@ -119,6 +119,20 @@ fn column_at(list: &[u8], at: usize) -> Column
     }
 }
 
+// What fills the array after the columns in use.
+pub fn no_column() -> Column
+    ensures { λ r. ⌜ r ≡ noColumn ⌝ }
+{
+    let options = SortOptions {
+        descending: false,
+        nulls_first: false,
+    };
+    Column {
+        kind: Kind::Bool,
+        options: options,
+    }
+}
+
 // What was read, with the answer to it.
 fn answered(check: Check, columns: [Column; 16], count: usize) -> Listed
     ensures { λ r. ⌜ (r .check ≡ check) × (r .schema .columns ≡ columns) × (r .schema .count ≡ count) ⌝ }
@@ -137,14 +151,7 @@ fn answered(check: Check, columns: [Column; 16], count: usize) -> Listed
 pub fn read_list(list: &[u8]) -> Listed
     ensures { λ r. ⌜ ListedAs (now (list .entry)) r ⌝ }
 {
-    let options = SortOptions {
-        descending: false,
-        nulls_first: false,
-    };
-    let none = Column {
-        kind: Kind::Bool,
-        options: options,
-    };
+    let none = no_column();
     let mut columns = [none; format::MAX_COLUMNS];
     let mut count: usize = 0;
     let mut at: usize = 0;

@@ -10,7 +10,12 @@ ghost use Rattle.format.specs.Sheet.{Layout, layoutFor, packed as packedFor, sp
 ghost use Rattle.laws.proofs.Columns.{Narrow};
 ghost use Rattle.station.specs.Schemas.{colsOf};
 ghost use Rattle.station.specs.Sheets.{SheetedAs};
-use format::{Check, Column, Kind, Refusal, Schema, SortOptions};
+use crate::list::no_column;
+use format::Check;
+use format::Column;
+use format::Kind;
+use format::Refusal;
+use format::Schema;
 
 // What is known of a checked column: what it is, and where it stands in the sheet.
 pub struct Facts {
@@ -26,7 +31,7 @@ pub struct Sheeted {
 }
 
 // The bytes that the bits of n rows are packed in.
-fn packed(n: usize) -> usize
+pub fn packed(n: usize) -> usize
     requires { ⌜ n ≤ maxRows ⌝ }
     ensures { λ r. ⌜ (r ≡ packedFor n) × (r ≤ 512) ⌝ }
 {
@@ -48,7 +53,7 @@ fn check_bits(part: &[u8], n: usize, c: usize) -> Check
 }
 
 // End i of variable bytes: four bytes, low byte first.
-fn end_at(part: &[u8], i: usize) -> usize
+pub fn end_at(part: &[u8], i: usize) -> usize
     requires { ⌜ 4 * suc i ≤ length (now part) ⌝ }
     ensures { λ r. ⌜ (r ≡ end (now (part .entry)) i) × (r < 4294967296) ⌝ }
 {
@@ -185,14 +190,7 @@ pub fn check_sheet(schema: Schema, n: usize, sheet: &[u8]) -> Sheeted
 {
     let count = schema.count;
     let columns = schema.columns;
-    let options = SortOptions {
-        descending: false,
-        nulls_first: false,
-    };
-    let none = Column {
-        kind: Kind::Bool,
-        options: options,
-    };
+    let none = no_column();
     let blank = Facts {
         column: none,
         base: 0,
@@ -209,12 +207,13 @@ pub fn check_sheet(schema: Schema, n: usize, sheet: &[u8]) -> Sheeted
         if let Check::Refuse(r) = check {
             return found(Check::Refuse(r), facts, 0);
         }
+        let next = at + column_bytes(kind, part, n);
         facts[c] = Facts {
             column: column,
             base: at,
         };
         nulls += null_rows(part, n);
-        at += column_bytes(kind, part, n);
+        at = next;
         c += 1;
     }
     if at < sheet.len() {

@@ -17,10 +17,10 @@ abbrev μ-loop : tie.MeasureT-loop
 μ-loop list columns₀ count₀ at₀ columns count at = maxColumns - count
 
 returns : tie.Need-returns Inv-loop μ-loop
-returns c = empty (c .before .before .before .args .list .now) _ (c .before .if1 .taken) (c .answered .ensures .0)
+returns c = empty (c .before .before .before .before .args .list .now) _ (c .before .if1 .taken) (c .answered .ensures .0)
 
 loop-holds : tie.Need-loop-holds Inv-loop μ-loop
-loop-holds c = start (c .before .before .args .list .now)
+loop-holds c = start (c .before .before .before .args .list .now) _ (c .before .no-column .ensures)
 
 returns-2 : tie.Need-returns-2 Inv-loop μ-loop
 returns-2 c =
@@ -38,7 +38,7 @@ column-at-requires : tie.Need-column-at-requires Inv-loop μ-loop
 column-at-requires c κs =
     let t = c .before .before .before .before in
     let found = c .before .before .check-description .ensures in
-    let list = t .before .before .before .before .args .list .now in
+    let list = t .before .before .before .before .before .args .list .now in
     omega (arith, t .loop-test .taken, description-passed list (t .before .loop .at) (sym found ∙ c .enum-told .given .1) .0)
 
 shared-slice-read-description-bytes : tie.Need-shared-slice-read-description-bytes Inv-loop μ-loop
@@ -62,6 +62,7 @@ read-list-spec =
     (tie.spec
     Inv-loop
     μ-loop
+    (λ c κs. search needs)
     (λ c κs. search needs)
     returns
     loop-holds

@@ -11,13 +11,17 @@ returns c = simp (lt-ltb _ _ (rw (c .before .packed .ensures .0) at (c .if1 .tak
 
 returns-2 : tie.Need-returns-2
 returns-2 c =
-    simp (le-ltb _ _ (rw (c .before .before .before .packed .ensures .0) at (c .before .before .if1 .left)),
-    sym (c .before .spare .ensures) ∙ c .if2 .taken)
+    simp (
+      le-ltb _ _ (rw (c .before .before .before .packed .ensures .0) at (c .before .before .if1 .left)),
+      sym (c .before .spare .ensures) ∙ c .if2 .taken,
+    )
 
 returns-3 : tie.Need-returns-3
 returns-3 c =
-    simp (le-ltb _ _ (rw (c .before .before .before .packed .ensures .0) at (c .before .before .if1 .left)),
-    sym (c .before .spare .ensures) ∙ c .if2 .left)
+    simp (
+      le-ltb _ _ (rw (c .before .before .before .packed .ensures .0) at (c .before .before .if1 .left)),
+      sym (c .before .spare .ensures) ∙ c .if2 .left,
+    )
 
 pub check-bits-spec : {M : Type 1} → statement M
 check-bits-spec = tie.close (tie.spec (λ c κs. search needs) returns (λ c κs. search needs) returns-2 returns-3)

@@ -34,23 +34,23 @@ sixteen : (c : tie.Start Inv-loop μ-loop) → length (c .args .schema .columns)
 sixteen c = sym (length-map (c .args .schema .columns) _) ∙ c .good .0 .1 .1 .0 .1 .0 .1
 
 loop-holds : tie.Need-loop-holds Inv-loop μ-loop
-loop-holds c = (start _ _ _, length-take-le _ _ (omega (arith, sixteen (c .before .before))))
+loop-holds c = (start _ _ _ _, length-take-le _ _ (omega (arith, sixteen (c .before .before .before))))
 
 -- ---- in a turn: the rows, the sheet, the columns; which one it is, and the part that is left
 abbrev Turned : Type 0
 Turned = tie.In-loop Inv-loop μ-loop
 
 abbrev rows : Turned → ℕ
-rows y = y .before .before .before .before .args .n
+rows y = y .before .before .before .before .before .args .n
 
 abbrev sheet : Turned → List ℕ
-sheet y = y .before .before .before .before .args .sheet .now
+sheet y = y .before .before .before .before .before .args .sheet .now
 
 abbrev array : Turned → List Column
-array y = y .before .before .before .before .args .schema .columns
+array y = y .before .before .before .before .before .args .schema .columns
 
 abbrev cols : Turned → List Column
-cols y = take (y .before .before .before .before .args .schema .count) (array y)
+cols y = take (y .before .before .before .before .before .args .schema .count) (array y)
 
 abbrev index : Turned → ℕ
 index y = y .before .loop .c
@@ -65,10 +65,10 @@ there : (y : Turned) → index y < length (cols y)
 there y = omega (arith, y .before .loop .inv .1)
 
 is : (y : Turned) → column y ≡ getD (cols y) (index y) noColumn
-is y = sym (getD-take (y .before .before .before .before .args .schema .count) (array y) (index y) noColumn (y .loop-test .taken))
+is y = sym (getD-take (y .before .before .before .before .before .args .schema .count) (array y) (index y) noColumn (y .loop-test .taken))
 
 narrow : (y : Turned) → valueBytes (column y .kind) ≤ maxWidth
-narrow y = rw is (every-at (λ col. valueBytes (col .kind) ≤ maxWidth) (cols y) noColumn (index y) (y .before .before .before .before .pre .1 .1) (there y))
+narrow y = rw is (every-at (λ col. valueBytes (col .kind) ≤ maxWidth) (cols y) noColumn (index y) (y .before .before .before .before .before .pre .1 .1) (there y))
 
 rest : (y : Turned) → take (length (sheet y) - y .before .loop .at) (part y) ≡ part y
 rest y = part-rest (sheet y) (y .before .loop .at)
@@ -85,7 +85,7 @@ room y = column-room (layout (column y)) (rows y) (index y) (part y)
 
 -- ---- the calls of a turn
 check-column-requires : tie.Need-check-column-requires Inv-loop μ-loop
-check-column-requires c κs = (c .before .before .before .before .before .before .pre .0, narrow (c .before .before))
+check-column-requires c κs = (c .before .before .before .before .before .before .before .pre .0, narrow (c .before .before))
 
 said : (x : tie.After-check-column Inv-loop μ-loop) → x .check-column .result ≡ fault (x .before .before .before)
 said x = x .check-column .ensures ∙ rw (rest (x .before .before .before))
@@ -99,38 +99,34 @@ returns c =
     let y = x .before .before .before in
     bad _ _ _ _ _ _ _ (y .before .loop .inv .0) (column y) (there y) (is y) _ _ (sym (said x) ∙ c .before .before .check .given .1) (c .found .ensures .0)
 
-null-rows-requires : tie.Need-null-rows-requires Inv-loop μ-loop
-null-rows-requires c κs =
-    let y = c .before .before .before .before .before in
-    let valid = column-passed (layout (column y)) (rows y) (index y) (part y) (passes c) .0 in
-    rw (rest y) (y .before .before .before .before .pre .0, bits-passed (rows y) (index y) (part y) valid)
-
 column-bytes-requires : tie.Need-column-bytes-requires Inv-loop μ-loop
 column-bytes-requires c κs =
+    let y = c .before .before .before .before .before in
+    rw (rest y) (y .before .before .before .before .before .pre .0, room y (passes c))
+
+wide : (w : tie.After-column-bytes Inv-loop μ-loop) → w .column-bytes .result ≡ bytes (w .before .before .before .before .before .before)
+wide w = w .column-bytes .ensures ∙ rw (rest (w .before .before .before .before .before .before))
+
+add-next : tie.Need-add-next Inv-loop μ-loop
+add-next c =
     let y = c .before .before .before .before .before .before in
-    rw (rest y) (y .before .before .before .before .pre .0, room y (passes (c .before)))
+    omega (arith, wide c, room y (passes (c .before)), length-drop (y .before .loop .at) (sheet y))
+
+null-rows-requires : tie.Need-null-rows-requires Inv-loop μ-loop
+null-rows-requires c κs =
+    let y = c .before .before .before .before .before .before in
+    let valid = column-passed (layout (column y)) (rows y) (index y) (part y) (passes (c .before)) .0 in
+    rw (rest y) (y .before .before .before .before .before .pre .0, bits-passed (rows y) (index y) (part y) valid)
 
 -- ---- the end of a turn
-wide : (c : tie.After-column-bytes Inv-loop μ-loop) → c .column-bytes .result ≡ bytes (c .before .before .before .before .before .before .before)
-wide c = c .column-bytes .ensures ∙ rw (rest (c .before .before .before .before .before .before .before))
-
-null : (c : tie.After-column-bytes Inv-loop μ-loop)
-    → let y = c .before .before .before .before .before .before .before in c .before .null-rows .result ≡ nullsIn (columnSlots (layout (column y)) (rows y) (part y))
-null c =
-    let y = c .before .before .before .before .before .before .before in
-    c .before .null-rows .ensures .0 (layout (column y)) ∙ rw (rest y)
-
-add-at : tie.Need-add-at Inv-loop μ-loop
-add-at c =
-    let y = c .before .before .before .before .before .before .before in
-    omega (arith, wide c, room y (passes (c .before .before)), length-drop (y .before .loop .at) (sheet y))
-
 loop-again : tie.Need-loop-again Inv-loop μ-loop
 loop-again c =
     let y = c .before .before .before .before .before .before .before in
-    let p = y .before .before .before .before .pre in
-    (more _ _ _ _ _ _ _ (y .before .loop .inv .0) (column y) (there y) (is y) (passes (c .before .before)) _ _ (null c) (c .before .null-rows .ensures .1) (p .0) (wide c) (omega arith),
-    y .before .loop .inv .1)
+    let null = c .null-rows .ensures .0 (layout (column y)) ∙ ap (λ (s : List ℕ). nullsIn (columnSlots (layout (column y)) (rows y) s)) (rest y) in (
+      more _ _ _ _ _ _ _ (y .before .loop .inv .0) (column y) (there y) (is y) (passes (c .before .before)) _ _ null (c .null-rows .ensures .1)
+          (y .before .before .before .before .before .pre .0) (wide (c .before)) (omega arith),
+      y .before .loop .inv .1,
+    )
 
 returns-2 : tie.Need-returns-2 Inv-loop μ-loop
 returns-2 c =
@@ -149,6 +145,7 @@ check-sheet-spec =
     (tie.spec
     Inv-loop
     μ-loop
+    (λ c κs. search needs)
     loop-holds
     (λ c. omega arith)
     (λ c. omega arith)
@@ -160,12 +157,12 @@ check-sheet-spec =
     (λ c κs. search needs)
     returns
     (λ c. search needs)
+    column-bytes-requires
+    add-next
     (λ c. omega arith)
     (λ c. omega arith)
     null-rows-requires
     (λ c. omega arith)
-    column-bytes-requires
-    add-at
     (λ c. omega arith)
     (λ c. omega arith)
     loop-again
