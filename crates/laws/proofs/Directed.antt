@@ -12,6 +12,7 @@ use Rattle.laws.proofs.Bytes.{bytes-invert}
 use Rattle.laws.proofs.Invert.{invert-invert, ranks-invert}
 use Rattle.laws.proofs.Sep.{Ranks}
 
+-- bytes stay bytes, and as many
 pub bytes-directed : (d : Bool) (f : List ℕ) → Bytes f → Bytes (directed d f)
 bytes-directed true f b = bytes-invert f
 bytes-directed false f b = b
@@ -20,10 +21,12 @@ pub length-directed : (d : Bool) (f : List ℕ) → length (directed d f) ≡ le
 length-directed true f = length-map f invert
 length-directed false f = refl
 
+-- part by part
 pub directed-append : (d : Bool) (f g : List ℕ) → directed d (f ++ g) ≡ directed d f ++ directed d g
 directed-append true f g = map-append invert f g
 directed-append false f g = refl
 
+-- twice is once back
 pub directed-twice : (d : Bool) (f : List ℕ) → Bytes f → directed d (directed d f) ≡ f
 directed-twice true f b = invert-invert f b
 directed-twice false f b = refl

@@ -27,6 +27,7 @@ use Rattle.laws.proofs.Unkey.{length-key}
 
 -- ---- the bytes of variable bytes
 
+-- the blocks of bytes are bytes
 bytes-stream : (size : ℕ → ℕ) → ((k : ℕ) → 0 < size k) → ((k : ℕ) → size k < 255) → (x : List ℕ) (k u : ℕ) → u ≤ size k → Bytes x → Bytes (stream size k u x)
 bytes-stream size room small [] k u m b = bytes-zeros (size k - u) (u ∷ []) (omega (arith, small k), tt)
 bytes-stream size room small (x ∷ xs) k u m b = go (choose u (size k)) (λ k u m. bytes-stream size room small xs k u m (b .1))
@@ -63,12 +64,14 @@ pub record Led (f : List ℕ) : Type 0 where
   pub above : 0 < lead
   pub below : lead < 255
 
+-- 01 or 02, and inverted FE or FD
 pub led-variable : (d : Bool) (x : List ℕ) → Led (directed d (variableBytes x))
 led-variable true [] = record { lead = 254; rest = []; splits = refl; above = omega arith; below = omega arith }
 led-variable true (x ∷ xs) = record { lead = 253; rest = _; splits = refl; above = omega arith; below = omega arith }
 led-variable false [] = record { lead = 1; rest = []; splits = refl; above = omega arith; below = omega arith }
 led-variable false (x ∷ xs) = record { lead = 2; rest = _; splits = refl; above = omega arith; below = omega arith }
 
+-- such a byte is no null byte
 pub not-null : (o : SortOptions) (b : ℕ) → 0 < b → b < 255 → eqb b (nullByte o) ≡ false
 not-null o b h l = go (o .«nulls_first»)
   where
@@ -85,18 +88,21 @@ null-byte o = go (o .«nulls_first»)
     go true = omega arith
     go false = omega arith
 
+-- a field is bytes
 pub bytes-field : (sh : Shape) (o : SortOptions) (s : Slot) → SlotFits maxSlot sh s → Bytes (field sh o s)
 bytes-field (fixed k) o none h = (null-byte o, subst Bytes (append-nil (replicate (width k) 0)) (bytes-zeros (width k) [] tt))
 bytes-field (fixed k) o (some v) h = (omega arith, bytes-directed (o .descending) (key k v) (bytes-key k v (h .0)))
 bytes-field variable o none h = (null-byte o, tt)
 bytes-field variable o (some v) h = bytes-directed (o .descending) (variableBytes v) (bytes-variable v (h .0))
 
+-- a field is as long as the table says
 pub length-field : (sh : Shape) (o : SortOptions) (s : Slot) → SlotFits maxSlot sh s → length (field sh o s) ≡ fieldLength sh s
 length-field (fixed k) o none h = omega (arith, length-replicate {A = ℕ} (width k) 0)
 length-field (fixed k) o (some v) h = omega (arith, length-directed (o .descending) (key k v), length-key k v (h .1))
 length-field variable o none h = refl
 length-field variable o (some v) h = length-directed (o .descending) (variableBytes v) ∙ length-variable v
 
+-- a row is bytes
 pub bytes-row : (cols : List Column) (xs : List Slot) → RowFits cols xs → Bytes (row cols xs)
 bytes-row [] [] h = tt
 bytes-row [] (x ∷ xs) h = absurd h

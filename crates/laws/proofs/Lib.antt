@@ -12,6 +12,13 @@ pub mod Directed
 pub mod Sound
 pub mod Fields
 pub mod RowOrder
+pub mod Parsed
+pub mod ReadBlocks
+pub mod ReadVariable
+pub mod ReadFixed
+pub mod ReadField
+pub mod ReadRow
+pub mod FaultPlace
 pub mod Lists
 pub mod Parts
 pub mod Checks
@@ -23,3 +30,9 @@ pub mod Totals
 pub mod Cleared
 pub mod Room
 pub mod Cuts
+pub mod Unique
+pub mod Accept
+pub mod RowsBack
+pub mod Trips
+pub mod SheetOrder
+pub mod OutBytes

@@ -33,9 +33,11 @@ use Rattle.laws.proofs.Stream.{variable-ranks}
 even-ranks : {o : Ordering} (f g : List ℕ) → length f ≡ length g → cmp f g ≡ o → Ranks o f g
 even-ranks f g e h = subst (λ (o : Ordering). Ranks o f g) h (ranks-even f g e)
 
+-- signed numbers
 signed-ranks : (a b : List ℕ) → Bytes a → Bytes b → length a ≡ length b → 0 < length a → Ranks (signedOrder a b) (signedKey a) (signedKey b)
 signed-ranks a b ha hb e h = even-ranks (signedKey a) (signedKey b) (long-signed a ∙ e ∙ sym (long-signed b)) (signed-order a b e ha hb h)
 
+-- intervals, part by part
 parts-ranks : (ns a b : List ℕ) → AllPositive ns → Bytes a → Bytes b → length a ≡ sum ns → length b ≡ sum ns → Ranks (partsOrder ns a b) (partsKey ns a) (partsKey ns b)
 parts-ranks [] a b p ha hb la lb = ranks-self []
 parts-ranks (n ∷ ns) a b p ha hb la lb =
@@ -49,6 +51,7 @@ parts-ranks (n ∷ ns) a b p ha hb la lb =
     left : (v : List ℕ) → length v ≡ n + sum ns → length (drop n v) ≡ sum ns
     left v l = omega (arith, length-drop n v)
 
+-- the value bytes stand as the values do, for every width
 pub key-ranks : (k : Fixed) → Sound k → (a b : List ℕ) → Bytes a → Bytes b → length a ≡ width k → length b ≡ width k → Ranks (fixedOrder k a b) (key k a) (key k b)
 key-ranks bool so a b ha hb la lb = ranks-even a b (la ∙ sym lb)
 key-ranks (plain n) so a b ha hb la lb = ranks-even a b (la ∙ sym lb)
@@ -77,6 +80,7 @@ value-null : (n : Bool) (b : ℕ) (f g : List ℕ) → 0 < b → b < 255 → Ran
 value-null true b f g h l = lead-gt h
 value-null false b f g h l = lead-lt l
 
+-- both values
 ones : {o : Ordering} {f g : List ℕ} → Ranks o f g → Ranks o (1 ∷ f) (1 ∷ g)
 ones k = record { first = k .first; alike = λ e. ap {B = List ℕ} (λ z. 1 ∷ z) (k .alike e) }
 
@@ -101,6 +105,7 @@ field-ranks variable o so (some x) (some y) ha hb = ranks-directed (o .descendin
 
 -- ---- rows
 
+-- field after field
 pub row-ranks : (cols : List Column) (xs ys : List Slot) → RowFits cols xs → RowFits cols ys → Ranks (rowOrder cols xs ys) (row cols xs) (row cols ys)
 row-ranks [] [] [] hx hy = ranks-self []
 row-ranks [] [] (y ∷ ys) hx hy = absurd hy

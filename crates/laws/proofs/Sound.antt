@@ -6,10 +6,12 @@ use Rattle.format.specs.Kinds.{Fixed, bool, float, integer, number, parts, plai
 use Rattle.format.specs.declared.Kind.{Kind}
 use Rattle.format.specs.declared.Kind.the-variants.{Bool, I8, I16, I32, I64, U8, U16, U32, U64, F16, F32, F64, DayTime, MonthDayNano, FixedBinary, Variable}
 
+-- every part has a byte
 abbrev pub AllPositive : List ℕ → Type 0
 AllPositive [] = Unit {0}
 AllPositive (n ∷ ns) = (0 < n) × AllPositive ns
 
+-- every number that has a sign has a byte for it
 abbrev pub Sound : Fixed → Type 0
 Sound bool = Unit {0}
 Sound (plain n) = Unit {0}
@@ -22,6 +24,7 @@ abbrev pub SoundShape : Shape → Type 0
 SoundShape (fixed k) = Sound k
 SoundShape variable = Unit {0}
 
+-- the table of kinds has no other
 pub sound : (kind : Kind) → SoundShape (shape kind)
 sound Bool = tt
 sound I8 = omega arith
