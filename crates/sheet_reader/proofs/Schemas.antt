@@ -1,0 +1,49 @@
+-- For whoever calls `read_list` and then `check_sheet`: what the first ensures of a list that passes meets what the second
+-- requires. Assumes nothing.
+use Prim.Native.Nat.{ℕ, _-_, _≤_}
+use mathlib.Core.Path.{_≡_, sym, ap, subst, _∙_}
+use mathlib.Core.List.{List}
+use lib.ListN.{length, replicate, List·getD-append}
+use lib.Seq.{take-append-seam}
+use Rattle.format.specs.declared.Column.{Column}
+use Rattle.format.specs.declared.Schema.{Schema}
+use Rattle.format.specs.declared.Check.the-variants.{Pass}
+use Rattle.format.specs.Limits.{maxColumns, maxWidth}
+use Rattle.format.specs.Columns.{listFault, columns}
+use Rattle.format.specs.Kinds.{valueBytes}
+use Rattle.laws.proofs.Lists.{every-at}
+use Rattle.laws.proofs.Columns.{Narrow, columns-narrow, columns-few}
+use Rattle.sheet_reader.specs.declared.list.Listed.{Listed}
+use Rattle.format.specs.Schemas.{noColumn, schemaOf, colsOf, Limited}
+use Rattle.sheet_reader.specs.Listing.{ListedAs}
+
+-- the columns in use of an array are those that it was made of
+pub cols-schema : (cs : List Column) → colsOf (schemaOf cs) ≡ cs
+cols-schema cs = take-append-seam cs (replicate (maxColumns - length cs) noColumn)
+
+-- the columns of a list within the ceilings make a schema within them
+limited-schema : (cs : List Column) → length cs ≤ maxColumns → Narrow cs → Limited (schemaOf cs)
+limited-schema cs few narrow = record {
+  few = few;
+  narrow = λ c l.
+      subst (λ (col : Column). valueBytes (col .kind) ≤ maxWidth) (sym (List·getD-append cs (replicate (maxColumns - length cs) noColumn) noColumn c l))
+      (every-at (λ col. valueBytes (col .kind) ≤ maxWidth) cs noColumn c narrow l);
+}
+
+-- what a list that passes gives
+pub record Sound (list : List ℕ) (schema : Schema) : Type 0 where
+  pub cols : colsOf schema ≡ columns list
+  pub count : schema .count ≡ length (columns list)
+  pub some : 1 ≤ schema .count
+  pub limited : Limited schema
+
+pub sound : (list : List ℕ) (r : Listed) → ListedAs list r → listFault list ≡ Pass → Sound list (r .schema)
+sound list r l e =
+    let is = l .schema e in
+    let cols : colsOf (r .schema) ≡ columns list = ap colsOf is ∙ cols-schema (columns list) in
+    record {
+      cols = cols;
+      count = ap (λ (s : Schema). s .count) is;
+      some = rw is (columns-few list e .0);
+      limited = rw is (limited-schema (columns list) (columns-few list e .1) (columns-narrow list e));
+    }
