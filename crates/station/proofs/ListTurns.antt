@@ -1,17 +1,14 @@
 -- The loop of `read_list`: what holds at its head, and what each way out of a turn gives. Assumes nothing.
 use Prim.Native.Nat.{ℕ, zero, suc, _+_, _-_, _<_, _≤_}
 use mathlib.Core.Path.{_≡_, refl, sym, ap, ap₂, _∙_}
-use mathlib.Core.Bool.{true, false}
-use mathlib.Core.List.{List, [], _∷_, _++_, append-assoc, append-nil}
+use mathlib.Core.List.{List, [], _∷_, _++_, append-nil}
 use native.Mathlib.Omega.{arith}
 use lib.ListN.{length, getD, set, replicate, length-append}
 use lib.Seq.{set-at, append-snoc}
 use borrow.Author.Tests.{ne-eqb, eq-eqb, lt-ltb, le-ltb}
 use Rattle.format.specs.declared.Column.{Column}
-use Rattle.format.specs.declared.Schema.{Schema}
 use Rattle.format.specs.declared.Refusal.{Refusal}
 use Rattle.format.specs.declared.Refusal.the-variants.{ListCut, ManyColumns}
-use Rattle.format.specs.declared.Check.{Check}
 use Rattle.format.specs.declared.Check.the-variants.{Pass, Refuse}
 use Rattle.format.specs.Limits.{maxColumns}
 use Rattle.format.specs.Columns.{descriptionBytes, columnAt, descriptionFault, listFaultFrom, columnsFrom, listFault, columns}

@@ -1,7 +1,7 @@
 -- For whoever calls `read_list` and then `check_sheet`: what the first ensures of a list that passes meets what the second
 -- requires. Assumes nothing.
 use Prim.Native.Nat.{ℕ, _-_, _≤_}
-use mathlib.Core.Path.{_≡_, sym, ap, _∙_}
+use mathlib.Core.Path.{_≡_, ap, _∙_}
 use mathlib.Core.List.{List}
 use lib.ListN.{length, replicate}
 use lib.Seq.{take-append-seam}

@@ -1,21 +1,18 @@
 -- The loop of `check_sheet`: what holds at its head, and what each way out of a turn gives. Assumes nothing.
-use Prim.Native.Nat.{ℕ, zero, suc, _+_, _-_, _*_, _<_, _≤_}
-use mathlib.Core.Path.{_≡_, refl, sym, ap, ap₂, _∙_, subst}
-use mathlib.Core.Bool.{false}
+use Prim.Native.Nat.{ℕ, suc, _+_, _-_, _*_, _<_, _≤_}
+use mathlib.Core.Path.{_≡_, refl, sym, ap, _∙_, subst}
 use mathlib.Core.List.{List, [], _∷_}
 use mathlib.Core.Logic.{_⊎_, inl, inr}
-use native.Mathlib.Nat.{add-assoc}
 use native.Mathlib.Numerals.{add-one}
 use native.Mathlib.Omega.{arith}
 use lib.ListN.{length, getD, set, drop, replicate, length-set, length-drop, drop-of-length-le}
-use lib.Seq.{drop-cons, drop-drop, getD-set-same, getD-set-other}
+use lib.Seq.{drop-cons, getD-set-same, getD-set-other}
 use borrow.Author.Tests.{lt-ltb, le-ltb}
 use Rattle.format.specs.declared.Column.{Column}
 use Rattle.format.specs.declared.Refusal.{Refusal}
 use Rattle.format.specs.declared.Refusal.the-variants.{BytesAfter}
 use Rattle.format.specs.declared.Check.the-variants.{Pass, Refuse}
 use Rattle.format.specs.Limits.{maxColumns, maxRows}
-use Rattle.format.specs.Kinds.{Slot}
 use Rattle.format.specs.Sheet.{layout, columnFault, columnBytes, columnSlots, nullsIn, sheetFaultFrom, sheetFault, sheetSlots, nulls}
 use Rattle.laws.proofs.Checks.{refuse-pass}
 use Rattle.laws.proofs.Compare.{choose}
@@ -24,7 +21,7 @@ use Rattle.laws.proofs.Sheets.{column-room}
 use Rattle.station.specs.declared.sheet.Facts.{Facts}
 use Rattle.station.specs.declared.sheet.Sheeted.{Sheeted}
 use Rattle.station.specs.Schemas.{noColumn}
-use Rattle.station.specs.Sheets.{noFacts, FactsOf, Known, SheetedAs}
+use Rattle.station.specs.Sheets.{noFacts, Known, SheetedAs}
 
 -- ---- at the head of a turn: the columns before c pass, and column c stands at `at`
 pub record Turn (n : ℕ) (cols : List Column) (sheet : List ℕ) (facts : List Facts) (total at c : ℕ) : Type 0 where

@@ -1,15 +1,14 @@
 -- Columns as the code holds them: an array with room for every column, of which the first `count` are in use.
-use Prim.Native.Nat.{ℕ, _-_, _<_, _≤_}
+use Prim.Native.Nat.{ℕ, _-_}
 use mathlib.Core.Path.{_≡_}
 use mathlib.Core.Bool.{false}
 use mathlib.Core.List.{List, _++_}
-use lib.ListN.{length, getD, take, replicate}
+use lib.ListN.{length, take, replicate}
 use Rattle.format.specs.declared.Kind.the-variants.{Bool}
 use Rattle.format.specs.declared.Column.{Column}
 use Rattle.format.specs.declared.Schema.{Schema}
 use Rattle.format.specs.declared.Check.the-variants.{Pass}
-use Rattle.format.specs.Limits.{maxColumns, maxWidth}
-use Rattle.format.specs.Kinds.{valueBytes}
+use Rattle.format.specs.Limits.{maxColumns}
 use Rattle.format.specs.Columns.{listFault, columns}
 use Rattle.station.specs.declared.list.Listed.{Listed}
 

@@ -1,6 +1,5 @@
 -- `station::sheet::check_ends` meets its contract. The invariant: the rows so far pass, and the last end is known. The measure
 -- is the rows left. Assumes nothing.
-use borrow.Author.Needs.{needs}
 use Prim.Native.Nat.{_-_}
 use native.Mathlib.Omega.{arith}
 use Rattle.station.proofs.EndTurns.{Turn, start, done, falls, long, more}

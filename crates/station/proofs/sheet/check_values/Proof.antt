@@ -2,7 +2,7 @@
 -- takes. Assumes nothing.
 use borrow.Author.Needs.{needs}
 use borrow.Author.Tests.{lt-ltb, le-ltb}
-use Prim.Native.Nat.{ℕ, _*_, _<_, _≤_, _^_}
+use Prim.Native.Nat.{ℕ, _*_, _<_, _≤_}
 use mathlib.Core.Path.{_≡_, sym, ap, _∙_}
 use mathlib.Core.List.{List}
 use native.Mathlib.Nat.{mul-le-mul, lt-of-le-of-lt}
@@ -10,11 +10,9 @@ use lib.Dec.{lit<}
 use lib.ListN.{length}
 use Rattle.format.specs.declared.Kind.{Kind}
 use Rattle.format.specs.declared.Refusal.the-variants.{ColumnCut}
-use Rattle.format.specs.declared.Check.{Check}
 use Rattle.format.specs.declared.Check.the-variants.{Pass, Refuse}
-use Rattle.format.specs.Limits.{maxRows, maxWidth}
 use Rattle.format.specs.Kinds.{shape, valueBytes}
-use Rattle.format.specs.Sheet.{Layout, layoutFor, wide, valuesFault}
+use Rattle.format.specs.Sheet.{layoutFor, wide, valuesFault}
 use Rattle.station.proofs.Arms.{fixed-arm}
 use Rattle.station.proofs.sheet.check_values.Statement.{statement}
 use Rattle.station.proofs.sheet.check_values.Tie as tie

@@ -9,7 +9,7 @@ use native.Mathlib.Omega.{arith}
 use lib.ListN.{length}
 use Rattle.format.specs.declared.Kind.{Kind}
 use Rattle.format.specs.Kinds.{shape, valueBytes}
-use Rattle.format.specs.Sheet.{Layout, layoutFor, valuesBytes, end}
+use Rattle.format.specs.Sheet.{layoutFor, valuesBytes, end}
 use Rattle.station.proofs.Arms.{fixed-arm}
 use Rattle.station.proofs.sheet.values_bytes.Statement.{statement}
 use Rattle.station.proofs.sheet.values_bytes.Tie as tie
