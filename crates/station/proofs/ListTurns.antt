@@ -80,7 +80,7 @@ more s array count at col size t h left e is wide = step (t .room) (t .read) (t 
               ∙ rw (wide, is, ← columns-next room s at h) says;
         }
 
--- the first fault of the list is the refusal r, and so it was answered
+-- the refusal x is the first fault of the list, and so it was answered
 refused : (s : List ℕ) (r : Listed) (x : Refusal) → r .check ≡ Refuse x → listFault s ≡ Refuse x → ListedAs s r
 refused s r x e f = record { check = e ∙ sym f; schema = λ p. absurd (refuse-pass (sym f ∙ p)) }
 

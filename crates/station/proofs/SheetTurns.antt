@@ -75,7 +75,7 @@ module _ (n : ℕ) (cols : List Column) (sheet : List ℕ) (facts : List Facts) 
 
     module _ (e : columnFault (layout col) n c part ≡ Pass) where
       -- the column ends within the sheet
-      pub fits : bytes ≤ length part
+      fits : bytes ≤ length part
       fits = column-room (layout col) n c part e
 
       past : drop bytes part ≡ drop (at + bytes) sheet
