@@ -1,7 +1,7 @@
--- The last arm of a match on a kind, after those of bool and of variable bytes: fixed values of so many bytes each. Assumes
--- nothing.
+-- A match on a kind: what is said of the layout in the arms of bool and of variable bytes, and in the last one, fixed values of
+-- so many bytes each. Assumes nothing.
 use Prim.Native.Nat.{ℕ}
-use mathlib.Core.Path.{_≡_, refl}
+use mathlib.Core.Path.{_≡_, refl, ap, sym}
 use mathlib.Core.List.{List}
 use types.Run.{OneOf, miss}
 use denote.Enum.Declared.{tagOf}
@@ -10,9 +10,13 @@ use Rattle.format.specs.declared.Kind.{Kind}
 use Rattle.format.specs.declared.Kind.the-variants.{Bool, I8, I16, I32, I64, U8, U16, U32, U64, F16, F32, F64, DayTime, MonthDayNano, FixedBinary, Variable}
 use Rattle.format.specs.Lists.{each}
 use Rattle.format.specs.Kinds.{shape, valueBytes}
-use Rattle.format.specs.Sheet.{layoutFor, wide}
+use Rattle.format.specs.Sheet.{Layout, layoutFor, wide}
 
--- the kinds of the arm by their place: bool is 0, and variable bytes are 15
+-- what f says of the layout of the kind k that was matched, it says of the kind's
+pub told : {A : Type 0} (f : Layout → A) {kind k : Kind} → kind ≡ k → f (layoutFor (shape k)) ≡ f (layoutFor (shape kind))
+told f e = ap (λ (x : Kind). f (layoutFor (shape x))) (sym e)
+
+-- the kinds of the last arm by their place: bool is 0, and variable bytes are 15
 abbrev pub fixedKeys : List ℕ
 fixedKeys = each 1 14 (λ k. k)
 
