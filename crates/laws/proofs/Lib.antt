@@ -22,7 +22,9 @@ pub mod ReadField
 pub mod ReadRow
 pub mod FaultPlace
 pub mod Lists
+pub mod Parts
 pub mod Checks
+pub mod Columns
 pub mod Sheets
 pub mod Places
 pub mod Turned

@@ -1,0 +1,35 @@
+-- The last arm of a match on a kind, after those of bool and of variable bytes: fixed values of so many bytes each. Assumes
+-- nothing.
+use Prim.Native.Nat.{ℕ}
+use mathlib.Core.Path.{_≡_, refl}
+use mathlib.Core.List.{List}
+use types.Run.{OneOf, miss}
+use denote.Enum.Declared.{tagOf}
+use Rattle.format.proofs.Kind.{the-type}
+use Rattle.format.specs.declared.Kind.{Kind}
+use Rattle.format.specs.declared.Kind.the-variants.{Bool, I8, I16, I32, I64, U8, U16, U32, U64, F16, F32, F64, DayTime, MonthDayNano, FixedBinary, Variable}
+use Rattle.format.specs.Lists.{each}
+use Rattle.format.specs.Kinds.{shape, valueBytes}
+use Rattle.format.specs.Sheet.{layoutFor, wide}
+
+-- the kinds of the arm by their place: bool is 0, and variable bytes are 15
+abbrev pub fixedKeys : List ℕ
+fixedKeys = each 1 14 (λ k. k)
+
+pub fixed-arm : (kind : Kind) → OneOf fixedKeys (tagOf the-type kind) → layoutFor (shape kind) ≡ wide (valueBytes kind)
+fixed-arm Bool h = absurd (miss fixedKeys 0 tt h)
+fixed-arm I8 h = refl
+fixed-arm I16 h = refl
+fixed-arm I32 h = refl
+fixed-arm I64 h = refl
+fixed-arm U8 h = refl
+fixed-arm U16 h = refl
+fixed-arm U32 h = refl
+fixed-arm U64 h = refl
+fixed-arm F16 h = refl
+fixed-arm F32 h = refl
+fixed-arm F64 h = refl
+fixed-arm DayTime h = refl
+fixed-arm MonthDayNano h = refl
+fixed-arm (FixedBinary w) h = refl
+fixed-arm Variable h = absurd (miss fixedKeys 15 tt h)
