@@ -1,0 +1,17 @@
+// Runs of bytes written from a place on.
+ghost use mathlib.Core.Path.{_≡_};
+ghost use Prim.Native.Nat.{_+_, _≤_};
+ghost use lib.ListN.{length, replicate};
+ghost use lib.Seq.{sets};
+
+// m zeros.
+pub fn zeros(out: &mut [u8], at: usize, m: usize)
+    requires { ⌜ at + m ≤ length (now out) ⌝ }
+    ensures { λ _. ⌜ now (out .exit) ≡ sets (now (out .entry)) at (replicate m 0) ⌝ }
+{
+    let mut i = 0;
+    while i < m {
+        out[at + i] = 0;
+        i += 1;
+    }
+}
