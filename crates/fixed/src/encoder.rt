@@ -1,18 +1,31 @@
 // A slot into its field, from a place of the row buffer on. Each writer returns the place after the field.
+//
+//     i16 -1            sheet FF FF    row 01 7F FF    descending 01 80 00
+//     i16 null, first                  row 00 00 00    descending 00 00 00
 ghost use mathlib.Core.Path.{_≡_};
 ghost use mathlib.Core.List.{_∷_};
+ghost use mathlib.Core.Option.{some};
 ghost use Prim.Native.Nat.{_+_, _≤_};
 ghost use lib.ListN.{length, replicate};
 ghost use lib.Seq.{sets};
-ghost use Rattle.format.specs.Field.{nullByte};
+ghost use Rattle.format.specs.Lists.{lowBytes};
+ghost use Rattle.format.specs.Kinds.{bool, plain, parts, shape, valueBytes};
+ghost use Rattle.format.specs.Sheet.{boolByte};
+ghost use Rattle.format.specs.Field.{directed, field, fixedField, nullByte};
+ghost use Rattle.fixed.specs.Wide.{WideKind};
+use crate::runs::copy_directed;
 use crate::runs::zeros;
+use format::Kind;
 use format::SortOptions;
 use format::null_sentinel;
+use number::{directed8, directed16, directed32, directed64};
+use number::{encode_f16, encode_f32, encode_f64};
+use number::{encode_i8, encode_i16, encode_i32, encode_i64};
+use number::{encode_u8, encode_u16, encode_u32, encode_u64};
+use number::{low16, low32, low64, put16, put32, put64};
+use number::{signed8, signed16, signed32, signed64};
 
 // Null: the null byte, then zeros to the length of a value.
-//
-//     nulls first, width 2    00 00 00
-//     nulls last, width 2     FF 00 00
 pub fn encode_null(out: &mut [u8], at: usize, width: usize, options: SortOptions) -> usize
     requires { ⌜ at + 1 + width ≤ length (now out) ⌝ }
     ensures { λ r. ⌜ r ≡ at + 1 + width ⌝ }
@@ -21,4 +34,65 @@ pub fn encode_null(out: &mut [u8], at: usize, width: usize, options: SortOptions
     out[at] = null_sentinel(options);
     zeros(out, at + 1, width);
     at + 1 + width
+}
+
+// 01, then the bytes of x, low byte first, which descending inverts.
+fn put_word8(out: &mut [u8], at: usize, x: u8, descending: bool) -> usize
+    requires { ⌜ at + 2 ≤ length (now out) ⌝ }
+    ensures { λ r. ⌜ r ≡ at + 2 ⌝ }
+    ensures { λ _. ⌜ now (out .exit) ≡ sets (now (out .entry)) at (1 ∷ directed descending (lowBytes 1 x)) ⌝ }
+{
+    out[at] = 1;
+    out[at + 1] = directed8(descending, x);
+    at + 2
+}
+
+fn put_word16(out: &mut [u8], at: usize, x: u16, descending: bool) -> usize
+    requires { ⌜ at + 3 ≤ length (now out) ⌝ }
+    ensures { λ r. ⌜ r ≡ at + 3 ⌝ }
+    ensures { λ _. ⌜ now (out .exit) ≡ sets (now (out .entry)) at (1 ∷ directed descending (lowBytes 2 x)) ⌝ }
+{
+    out[at] = 1;
+    put16(out, at + 1, directed16(descending, x));
+    at + 3
+}
+
+fn put_word32(out: &mut [u8], at: usize, x: u32, descending: bool) -> usize
+    requires { ⌜ at + 5 ≤ length (now out) ⌝ }
+    ensures { λ r. ⌜ r ≡ at + 5 ⌝ }
+    ensures { λ _. ⌜ now (out .exit) ≡ sets (now (out .entry)) at (1 ∷ directed descending (lowBytes 4 x)) ⌝ }
+{
+    out[at] = 1;
+    put32(out, at + 1, directed32(descending, x));
+    at + 5
+}
+
+fn put_word64(out: &mut [u8], at: usize, x: u64, descending: bool) -> usize
+    requires { ⌜ at + 9 ≤ length (now out) ⌝ }
+    ensures { λ r. ⌜ r ≡ at + 9 ⌝ }
+    ensures { λ _. ⌜ now (out .exit) ≡ sets (now (out .entry)) at (1 ∷ directed descending (lowBytes 8 x)) ⌝ }
+{
+    out[at] = 1;
+    put64(out, at + 1, directed64(descending, x));
+    at + 9
+}
+
+// A bool: 00 or 01.
+pub fn encode_boolean(out: &mut [u8], at: usize, val: bool, options: SortOptions) -> usize
+    requires { ⌜ at + 2 ≤ length (now out) ⌝ }
+    ensures { λ r. ⌜ r ≡ at + 2 ⌝ }
+    ensures { λ _. ⌜ now (out .exit) ≡ sets (now (out .entry)) at (fixedField bool options (some (boolByte val))) ⌝ }
+{
+    put_word8(out, at, val as u8, options.descending)
+}
+
+// Fixed binary, as it stands.
+pub fn encode_fixed_size_binary(out: &mut [u8], at: usize, val: &[u8], options: SortOptions) -> usize
+    requires { ⌜ at + 1 + length (now val) ≤ length (now out) ⌝ }
+    ensures { λ r. ⌜ r ≡ at + 1 + length (now (val .entry)) ⌝ }
+    ensures { λ _. ⌜ now (out .exit) ≡ sets (now (out .entry)) at (fixedField (plain (length (now (val .entry)))) options (some (now (val .entry)))) ⌝ }
+{
+    out[at] = 1;
+    copy_directed(out, at + 1, val, options.descending);
+    at + 1 + val.len()
 }
