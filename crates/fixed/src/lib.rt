@@ -3,6 +3,7 @@
 mod encoder;
 mod reader;
 mod runs;
+mod signed;
 
-pub use encoder::{encode_boolean, encode_fixed_size_binary, encode_null};
+pub use encoder::{encode, encode_boolean, encode_fixed_size_binary, encode_null};
 pub use reader::read;
