@@ -12,6 +12,7 @@ use Rattle.format.specs.Key.{invert, partsKey, partsUnkey, signedKey, signedUnk
 use Rattle.format.specs.Field.{directed}
 use Rattle.laws.proofs.Append.{sets-append}
 use Rattle.laws.proofs.Bytes.{length-topFlipped, long-signed}
+use Rattle.fixed.proofs.Writing.{run-next}
 use Rattle.fixed.proofs.Reading.{length-directed}
 
 pub directed-append : (d : Bool) (f g : List ℕ) → directed d (f ++ g) ≡ directed d f ++ directed d g
@@ -37,3 +38,39 @@ module _ (g : List ℕ → List ℕ) (long : (a : List ℕ) → length (g a) ≡
   parted-long (n ∷ ns) v h =
       length-append (g (take n v)) (parted ns (drop n v))
       ∙ ap₂ _+_ (long (take n v) ∙ length-take-le n v (omega arith)) (parted-long ns (drop n v) (omega (arith, length-drop n v)))
+
+key-parted : (ns v : List ℕ) → partsKey ns v ≡ parted signedKey long-signed ns v
+key-parted [] v = refl
+key-parted (n ∷ ns) v = ap (λ (h : List ℕ). signedKey (take n v) ++ h) (key-parted ns (drop n v))
+
+long-unsigned : (f : List ℕ) → length (signedUnkey f) ≡ length f
+long-unsigned f = length-reverse (topFlipped f) ∙ length-topFlipped f
+
+unkey-parted : (ns f : List ℕ) → partsUnkey ns f ≡ parted signedUnkey long-unsigned ns f
+unkey-parted [] f = refl
+unkey-parted (n ∷ ns) f = ap (λ (h : List ℕ). signedUnkey (take n f) ++ h) (unkey-parted ns (drop n f))
+
+-- ---- 01, then the parts of v, which descending inverts
+
+module _ (d : Bool) (v out : List ℕ) (at : ℕ) where
+  abbrev keyed : List ℕ → List ℕ
+  keyed f = sets out at (1 ∷ directed d f)
+
+  pub key-first : (n x : ℕ) (o : List ℕ) → lowBytes n x ≡ signedKey (take n v) → o ≡ keyed (lowBytes n x) → o ≡ keyed (partsKey (n ∷ []) v)
+  key-first n x o e p = p ∙ ap keyed (e ∙ sym (append-nil (signedKey (take n v))))
+
+  pub key-next : (ns : List ℕ) (n x y : ℕ) (o last : List ℕ) → sum ns ≤ length v → o ≡ keyed (partsKey ns v)
+      → lowBytes n x ≡ signedKey (take n (drop (sum ns) v)) → lowBytes n y ≡ directed d (lowBytes n x)
+      → last ≡ sets o (at + suc (sum ns)) (lowBytes n y) → last ≡ keyed (partsKey (ns ++ (n ∷ [])) v)
+  key-next ns n x y o last h p e q s =
+      run-next out at (at + suc (sum ns)) (1 ∷ directed d (partsKey ns v)) (lowBytes n y) o last p (ap (λ (k : ℕ). at + suc k) (sym long)) s
+      ∙ ap (λ (f : List ℕ). sets out at (1 ∷ f)) joined
+    where
+      long : length (directed d (partsKey ns v)) ≡ sum ns
+      long = length-directed d (partsKey ns v) ∙ ap length (key-parted ns v) ∙ parted-long signedKey long-signed ns v h
+      joined : directed d (partsKey ns v) ++ lowBytes n y ≡ directed d (partsKey (ns ++ (n ∷ [])) v)
+      joined =
+          ap (λ (f : List ℕ). directed d (partsKey ns v) ++ f) (q ∙ ap (directed d) e)
+          ∙ sym (directed-append d (partsKey ns v) (signedKey (take n (drop (sum ns) v))))
+          ∙ ap (directed d) (ap (λ (f : List ℕ). f ++ signedKey (take n (drop (sum ns) v))) (key-parted ns v)
+          ∙ sym (key-parted (ns ++ (n ∷ [])) v ∙ parted-more signedKey long-signed ns n v))

@@ -1,14 +1,15 @@
 -- What the writers share: a lead byte, and after it a run of bytes. Assumes nothing.
 use Prim.Native.Nat.{ℕ, _+_, _-_, _<_}
-use mathlib.Core.Path.{_≡_, refl, sym, ap, _∙_}
+use mathlib.Core.Path.{_≡_, refl, sym, ap, ap₂, _∙_}
 use mathlib.Core.Bool.{Bool, true, false, cond}
-use mathlib.Core.List.{List, [], _∷_, map}
+use mathlib.Core.List.{List, [], _∷_, _++_, map}
 use native.Mathlib.Nat.{mod-eq-of-lt}
 use native.Mathlib.Numerals.{add-one}
 use lib.ListN.{length, set}
 use lib.Seq.{sets, length-sets}
 use Rattle.format.specs.Lists.{lowBytes}
 use Rattle.format.specs.Field.{directed}
+use Rattle.laws.proofs.Append.{sets-append}
 
 -- the byte a, then f
 pub lead-run : (out : List ℕ) (at a b : ℕ) (f last : List ℕ) → a ≡ b → last ≡ sets (set out at a) (at + 1) f → last ≡ sets out at (b ∷ f)
@@ -48,3 +49,8 @@ byte-turn d x y hx hy q = head (sym (byte-word y hy) ∙ q ∙ ap (directed d) (
   where
     head : {a b : ℕ} → a ∷ [] ≡ b ∷ [] → a ≡ b
     head e = cc
+
+-- one run after another
+pub run-next : (out : List ℕ) (at next : ℕ) (f g o last : List ℕ) → o ≡ sets out at f → next ≡ at + length f → last ≡ sets o next g → last ≡ sets out at (f ++ g)
+run-next out at next f g o last p q e =
+    e ∙ ap₂ (λ (l : List ℕ) (k : ℕ). sets l k g) p q ∙ sym (sets-append f g out at)
