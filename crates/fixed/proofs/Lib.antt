@@ -4,3 +4,4 @@ pub mod Words
 pub mod Scan
 pub mod Reading
 pub mod Parts
+pub mod Arms
