@@ -18,7 +18,7 @@ use Rattle.format.specs.Lists.{each}
 use Rattle.format.specs.Kinds.{Fixed, bool, plain, number, integer, float, parts, fixed, variable, shape, width, valueBytes}
 use Rattle.format.specs.Field.{field, fieldLength, nullByte}
 use Rattle.format.specs.Sheet.{layoutFor, wide}
-use Rattle.row_writer.specs.Wide.{WideKind}
+use Rattle.fixed.specs.Wide.{WideKind}
 
 -- a kind is one of the three
 abbrev pub Sort : Kind → Type 0

@@ -23,7 +23,7 @@ use Rattle.bits.proofs.Nulls.{bits-passed}
 use Rattle.laws.proofs.Checks.{enough}
 use Rattle.laws.proofs.Sheets.{Ended, column-passed, variable-passed, within}
 use Rattle.row_writer.specs.Put.{Passes, Put}
-use Rattle.row_writer.specs.Wide.{WideKind}
+use Rattle.fixed.specs.Wide.{WideKind}
 use Rattle.row_writer.proofs.Sorts.{null-arm, wide-layout}
 
 -- ---- variable bytes

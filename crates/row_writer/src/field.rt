@@ -9,8 +9,7 @@ ghost use Rattle.format.specs.Field.{fieldLength};
 ghost use Rattle.format.specs.Sheet.{ended, wide, layout, valuesFault, valueAt, columnFault, slotAt};
 ghost use Rattle.laws.proofs.Sheets.{Ended};
 ghost use Rattle.row_writer.specs.Put.{Passes, Put};
-ghost use Rattle.row_writer.specs.Wide.{WideKind};
-use crate::fixed;
+ghost use Rattle.fixed.specs.Wide.{WideKind};
 use crate::variable;
 use format::{Column, Kind, SortOptions};
 
