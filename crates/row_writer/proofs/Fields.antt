@@ -1,9 +1,8 @@
 -- The rows of a checked sheet, field by field, each from the facts of its column. Assumes nothing.
-use Prim.Native.Nat.{ℕ, zero, suc, _+_, _<_, _≤_}
+use Prim.Native.Nat.{ℕ, _+_, _<_}
 use mathlib.Core.Path.{_≡_, refl, ap, ap₂, sym, _∙_}
 use mathlib.Core.Option.{none}
 use mathlib.Core.List.{List, [], _∷_, _++_}
-use native.Mathlib.Nat.{zero-add}
 use native.Mathlib.Omega.{arith}
 use lib.ListN.{length, getD, drop}
 use Rattle.format.specs.declared.Column.{Column}
@@ -17,11 +16,11 @@ use Rattle.format.specs.Entries.{sheetRows}
 use Rattle.laws.proofs.Bytes.{bytes-drop}
 use Rattle.laws.proofs.Fields.{length-field}
 use Rattle.laws.proofs.Lists.{each-at, each-next, each-same, map-each}
-use Rattle.laws.proofs.Places.{Stands, placeFrom, place, past-column}
+use Rattle.laws.proofs.Places.{Stands, placeFrom, past-column}
 use Rattle.laws.proofs.Sheets.{slot-fits}
 use Rattle.laws.proofs.Turned.{slotsAt}
 use Rattle.station.specs.declared.sheet.Facts.{Facts}
-use Rattle.station.specs.Sheets.{noFacts, FactsOf, Known}
+use Rattle.station.specs.Sheets.{noFacts, Known}
 use Rattle.row_writer.specs.Put.{Passes}
 
 -- the slot of row r in a column that stands at a place, and its field

@@ -15,7 +15,7 @@ use Rattle.format.specs.declared.SortOptions.{SortOptions}
 use Rattle.format.specs.declared.Kind.{Kind}
 use Rattle.format.specs.declared.Kind.the-variants.{Bool, I8, I16, I32, I64, U8, U16, U32, U64, F16, F32, F64, DayTime, MonthDayNano, FixedBinary, Variable}
 use Rattle.format.specs.Lists.{each}
-use Rattle.format.specs.Kinds.{Fixed, bool, plain, number, integer, float, parts, fixed, variable, shape, width, valueBytes}
+use Rattle.format.specs.Kinds.{Fixed, bool, plain, number, integer, float, parts, fixed, shape, width, valueBytes}
 use Rattle.format.specs.Field.{field, fieldLength, nullByte}
 use Rattle.format.specs.Sheet.{layoutFor, wide}
 use Rattle.fixed.specs.Wide.{WideKind}

@@ -1,14 +1,14 @@
 -- The loop over rows: what holds at its head of the row buffer and of the offsets, for any rows. Assumes nothing.
-use Prim.Native.Nat.{ℕ, suc, _+_, _-_, _<_, _≤_}
+use Prim.Native.Nat.{ℕ, _+_, _-_, _<_, _≤_}
 use mathlib.Core.Path.{_≡_, refl, ap, sym, _∙_}
-use mathlib.Core.List.{List, [], _∷_, _++_}
+use mathlib.Core.List.{List, [], _∷_}
 use native.Mathlib.Nat.{sub-zero}
 use native.Mathlib.Numerals.{add-one}
 use native.Mathlib.Omega.{arith}
 use lib.ListN.{length, set}
 use lib.Seq.{sets}
 use Rattle.format.specs.Lists.{each, joined, endsFrom}
-use Rattle.laws.proofs.Append.{Walk, Turns, each-step, each-none, turns-begin, turns-more, turns-end, walk-first, walk-piece, walk-end}
+use Rattle.laws.proofs.Append.{Walk, Turns, each-step, each-none, turns-begin, turns-more, turns-end, walk-first, walk-piece}
 
 -- a piece more is written, whose length is known
 pub piece-more : (piece : ℕ → List ℕ) (n : ℕ) (rows₀ : List ℕ) (at₀ : ℕ) (rows : List ℕ) (at r : ℕ) → Turns piece n rows₀ at₀ rows at r → r < n
@@ -42,5 +42,5 @@ module _ (piece : ℕ → List ℕ) (n : ℕ) (rows₀ offsets₀ rows offsets :
   rows-end l = (
     turns-end piece n rows₀ 0 rows at r (t .bytes) l .1,
     ap (λ (k : ℕ). set offsets k at) {x = n} {y = r} (omega (arith, t .bytes .0))
-    ∙ ap (λ (xs : List (List ℕ)). sets offsets r (endsFrom at xs)) (sym (each-none piece n r l)) ∙ t .ends .says,
+        ∙ ap (λ (xs : List (List ℕ)). sets offsets r (endsFrom at xs)) (sym (each-none piece n r l)) ∙ t .ends .says,
   )

@@ -1,12 +1,12 @@
 -- A slot of a column that passes: where its value lies, and what its field comes to. Assumes nothing.
 use Prim.Native.Nat.{ℕ, zero, suc, _+_, _-_, _*_, _/_, _<_, _≤_}
-use mathlib.Core.Path.{_≡_, refl, ap, ap₂, sym, _∙_}
+use mathlib.Core.Path.{_≡_, ap, ap₂, sym, _∙_}
 use mathlib.Core.Bool.{Bool as Truth, true, false, cond}
 use mathlib.Core.Option.{none, some}
 use mathlib.Core.List.{List, _∷_}
 use native.Mathlib.Numerals.{add-one}
 use native.Mathlib.Omega.{arith}
-use lib.ListN.{length, take, drop, replicate, length-take, length-drop}
+use lib.ListN.{length, take, drop, replicate, length-take}
 use lib.Seq.{sets, drop-drop}
 use types.Run.{OneOf}
 use denote.Enum.Declared.{tagOf}
@@ -18,7 +18,7 @@ use Rattle.format.specs.Limits.{maxSlot}
 use Rattle.format.specs.Lists.{each, low}
 use Rattle.format.specs.Kinds.{bool, variable, Slot, shape, valueBytes}
 use Rattle.format.specs.Field.{field, fixedField, fieldLength, nullByte}
-use Rattle.format.specs.Sheet.{Layout, bits, ended, wide, layoutFor, packed, bit, end, valuesFault, boolByte, valueAt, columnFault, slotAt}
+use Rattle.format.specs.Sheet.{Layout, ended, wide, layoutFor, packed, bit, end, valuesFault, boolByte, valueAt, columnFault, slotAt}
 use Rattle.bits.proofs.Nulls.{bits-passed}
 use Rattle.laws.proofs.Checks.{enough}
 use Rattle.laws.proofs.Sheets.{Ended, column-passed, variable-passed, within}

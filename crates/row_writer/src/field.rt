@@ -1,5 +1,4 @@
 // The field of one slot of a checked column, from a place of the row buffer on. Each writer returns the place after the field.
-ghost use mathlib.Core.Path.{_≡_};
 ghost use mathlib.Core.Option.{none, some};
 ghost use Prim.Native.Nat.{_+_, _*_, _<_, _≤_};
 ghost use lib.ListN.{length};
@@ -11,7 +10,9 @@ ghost use Rattle.laws.proofs.Sheets.{Ended};
 ghost use Rattle.row_writer.specs.Put.{Passes, Put};
 ghost use Rattle.fixed.specs.Wide.{WideKind};
 use crate::variable;
-use format::{Column, Kind, SortOptions};
+use format::Column;
+use format::Kind;
+use format::SortOptions;
 
 // Null: the null byte, and for fixed kinds zeros to the length of a value.
 fn put_null(column: Column, rows: &mut [u8], at: usize) -> usize
@@ -27,7 +28,14 @@ fn put_null(column: Column, rows: &mut [u8], at: usize) -> usize
 }
 
 // Variable bytes: the value of row r lies between ends r and r + 1.
-fn put_variable(values: &[u8], n: usize, r: usize, options: SortOptions, rows: &mut [u8], at: usize) -> usize
+fn put_variable(
+    values: &[u8],
+    n: usize,
+    r: usize,
+    options: SortOptions,
+    rows: &mut [u8],
+    at: usize,
+) -> usize
     requires { ⌜ (n ≤ maxRows) × (r < n) ⌝ }
     requires { ⌜ Ended n (now values) ⌝ }
     requires { ⌜ at + fieldLength variableShape (some (valueAt ended n (now values) r)) ≤ length (now rows) ⌝ }
@@ -40,7 +48,14 @@ fn put_variable(values: &[u8], n: usize, r: usize, options: SortOptions, rows: &
 }
 
 // A fixed kind but bool: values of one width, one after the other.
-fn put_fixed(values: &[u8], r: usize, kind: Kind, options: SortOptions, rows: &mut [u8], at: usize) -> usize
+fn put_fixed(
+    values: &[u8],
+    r: usize,
+    kind: Kind,
+    options: SortOptions,
+    rows: &mut [u8],
+    at: usize,
+) -> usize
     requires { ⌜ WideKind kind ⌝ }
     requires { ⌜ r * valueBytes kind + valueBytes kind ≤ length (now values) ⌝ }
     requires { ⌜ at + 1 + valueBytes kind ≤ length (now rows) ⌝ }
@@ -69,7 +84,14 @@ fn put_value(values: &[u8], n: usize, r: usize, column: Column, rows: &mut [u8],
 }
 
 // The slot of row r of the column in front of the part.
-pub fn put_field(part: &[u8], n: usize, r: usize, column: Column, rows: &mut [u8], at: usize) -> usize
+pub fn put_field(
+    part: &[u8],
+    n: usize,
+    r: usize,
+    column: Column,
+    rows: &mut [u8],
+    at: usize,
+) -> usize
     requires { ⌜ (n ≤ maxRows) × (r < n) ⌝ }
     requires { ⌜ Passes (λ c. columnFault (layout column) n c (now part)) ⌝ }
     requires { ⌜ at + fieldLength (columnShape column) (slotAt (layout column) n (now part) r) ≤ length (now rows) ⌝ }

@@ -16,7 +16,14 @@ mod field;
 mod variable;
 
 // The rows of a sheet whose columns are known by their facts, and the offsets: where each row begins, and the last one's end.
-pub fn write_rows(schema: Schema, facts: [Facts; 16], n: usize, sheet: &[u8], rows: &mut [u8], offsets: &mut [u64])
+pub fn write_rows(
+    schema: Schema,
+    n: usize,
+    sheet: &[u8],
+    facts: [Facts; 16],
+    rows: &mut [u8],
+    offsets: &mut [u64],
+)
     requires { ⌜ n ≤ maxRows ⌝ }
     requires { ⌜ schema .count ≤ maxColumns ⌝ }
     requires { ⌜ Known n (colsOf schema) (now sheet) facts ⌝ }

@@ -4,17 +4,16 @@ use borrow.Author.Needs.{needs}
 use Prim.Native.Nat.{ℕ, _+_, _-_, _≤_}
 use mathlib.Core.Path.{_≡_, sym, ap, _∙_}
 use mathlib.Core.List.{List}
-use native.Mathlib.Nat.{zero-add}
 use native.Mathlib.Omega.{arith}
-use lib.ListN.{length, getD, drop, length-map, length-set}
+use lib.ListN.{length, getD, length-map, length-set}
 use lib.Seq.{length-take-le}
 use Rattle.format.specs.Limits.{maxColumns}
-use Rattle.format.specs.Lists.{Bytes, each, joined}
+use Rattle.format.specs.Lists.{each, joined}
 use Rattle.format.specs.Kinds.{columnShape}
 use Rattle.format.specs.Field.{fieldLength}
 use Rattle.format.specs.Schemas.{colsOf}
 use Rattle.format.specs.Entries.{sheetRows}
-use Rattle.laws.proofs.Append.{Turns, turns-begin, turns-room, turns-more, turns-end}
+use Rattle.laws.proofs.Append.{Turns, turns-begin, turns-room, turns-end}
 use Rattle.laws.proofs.Bytes.{bytes-of}
 use Rattle.laws.proofs.Parts.{part-rest}
 use Rattle.laws.proofs.Places.{Stands}
@@ -48,13 +47,13 @@ many c =
     length-take-le (c .args .schema .count) (c .args .schema .columns) (omega (arith, c .pre .1 .0))
 
 -- the rows of the sheet are those by the facts
-whole : (c : Start) → sheetRows (c .args .n) (colsOf (c .args .schema)) (c .args .sheet .now) ≡ each 0 (c .args .n) (rowAt (c .args .n) (c .args .sheet .now) (c .args .t2) (c .args .schema .count))
+whole : (c : Start) → sheetRows (c .args .n) (colsOf (c .args .schema)) (c .args .sheet .now) ≡ each 0 (c .args .n) (rowAt (c .args .n) (c .args .sheet .now) (c .args .t4) (c .args .schema .count))
 whole c =
-    rows-known (c .args .n) (colsOf (c .args .schema)) (c .args .sheet .now) (c .args .t2) (c .pre .1 .1 .0)
-    ∙ ap (λ (k : ℕ). each 0 (c .args .n) (rowAt (c .args .n) (c .args .sheet .now) (c .args .t2) k)) (many c)
+    rows-known (c .args .n) (colsOf (c .args .schema)) (c .args .sheet .now) (c .args .t4) (c .pre .1 .1 .0)
+    ∙ ap (λ (k : ℕ). each 0 (c .args .n) (rowAt (c .args .n) (c .args .sheet .now) (c .args .t4) k)) (many c)
 
 -- and there is room for them
-room : (c : Start) → 0 + length (joined (each 0 (c .args .n) (rowAt (c .args .n) (c .args .sheet .now) (c .args .t2) (c .args .schema .count)))) ≤ length (c .args .rows .now)
+room : (c : Start) → 0 + length (joined (each 0 (c .args .n) (rowAt (c .args .n) (c .args .sheet .now) (c .args .t4) (c .args .schema .count)))) ≤ length (c .args .rows .now)
 room c = omega (arith, c .pre .1 .1 .1 .0, ap (λ (xs : List (List ℕ)). length (joined xs)) (whole c))
 
 -- ---- in a turn of the inner loop
@@ -65,13 +64,13 @@ abbrev entry : Turn → Start
 entry c = c .before .before .before .before .before .before .before
 
 abbrev facts : Turn → Facts
-facts c = getD (entry c .args .t2) (c .before .loop2 .c) noFacts
+facts c = getD (entry c .args .t4) (c .before .loop2 .c) noFacts
 
 -- the column stands where its facts say
 stands : (c : Turn) → Stands (facts c .column) (entry c .args .n) (c .before .loop2 .c) (facts c .base) (entry c .args .sheet .now)
 stands c = entry c .pre .1 .1 .0 (c .before .loop2 .c) (omega (arith, many (entry c), c .loop2-test .taken)) .stands
 
-long : (c : Turn) → length (fieldAt (entry c .args .n) (entry c .args .sheet .now) (entry c .args .t2) (c .before .before .before .loop .r) (c .before .loop2 .c))
+long : (c : Turn) → length (fieldAt (entry c .args .n) (entry c .args .sheet .now) (entry c .args .t4) (c .before .before .before .loop .r) (c .before .loop2 .c))
     ≡ fieldLength (columnShape (facts c .column)) (slotIn (entry c .args .n) (entry c .args .sheet .now) (c .before .before .before .loop .r) (facts c .column) (facts c .base))
 long c =
     field-long (entry c .args .n) (c .before .loop2 .c) (c .before .before .before .loop .r) (facts c .base) (facts c .column) (entry c .args .sheet .now) (stands c)
@@ -82,8 +81,12 @@ fits : (c : Turn) → c .before .loop2 .at + fieldLength (columnShape (facts c .
 fits c =
     let o = c .before .before .before .loop in
     let i = c .before .loop2 in
-    omega (arith, long c, turns-room _ _ (o .rows) (o .at) (i .rows) (i .at) (i .c) (i .inv) (c .loop2-test .taken)
-    (turns-room _ _ (entry c .args .rows .now) 0 (o .rows) (o .at) (o .r) (o .inv .bytes) (c .before .before .loop-test .taken) (room (entry c))))
+    omega (
+      arith,
+      long c,
+      turns-room _ _ (o .rows) (o .at) (i .rows) (i .at) (i .c) (i .inv) (c .loop2-test .taken)
+          (turns-room _ _ (entry c .args .rows .now) 0 (o .rows) (o .at) (o .r) (o .inv .bytes) (c .before .before .loop-test .taken) (room (entry c))),
+    )
 
 loop-holds : tie.Need-loop-holds Inv-loop2 μ-loop2 Inv-loop μ-loop
 loop-holds c = rows-begin _ _ _ _
@@ -113,9 +116,10 @@ put-field-requires : tie.Need-put-field-requires Inv-loop2 μ-loop2 Inv-loop μ-
 put-field-requires c κs =
     let t = c .before .before .before in
     let a = entry t .args in
-    rw (part-rest (a .sheet .now) (facts t .base))
-    ((entry t .pre .0, t .before .before .loop-test .taken),
-    (stands-passes (a .n) (t .before .loop2 .c) (t .before .before .before .loop .r) (facts t .base) (facts t .column) (a .sheet .now) (stands t), fits t))
+    rw (part-rest (a .sheet .now) (facts t .base)) (
+      (entry t .pre .0, t .before .before .loop-test .taken),
+      (stands-passes (a .n) (t .before .loop2 .c) (t .before .before .before .loop .r) (facts t .base) (facts t .column) (a .sheet .now) (stands t), fits t),
+    )
 
 loop2-again : tie.Need-loop2-again Inv-loop2 μ-loop2 Inv-loop μ-loop
 loop2-again c =

@@ -21,16 +21,24 @@ encode-boolean-requires c κs =
 
 put-variable-requires : tie.Need-put-variable-requires
 put-variable-requires c κs =
-    let s = c .before .before .before .before .before .before in
-    (s .pre .0, (variable-asked (s .args .n) (s .args .r) (s .args .values .now) (s .pre .0 .1) (s .pre .1 .0) (c .before .enum-told2 .given .1),
-    rw (c .before .enum-told2 .given .1) at (s .pre .1 .1)))
+    let s = c .before .before .before .before .before .before in (
+      s .pre .0,
+      (
+        variable-asked (s .args .n) (s .args .r) (s .args .values .now) (s .pre .0 .1) (s .pre .1 .0) (c .before .enum-told2 .given .1),
+        rw (c .before .enum-told2 .given .1) at (s .pre .1 .1),
+      ),
+    )
 
 put-fixed-requires : tie.Need-put-fixed-requires
 put-fixed-requires c κs =
     let s = c .before .before .before .before .before in
-    let w = wide-arm (s .args .column .kind) (c .before .match .keys3) in
-    (w, (wide-asked (s .args .n) (s .args .r) (s .args .values .now) (s .pre .0 .1) (s .pre .1 .0) w,
-    omega (arith, s .pre .1 .1, wide-long (some (valueAt (layout (s .args .column)) (s .args .n) (s .args .values .now) (s .args .r))) w)))
+    let w = wide-arm (s .args .column .kind) (c .before .match .keys3) in (
+      w,
+      (
+        wide-asked (s .args .n) (s .args .r) (s .args .values .now) (s .pre .0 .1) (s .pre .1 .0) w,
+        omega (arith, s .pre .1 .1, wide-long (some (valueAt (layout (s .args .column)) (s .args .n) (s .args .values .now) (s .args .r))) w),
+      ),
+    )
 
 returns : tie.Need-returns
 returns c =
