@@ -9,7 +9,6 @@ ghost use Rattle.format.specs.Sheet.{ended, wide, layout, valuesFault, valueAt,
 ghost use Rattle.laws.proofs.Sheets.{Ended};
 ghost use Rattle.row_writer.specs.Put.{Passes, Put};
 ghost use Rattle.fixed.specs.Wide.{WideKind};
-use crate::variable;
 use format::Column;
 use format::Kind;
 use format::SortOptions;

@@ -13,7 +13,6 @@ use format::Schema;
 use station::sheet::Facts;
 
 mod field;
-mod variable;
 
 // The rows of a sheet whose columns are known by their facts, and the offsets: where each row begins, and the last one's end.
 pub fn write_rows(

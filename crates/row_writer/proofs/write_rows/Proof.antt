@@ -1,7 +1,7 @@
 -- `row_writer::write_rows` meets its contract. Inner loop: so many fields of the row are written. Outer loop: so many rows,
 -- and the offsets before them. Both speak of the facts; what the facts know turns them into the sheet's rows. Assumes nothing.
 use borrow.Author.Needs.{needs}
-use Prim.Native.Nat.{ℕ, _+_, _-_, _≤_}
+use Prim.Native.Nat.{ℕ, _+_, _-_, _<_, _≤_}
 use mathlib.Core.Path.{_≡_, sym, ap, _∙_}
 use mathlib.Core.List.{List}
 use native.Mathlib.Omega.{arith}
@@ -66,9 +66,12 @@ entry c = c .before .before .before .before .before .before .before
 abbrev facts : Turn → Facts
 facts c = getD (entry c .args .t4) (c .before .loop2 .c) noFacts
 
+below : (c : Turn) → c .before .loop2 .c < entry c .args .schema .count
+below c = omega arith
+
 -- the column stands where its facts say
 stands : (c : Turn) → Stands (facts c .column) (entry c .args .n) (c .before .loop2 .c) (facts c .base) (entry c .args .sheet .now)
-stands c = entry c .pre .1 .1 .0 (c .before .loop2 .c) (omega (arith, many (entry c), c .loop2-test .taken)) .stands
+stands c = entry c .pre .1 .1 .0 (c .before .loop2 .c) (omega (arith, many (entry c), below c)) .stands
 
 long : (c : Turn) → length (fieldAt (entry c .args .n) (entry c .args .sheet .now) (entry c .args .t4) (c .before .before .before .loop .r) (c .before .loop2 .c))
     ≡ fieldLength (columnShape (facts c .column)) (slotIn (entry c .args .n) (entry c .args .sheet .now) (c .before .before .before .loop .r) (facts c .column) (facts c .base))
@@ -84,7 +87,7 @@ fits c =
     omega (
       arith,
       long c,
-      turns-room _ _ (o .rows) (o .at) (i .rows) (i .at) (i .c) (i .inv) (c .loop2-test .taken)
+      turns-room _ _ (o .rows) (o .at) (i .rows) (i .at) (i .c) (i .inv) (below c)
           (turns-room _ _ (entry c .args .rows .now) 0 (o .rows) (o .at) (o .r) (o .inv .bytes) (c .before .before .loop-test .taken) (room (entry c))),
     )
 
@@ -125,7 +128,7 @@ loop2-again : tie.Need-loop2-again Inv-loop2 μ-loop2 Inv-loop μ-loop
 loop2-again c =
     let t = c .before .before .before .before .before .before in
     let e = rw (part-rest (entry t .args .sheet .now) (facts t .base)) at (c .before .before .put-field .ensures) in
-    piece-more _ _ _ _ _ _ _ (t .before .loop2 .inv) (t .loop2-test .taken) _ (long t) _ _ (e .place) (e .bytes)
+    piece-more _ _ _ _ _ _ _ (t .before .loop2 .inv) (below t) _ (long t) _ _ (e .place) (e .bytes)
 
 loop-again : tie.Need-loop-again Inv-loop2 μ-loop2 Inv-loop μ-loop
 loop-again c =
