@@ -1,0 +1,5 @@
+-- Laws of the walks over a variable field.
+pub mod Direction
+pub mod Padded
+pub mod Copying
+pub mod Padding
