@@ -9,7 +9,7 @@ use lib.ListN.{length, getD, set, take, drop, length-drop}
 use lib.Seq.{sets, drop-cons, drop-drop, take-add, length-take-le}
 use Rattle.format.specs.Field.{directed}
 use Rattle.format.specs.Lists.{Bytes, low, lowBytes}
-use Rattle.laws.proofs.Append.{Walk, walk-first, walk-at, walk-piece, walk-room, walk-end}
+use Rattle.laws.proofs.Append.{sets-append, Walk, walk-first, walk-at, walk-piece, walk-room, walk-end}
 use Rattle.laws.proofs.Bytes.{bytes-drop}
 use Rattle.variable.proofs.Direction.{length-directed, directed-append, directed-take, directed-drop}
 use Rattle.variable.proofs.Padded.{word-whole}
@@ -68,3 +68,20 @@ module _ {l : List ℕ} {q m : ℕ} {d : Bool} {out₀ : List ℕ} {at : ℕ} {o
       none : (d : Bool) → directed d [] ≡ []
       none true = refl
       none false = refl
+
+-- two runs, one after the other
+pub copy-two : (l : List ℕ) (q m w : ℕ) (d : Bool) (out₀ : List ℕ) (at : ℕ) (out out′ : List ℕ) → w ≤ m → q + m ≤ length l
+    → out ≡ sets out₀ at (directed d (take w (drop q l))) → out′ ≡ sets out (at + w) (directed d (take (m - w) (drop (q + w) l)))
+    → out′ ≡ sets out₀ at (directed d (take m (drop q l)))
+copy-two l q m w d out₀ at out out′ h inside e f =
+    f ∙ ap (λ (z : List ℕ). sets z (at + w) (directed d (take (m - w) (drop (q + w) l)))) e
+    ∙ ap (λ (k : ℕ). sets (sets out₀ at (directed d (take w (drop q l)))) k (directed d (take (m - w) (drop (q + w) l)))) {x = at + w} {y = at + length (directed d (take w (drop q l)))}
+    (omega (arith, length-directed d (take w (drop q l)), length-take-le w (drop q l) (omega (arith, length-drop q l))))
+    ∙ sym (ap (sets out₀ at) whole ∙ sets-append (directed d (take w (drop q l))) (directed d (take (m - w) (drop (q + w) l))) out₀ at)
+  where
+    whole : directed d (take m (drop q l)) ≡ directed d (take w (drop q l)) ++ directed d (take (m - w) (drop (q + w) l))
+    whole =
+        ap (λ (k : ℕ). directed d (take k (drop q l))) {x = m} {y = w + (m - w)} (omega arith)
+        ∙ ap (directed d) (take-add w (m - w) (drop q l))
+        ∙ directed-append d (take w (drop q l)) (take (m - w) (drop w (drop q l)))
+        ∙ ap (λ (z : List ℕ). directed d (take w (drop q l)) ++ directed d (take (m - w) z)) (drop-drop w q l)

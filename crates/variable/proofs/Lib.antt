@@ -3,3 +3,4 @@ pub mod Direction
 pub mod Padded
 pub mod Copying
 pub mod Padding
+pub mod Reading

@@ -1,17 +1,30 @@
 -- The walk over a block's padding: up to here all is zero. Assumes nothing.
 use Prim.Native.Nat.{ℕ, zero, suc, _+_, _-_, _<_, _≤_}
 use mathlib.Core.Path.{_≡_, refl, sym, ap, _∙_}
-use mathlib.Core.Bool.{cond}
+use mathlib.Core.Bool.{Bool, true, false, cond}
 use mathlib.Core.List.{List, [], _∷_}
 use native.Mathlib.Nat.{sub-eq-zero-of-le}
 use native.Mathlib.Numerals.{add-one}
 use native.Mathlib.Omega.{arith}
 use lib.Dec.{eqb}
-use lib.ListN.{length, getD, take, drop, length-drop}
+use lib.ListN.{length, getD, take, drop, length-take, length-drop}
 use lib.Seq.{drop-cons, length-take-le}
 use borrow.Author.Tests.{eq-eqb, ne-eqb}
 use Rattle.format.specs.Read.{fromBad}
 
+few : (n : ℕ) (l : List ℕ) → fromBad (take n l) ≤ n
+few zero l = omega arith
+few (suc n) [] = omega arith
+few (suc n) (x ∷ l) = go (eqb x 0) (few n l)
+  where
+    go : (b : Bool) → fromBad (take n l) ≤ n → cond b (fromBad (take n l)) (suc (length (take n l))) ≤ suc n
+    go true h = omega arith
+    go false h = omega (arith, length-take n l)
+
+pub bad-few : (r n : ℕ) (l : List ℕ) → r ≡ fromBad (take n l) → r ≤ n
+bad-few r n l e = omega (arith, few n l)
+
+-- from `from` to here
 pub record Clear (t : List ℕ) (from to i : ℕ) : Type 0 where
   pub low : from ≤ i
   pub high : i ≤ to

@@ -4,11 +4,10 @@ ghost use mathlib.Core.Path.{_≡_};
 ghost use mathlib.Core.List.{_∷_};
 ghost use Prim.Native.Nat.{_+_, _-_, _<_, _≤_};
 ghost use lib.ListN.{length, take, drop};
-ghost use Rattle.format.specs.declared.RowFault.the-variants.{Cut};
 ghost use Rattle.format.specs.Limits.{maxSlot};
 ghost use Rattle.format.specs.Field.{directed};
-ghost use Rattle.format.specs.Read.{fault, fieldRead, fromBad, readBlock, readVariable};
-ghost use Rattle.variable.specs.Counted.{blocksRead, counted};
+ghost use Rattle.format.specs.Read.{fieldRead, fromBad, readVariable};
+ghost use Rattle.variable.specs.Counted.{blocksRead, counted, Ended};
 use crate::byte::{byte_at, wide};
 use crate::block::{block_size, BLOCK_CONTINUATION, EMPTY_SENTINEL, NON_EMPTY_SENTINEL};
 use format::{null_sentinel, FieldRead, RowFault, SortOptions, MAX_SLOT};
@@ -30,29 +29,28 @@ fn unpadded(row: &[u8], from: usize, to: usize, descending: bool) -> usize
     0
 }
 
-// A last block at a place, with `count` bytes of the value before it.
-fn last_block(row: &[u8], at: usize, size: usize, end: u8, count: usize, descending: bool) -> FieldRead
+// A last block at a place, whose end byte says how many data bytes it has, with `count` bytes of the value before it.
+fn last_block(row: &[u8], at: usize, size: usize, end: usize, count: usize, descending: bool) -> FieldRead
     requires { ⌜ at + size < length (now row) ⌝ }
     requires { ⌜ (end ≡ 255 → ⊥) ⌝ }
-    requires { ⌜ count ≤ maxSlot ⌝ }
-    ensures { λ r. ⌜ r ≡ counted (length (now (row .entry))) count (readBlock size maxSlot count (take size (drop at (directed descending (now (row .entry))))) end (drop (at + size + 1) (directed descending (now (row .entry)))) (fault Cut 0)) ⌝ }
+    requires { ⌜ (end < 256) × (count ≤ maxSlot) ⌝ }
+    ensures { λ r. ⌜ Ended (directed descending (now (row .entry))) (length (now (row .entry))) at size end count r ⌝ }
 {
     let left = row.len() - at - size;
-    let used = wide(end);
-    if used < 1 {
+    if end < 1 {
         return FieldRead::Fault(RowFault::EndByte, left);
     }
-    if size < used {
+    if size < end {
         return FieldRead::Fault(RowFault::EndByte, left);
     }
-    let bad = unpadded(row, at + used, at + size, descending);
+    let bad = unpadded(row, at + end, at + size, descending);
     if 0 < bad {
         return FieldRead::Fault(RowFault::Padding, bad + left);
     }
-    if MAX_SLOT < count + used {
+    if MAX_SLOT < count + end {
         return FieldRead::Fault(RowFault::TooLong, left);
     }
-    FieldRead::Value(at + size + 1, count + used)
+    FieldRead::Value(at + size + 1, count + end)
 }
 
 // The blocks of a field, after its lead byte.
@@ -71,7 +69,7 @@ fn count_blocks(row: &[u8], descending: bool) -> FieldRead
         }
         let end = byte_at(row, at + size, descending);
         if end != BLOCK_CONTINUATION {
-            return last_block(row, at, size, end, count, descending);
+            return last_block(row, at, size, wide(end), count, descending);
         }
         if MAX_SLOT < count + size {
             return FieldRead::Fault(RowFault::TooLong, len - at - size);
