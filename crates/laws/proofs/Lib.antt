@@ -1,4 +1,6 @@
 -- Theorems about the definitions of crate format.
+pub mod Table
+pub mod Run
 pub mod Append
 pub mod Compare
 pub mod Sep
@@ -8,3 +10,29 @@ pub mod KeyLaws
 pub mod Unkey
 pub mod Stream
 pub mod Lengths
+pub mod Directed
+pub mod Sound
+pub mod Fields
+pub mod RowOrder
+pub mod Parsed
+pub mod ReadBlocks
+pub mod ReadVariable
+pub mod ReadFixed
+pub mod ReadField
+pub mod ReadRow
+pub mod FaultPlace
+pub mod Lists
+pub mod Checks
+pub mod Sheets
+pub mod Places
+pub mod Turned
+pub mod Totals
+pub mod Cleared
+pub mod Room
+pub mod Cuts
+pub mod Unique
+pub mod Accept
+pub mod RowsBack
+pub mod Trips
+pub mod SheetOrder
+pub mod OutBytes

@@ -1,0 +1,51 @@
+// Bits packed in bytes, least bit first: taken out and put in by shifts and masks, counted, and looked at past the last row.
+ghost use mathlib.Core.Path.{_≡_};
+ghost use mathlib.Core.Bool.{cond};
+ghost use Prim.Native.Nat.{_+_, _*_, _/_, _^_, _<_, _≤_};
+ghost use lib.ListN.{length, take};
+ghost use Rattle.format.specs.Sheet.{packed, bit as bitOf, spareSet};
+ghost use Rattle.bits.specs.Ones.{onesIn};
+
+// The bit of row i: bit i mod 8 of byte i div 8.
+pub fn bit(s: &[u8], i: usize) -> bool
+    requires { ⌜ i / 8 < length (now s) ⌝ }
+    ensures { λ r. ⌜ r ≡ bitOf (now (s .entry)) i ⌝ }
+{
+    (s[i / 8] >> (i % 8)) & 1 == 1
+}
+
+// The byte b, of which k bits are put in, with bit k put in.
+pub fn put_bit(b: u8, k: u8, on: bool) -> u8
+    requires { ⌜ k < 8 ⌝ }
+    requires { ⌜ b < 2 ^ k ⌝ }
+    ensures { λ r. ⌜ r ≡ b + cond on (2 ^ k) 0 ⌝ }
+{
+    b | ((on as u8) << k)
+}
+
+// The ones of all bytes: at most eight for each.
+pub fn count_ones(s: &[u8]) -> usize
+    requires { ⌜ length (now s) ≤ 512 ⌝ }
+    ensures { λ r. ⌜ r ≡ onesIn (now (s .entry)) ⌝ }
+    ensures { λ r. ⌜ r ≤ 8 * length (now (s .entry)) ⌝ }
+{
+    let mut n: usize = 0;
+    let mut i = 0;
+    while i < s.len() {
+        n += u8::count_ones(s[i]) as usize;
+        i += 1;
+    }
+    n
+}
+
+// Whether a bit past row n is set in the packed bits of n rows: those bits are what is left of the last byte above its rows.
+pub fn spare(s: &[u8], n: usize) -> bool
+    requires { ⌜ packed n ≤ length (now s) ⌝ }
+    ensures { λ r. ⌜ r ≡ spareSet (take (packed n) (now (s .entry))) n ⌝ }
+{
+    let k = n % 8;
+    if k == 0 {
+        return false;
+    }
+    s[n / 8] >> k != 0
+}

@@ -1,0 +1,5 @@
+-- Small cases of every definition, computed.
+pub mod ListExamples
+pub mod SheetExamples
+pub mod RowExamples
+pub mod EntryExamples

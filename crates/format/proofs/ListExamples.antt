@@ -1,0 +1,46 @@
+-- The column list, computed: refusals 1 to 5 with their places, in order 5, 2, 1, 3, 4; and what is read. Assumes nothing.
+use Prim.Native.Nat.{ℕ}
+use mathlib.Core.Path.{_≡_, refl}
+use mathlib.Core.Bool.{true, false}
+use mathlib.Core.List.{List, [], _∷_, _++_}
+use lib.ListN.{replicate}
+use Rattle.format.specs.declared.Kind.the-variants.{I32, FixedBinary, Variable}
+use Rattle.format.specs.Columns.{listFault, columns}
+use Rattle.format.specs.Lists.{each, joined}
+use Rattle.format.specs.Numbers.{three, numbersOf}
+use Rattle.format.specs.Entries.{checkListAnswer}
+
+-- n columns of kind 1
+abbrev bools : ℕ → List ℕ
+bools n = joined (replicate n (1 ∷ 0 ∷ []))
+
+pub accepted : (numbersOf (checkListAnswer (4 ∷ 2 ∷ 16 ∷ 3 ∷ [])) ≡ three 0 2 0)
+    × (numbersOf (checkListAnswer (15 ∷ 1 ∷ 0 ∷ 4 ∷ [])) ≡ three 0 1 0)
+    × (numbersOf (checkListAnswer (bools 16)) ≡ three 0 16 0)
+unfolding checkListAnswer listFault columns
+accepted = (refl, refl, refl)
+
+-- 1: empty, no options byte, no second width byte
+pub cut : (numbersOf (checkListAnswer []) ≡ three 1 0 0)
+    × (numbersOf (checkListAnswer (4 ∷ 0 ∷ 4 ∷ [])) ≡ three 1 2 0)
+    × (numbersOf (checkListAnswer (15 ∷ 0 ∷ 1 ∷ [])) ≡ three 1 0 0)
+unfolding checkListAnswer listFault columns
+cut = (refl, refl, refl)
+
+-- 2 stands before 1, 1 before 3, 3 before 4; 5 before all
+pub in-order : (numbersOf (checkListAnswer (0 ∷ [])) ≡ three 2 0 0)
+    × (numbersOf (checkListAnswer (4 ∷ 0 ∷ 17 ∷ [])) ≡ three 2 2 0)
+    × (numbersOf (checkListAnswer (15 ∷ 4 ∷ 1 ∷ [])) ≡ three 1 0 0)
+    × (numbersOf (checkListAnswer (4 ∷ 0 ∷ 15 ∷ 8 ∷ 255 ∷ 255 ∷ [])) ≡ three 3 2 0)
+    × (numbersOf (checkListAnswer (15 ∷ 0 ∷ 1 ∷ 4 ∷ [])) ≡ three 4 0 0)
+    × (numbersOf (checkListAnswer (bools 16 ++ 99 ∷ [])) ≡ three 5 32 0)
+unfolding checkListAnswer listFault columns
+in-order = (refl, refl, refl, refl, refl, refl)
+
+pub read : columns (4 ∷ 2 ∷ 15 ∷ 1 ∷ 2 ∷ 1 ∷ 16 ∷ 3 ∷ [])
+    ≡ record { kind = I32; options = record { descending = false; «nulls_first» = true } }
+    ∷ record { kind = FixedBinary 258; options = record { descending = true; «nulls_first» = false } }
+    ∷ record { kind = Variable; options = record { descending = true; «nulls_first» = true } }
+    ∷ []
+unfolding columns
+read = refl

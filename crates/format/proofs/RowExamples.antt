@@ -1,0 +1,80 @@
+-- Rows, computed: fields of each shape under both options, the order of values, and faults 16 to 23 with how many bytes are left
+-- from the bad byte on. Assumes nothing.
+use Prim.Native.Nat.{ℕ, Ordering·lt as lt, Ordering·gt as gt, Ordering·eq as eq}
+use mathlib.Core.Path.{_≡_, refl}
+use mathlib.Core.Bool.{true, false}
+use mathlib.Core.Option.{none, some}
+use mathlib.Core.List.{List, [], _∷_, _++_}
+use lib.ListN.{length, getD, replicate}
+use Rattle.format.specs.declared.SortOptions.{SortOptions}
+use Rattle.format.specs.declared.Kind.the-variants.{Bool, I16, U16, F16, MonthDayNano, FixedBinary, Variable}
+use Rattle.format.specs.declared.RowFault.the-variants.{Cut, Lead, NullRest, BoolByte, EndByte, Padding, Extra, TooLong}
+use Rattle.format.specs.declared.Check.the-variants.{Pass, Refuse}
+use Rattle.format.specs.declared.Refusal.the-variants.{Row}
+use Rattle.format.specs.Kinds.{shape}
+use Rattle.format.specs.Field.{field, paddedLength}
+use Rattle.format.specs.Value.{slotOrder}
+use Rattle.format.specs.Read.{got, fault, readVariable, readField, rowFault, rowsFault, rowSlots}
+
+-- ascending with nulls first, and descending with nulls last
+abbrev up : SortOptions
+up = record { descending = false; «nulls_first» = true }
+
+abbrev down : SortOptions
+down = record { descending = true; «nulls_first» = false }
+
+-- descending inverts the value bytes, not the 01; the null byte is never inverted
+pub fields : (field (shape I16) up (some (1 ∷ 0 ∷ [])) ≡ 1 ∷ 0x80 ∷ 1 ∷ [])
+    × (field (shape I16) down (some (1 ∷ 0 ∷ [])) ≡ 1 ∷ 0x7f ∷ 0xfe ∷ [])
+    × (field (shape I16) down none ≡ 0xff ∷ 0 ∷ 0 ∷ [])
+    × (field (shape F16) up (some (0 ∷ 0xbc ∷ [])) ≡ 1 ∷ 0x43 ∷ 0xff ∷ [])
+    × (field (shape Bool) down (some (0 ∷ [])) ≡ 1 ∷ 0xff ∷ [])
+    × (field (shape MonthDayNano) up (some (1 ∷ 0 ∷ 0 ∷ 0 ∷ 2 ∷ 0 ∷ 0 ∷ 0 ∷ 3 ∷ 0 ∷ 0 ∷ 0 ∷ 0 ∷ 0 ∷ 0 ∷ 0x80 ∷ [])) ≡ 1 ∷ 0x80 ∷ 0 ∷ 0 ∷ 1 ∷ 0x80 ∷ 0 ∷ 0 ∷ 2 ∷ 0 ∷ 0 ∷ 0 ∷ 0 ∷ 0 ∷ 0 ∷ 0 ∷ 3 ∷ [])
+    × (field (shape (FixedBinary 2)) down (some (7 ∷ 8 ∷ [])) ≡ 1 ∷ 0xf8 ∷ 0xf7 ∷ [])
+    × (field (shape Variable) down none ≡ 0xff ∷ [])
+fields = (refl, refl, refl, refl, refl, refl, refl, refl)
+
+-- the length of a field of variable bytes
+pub lengths : (paddedLength 0 ≡ 1) × (paddedLength 8 ≡ 10) × (paddedLength 9 ≡ 19) × (paddedLength 32 ≡ 37) × (paddedLength 33 ≡ 70) × (paddedLength 65535 ≡ 67588)
+lengths = (refl, refl, refl, refl, refl, refl)
+
+-- numbers by size, -1 below 0; floats by rank, -0 below +0; nulls where the option says, whatever descending says
+pub orders : (slotOrder (shape I16) up (some (0xff ∷ 0xff ∷ [])) (some (0 ∷ 0 ∷ [])) ≡ lt)
+    × (slotOrder (shape U16) up (some (0xff ∷ 0xff ∷ [])) (some (0 ∷ 0 ∷ [])) ≡ gt)
+    × (slotOrder (shape F16) up (some (0 ∷ 0x80 ∷ [])) (some (0 ∷ 0 ∷ [])) ≡ lt)
+    × (slotOrder (shape F16) down (some (0 ∷ 0x80 ∷ [])) (some (0 ∷ 0 ∷ [])) ≡ gt)
+    × (slotOrder (shape Variable) up (some (97 ∷ [])) (some (97 ∷ 0 ∷ [])) ≡ lt)
+    × (slotOrder (shape Variable) up none (some []) ≡ lt)
+    × (slotOrder (shape Variable) down none (some []) ≡ gt)
+    × (slotOrder (shape Variable) down none none ≡ eq)
+orders = (refl, refl, refl, refl, refl, refl, refl, refl)
+
+-- a fixed field: lead byte 16, 17; rest 16, 18, 19
+pub fixed-faults : (readField (shape I16) up [] ≡ fault Cut 0)
+    × (readField (shape I16) up (0xff ∷ 0 ∷ []) ≡ fault Lead 2)
+    × (readField (shape I16) up (0 ∷ 0 ∷ []) ≡ fault Cut 0)
+    × (readField (shape I16) up (0 ∷ 0 ∷ 5 ∷ 6 ∷ []) ≡ fault NullRest 2)
+    × (readField (shape Bool) down (1 ∷ 0xfd ∷ 6 ∷ []) ≡ fault BoolByte 2)
+    × (readField (shape Bool) down (1 ∷ 0xfe ∷ 6 ∷ []) ≡ got (some (1 ∷ [])) (6 ∷ []))
+    × (readField (shape I16) up (0 ∷ 0 ∷ 0 ∷ 6 ∷ []) ≡ got none (6 ∷ []))
+fixed-faults = (refl, refl, refl, refl, refl, refl, refl)
+
+-- a variable field: lead byte 16, 17; each block 16, 20, 21, 23 (here with a limit of 9 bytes)
+pub variable-faults : (readField (shape Variable) up (3 ∷ []) ≡ fault Lead 1)
+    × (readField (shape Variable) up (2 ∷ []) ≡ fault Cut 0)
+    × (readField (shape Variable) down (0xfd ∷ 1 ∷ []) ≡ fault Cut 0)
+    × (readField (shape Variable) up (2 ∷ 97 ∷ replicate 7 0 ++ 9 ∷ 5 ∷ []) ≡ fault EndByte 2)
+    × (readField (shape Variable) up (2 ∷ 97 ∷ replicate 6 0 ++ 1 ∷ 1 ∷ []) ≡ fault Padding 2)
+    × (readVariable 9 up (2 ∷ replicate 8 97 ++ 255 ∷ replicate 8 97 ++ 8 ∷ []) ≡ fault TooLong 1)
+    × (readVariable 7 up (2 ∷ replicate 8 97 ++ 255 ∷ []) ≡ fault TooLong 1)
+    × (readVariable 9 up (2 ∷ replicate 8 97 ++ 255 ∷ 98 ∷ replicate 7 0 ++ 1 ∷ 5 ∷ []) ≡ got (some (replicate 8 97 ++ 98 ∷ [])) (5 ∷ []))
+    × (readField (shape Variable) down (0xfe ∷ 5 ∷ []) ≡ got (some []) (5 ∷ []))
+    × (readField (shape Variable) down (0xff ∷ 5 ∷ []) ≡ got none (5 ∷ []))
+variable-faults = (refl, refl, refl, refl, refl, refl, refl, refl, refl, refl)
+
+-- the first fault in row order, then column order; 22 after the last field
+pub row-faults : (rowFault 4 0 (record { kind = Bool; options = up } ∷ []) (1 ∷ 1 ∷ []) ≡ Pass)
+    × (rowFault 4 0 (record { kind = Bool; options = up } ∷ []) (1 ∷ 1 ∷ 0 ∷ []) ≡ Refuse (Row Extra 4 1))
+    × (rowsFault 0 (record { kind = Bool; options = up } ∷ record { kind = Bool; options = up } ∷ []) ((1 ∷ 1 ∷ 9 ∷ 1 ∷ []) ∷ (9 ∷ []) ∷ []) ≡ Refuse (Row Lead 0 1))
+    × (rowSlots (record { kind = Bool; options = up } ∷ record { kind = Variable; options = down } ∷ []) (0 ∷ 0 ∷ 0xfe ∷ []) ≡ none ∷ some [] ∷ [])
+row-faults = (refl, refl, refl, refl)

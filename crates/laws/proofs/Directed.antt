@@ -1,0 +1,41 @@
+-- Directions: what descending does to bytes, and that doing it again undoes it.
+use Prim.Native.Nat.{ℕ, Ordering}
+use mathlib.Core.Path.{_≡_, refl, ap, _∙_}
+use mathlib.Core.Bool.{Bool, true, false, cond}
+use mathlib.Core.List.{List, _++_, map-append}
+use lib.ListN.{length, length-map}
+use Rattle.format.specs.Field.{directed}
+use Rattle.format.specs.Key.{invert}
+use Rattle.format.specs.Lists.{Bytes}
+use Rattle.format.specs.Order.{swap}
+use Rattle.laws.proofs.Bytes.{bytes-invert}
+use Rattle.laws.proofs.Invert.{invert-invert, ranks-invert}
+use Rattle.laws.proofs.Sep.{Ranks}
+
+-- bytes stay bytes, and as many
+pub bytes-directed : (d : Bool) (f : List ℕ) → Bytes f → Bytes (directed d f)
+bytes-directed true f b = bytes-invert f
+bytes-directed false f b = b
+
+pub length-directed : (d : Bool) (f : List ℕ) → length (directed d f) ≡ length f
+length-directed true f = length-map f invert
+length-directed false f = refl
+
+-- part by part
+pub directed-append : (d : Bool) (f g : List ℕ) → directed d (f ++ g) ≡ directed d f ++ directed d g
+directed-append true f g = map-append invert f g
+directed-append false f g = refl
+
+-- twice is once back
+pub directed-twice : (d : Bool) (f : List ℕ) → Bytes f → directed d (directed d f) ≡ f
+directed-twice true f b = invert-invert f b
+directed-twice false f b = refl
+
+-- a field in front of other bytes, turned back
+pub directed-back : (d : Bool) (f t : List ℕ) → Bytes f → directed d (directed d f ++ t) ≡ f ++ directed d t
+directed-back d f t b = directed-append d (directed d f) t ∙ ap (λ (z : List ℕ). z ++ directed d t) (directed-twice d f b)
+
+-- descending turns the order round
+pub ranks-directed : (d : Bool) {o : Ordering} {f g : List ℕ} → Bytes f → Bytes g → Ranks o f g → Ranks (cond d (swap o) o) (directed d f) (directed d g)
+ranks-directed true bf bg k = ranks-invert bf bg k
+ranks-directed false bf bg k = k
