@@ -8,11 +8,11 @@ use native.Mathlib.Omega.{arith}
 use lib.ListN.{length, getD, set, take, drop, length-drop}
 use lib.Seq.{sets, drop-cons, drop-drop, take-add, length-take-le}
 use Rattle.format.specs.Field.{directed}
-use Rattle.format.specs.Lists.{Bytes, low, lowBytes}
+use Rattle.format.specs.Lists.{low, lowBytes}
 use Rattle.laws.proofs.Append.{sets-append, Walk, walk-first, walk-at, walk-piece, walk-room, walk-end}
-use Rattle.laws.proofs.Bytes.{bytes-drop}
-use Rattle.variable.proofs.Direction.{length-directed, directed-append, directed-take, directed-drop}
-use Rattle.variable.proofs.Padded.{word-whole}
+use Rattle.laws.proofs.Directed.{length-directed, directed-append}
+use Rattle.number.proofs.Words.{read-back}
+use Rattle.variable.proofs.Direction.{directed-take, directed-drop}
 
 -- i of m bytes from place q on are copied
 pub record Copied (l : List ℕ) (q m : ℕ) (d : Bool) (out₀ : List ℕ) (at : ℕ) (out : List ℕ) (i : ℕ) : Type 0 where
@@ -48,11 +48,11 @@ module _ {l : List ℕ} {q m : ℕ} {d : Bool} {out₀ : List ℕ} {at : ℕ} {o
   }
 
   -- a word, read, turned and stored
-  pub copy-word : (w x y : ℕ) → i + w ≤ m → q + m ≤ length l → Bytes l → x ≡ low (take w (drop (q + i) l)) → lowBytes w y ≡ directed d (lowBytes w x)
+  pub copy-word : (w x y : ℕ) → i + w ≤ m → q + m ≤ length l → ((j : ℕ) → getD l j 0 < 256) → x ≡ low (take w (drop (q + i) l)) → lowBytes w y ≡ directed d (lowBytes w x)
       → Copied l q m d out₀ at (sets out (at + i) (lowBytes w y)) (i + w)
   copy-word w x y h inside b e f =
       copy-piece w (lowBytes w y) h inside
-      (f ∙ ap (λ (k : ℕ). directed d (lowBytes w k)) e ∙ ap (directed d) (word-whole w (drop (q + i) l) (bytes-drop (q + i) l b) (omega (arith, length-drop (q + i) l))))
+      (f ∙ ap (directed d) (read-back w l (q + i) x b (omega arith) e))
 
   -- a byte
   pub copy-byte : (y : ℕ) → i < m → q + m ≤ length l → y ≡ getD (directed d l) (q + i) 0 → Copied l q m d out₀ at (set out (at + i) y) (i + 1)

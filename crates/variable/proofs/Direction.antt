@@ -3,10 +3,10 @@
 use Prim.Native.Nat.{ℕ, zero, suc, _%_, _<_}
 use mathlib.Core.Path.{_≡_, refl, sym, ap, _∙_}
 use mathlib.Core.Bool.{Bool, true, false, cond}
-use mathlib.Core.List.{List, [], _∷_, _++_, map, map-append}
+use mathlib.Core.List.{List, [], _∷_, map}
 use native.Mathlib.Omega.{arith}
 use native.Mathlib.Nat.{mod-eq-of-lt}
-use lib.ListN.{length, getD, take, drop, set, length-map}
+use lib.ListN.{length, getD, take, drop, set}
 use lib.Seq.{sets}
 use Rattle.format.specs.Field.{directed}
 use Rattle.format.specs.Key.{invert}
@@ -15,14 +15,6 @@ use Rattle.format.specs.Lists.{lowBytes}
 -- one byte, inverted under descending
 abbrev pub turn : Bool → ℕ → ℕ
 turn d x = cond d (invert x) x
-
-pub length-directed : (d : Bool) (f : List ℕ) → length (directed d f) ≡ length f
-length-directed true f = length-map f invert
-length-directed false f = refl
-
-pub directed-append : (d : Bool) (f g : List ℕ) → directed d (f ++ g) ≡ directed d f ++ directed d g
-directed-append true f g = map-append invert f g
-directed-append false f g = refl
 
 pub directed-cons : (d : Bool) (x : ℕ) (f : List ℕ) → directed d (x ∷ f) ≡ turn d x ∷ directed d f
 directed-cons true x f = refl

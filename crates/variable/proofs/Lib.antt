@@ -4,3 +4,5 @@ pub mod Padded
 pub mod Copying
 pub mod Padding
 pub mod Reading
+pub mod Counting
+pub mod Lead

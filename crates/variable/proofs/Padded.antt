@@ -5,10 +5,10 @@ use mathlib.Core.List.{List, [], _∷_, _++_}
 use native.Mathlib.Nat.{zero-add, suc-add, sub-zero, suc-sub-suc, pow-succ'}
 use native.Mathlib.Omega.{arith}
 use lib.ListN.{length, getD, take, drop, replicate, length-drop}
-use lib.Seq.{drop-cons, drop-drop, take-nil, length-take-le}
+use lib.Seq.{drop-cons, drop-drop, take-nil}
 use Rattle.format.specs.Field.{block}
 use Rattle.format.specs.Lists.{Bytes, low, lowBytes}
-use Rattle.laws.proofs.Bytes.{bytes-drop, bytes-take}
+use Rattle.laws.proofs.Bytes.{bytes-drop}
 use Rattle.number.proofs.Words.{powers, spelled}
 
 -- the first n of x, and zeros past its end
@@ -63,9 +63,6 @@ low-padded (suc n) (y ∷ x) = ap (λ (k : ℕ). y + 256 * k) (low-padded n x)
 
 pub word-padded : (n : ℕ) (x : List ℕ) → Bytes x → lowBytes n (low (take n x)) ≡ padded n x
 word-padded n x b = spelled n (low (take n x)) (padded n x) (bytes-padded n x b) (length-padded n x) (low-padded n x)
-
-pub word-whole : (n : ℕ) (x : List ℕ) → Bytes x → n ≤ length x → lowBytes n (low (take n x)) ≡ take n x
-word-whole n x b h = spelled n (low (take n x)) (take n x) (bytes-take n x b) (length-take-le n x h) refl
 
 -- a number of so many bytes
 low-fits : (n : ℕ) (x : List ℕ) → Bytes x → length x ≤ n → low x < 256 ^ n

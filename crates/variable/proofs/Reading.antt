@@ -18,9 +18,9 @@ use Rattle.format.specs.declared.FieldRead.the-variants.{Value, Fault}
 use Rattle.format.specs.Limits.{maxSlot}
 use Rattle.format.specs.Field.{directed, blockSize}
 use Rattle.format.specs.Read.{Parsed, got, fault, allZero, fromBad, after, readBlock, readBlocks}
+use Rattle.laws.proofs.Directed.{length-directed}
 use Rattle.laws.proofs.Stream.{blockSize-room}
 use Rattle.variable.specs.Counted.{blocksRead, blockAt, counted, Ended}
-use Rattle.variable.proofs.Direction.{length-directed}
 
 -- what is read from block k on, at a place of t, with c bytes of the value before
 abbrev pub Rest : List ℕ → ℕ → ℕ → ℕ → Parsed (List ℕ)
@@ -41,14 +41,14 @@ rest-cut t at k c h = go (length t - 1 - k)
     go (suc fuel) = rw (le-leb (length (drop at t)) (blockSize k) (omega (arith, length-drop at t)))
 
 pub rest-block : (t : List ℕ) (at k c size end : ℕ) → k < at → size ≡ blockSize k → at + size < length t → end ≡ getD t (at + size) 0
-    → Rest t at k c ≡ blockAt t at size end c (Rest t (at + size + 1) (k + 1) (c + size))
+    → Rest t at k c ≡ blockAt t at size end c (Rest t (at + (size + 1)) (k + 1) (c + size))
 rest-block t at k c size end few is inside e =
     ap (λ (n : ℕ). readBlocks blockSize maxSlot n k c (drop at t)) {x = length t - 1 - k} {y = suc (length t - 1 - (k + 1))} (omega arith)
     ∙ rw (lt-leb (length (drop at t)) (blockSize k) (omega (arith, length-drop at t)))
     (ap (λ (s : ℕ). readBlock s maxSlot c (take s (drop at t)) (getD (drop at t) s 0) (drop (suc s) (drop at t)) (next s (suc k) (drop (suc s) (drop at t)))) (sym is)
     ∙ ap₂ (λ (x : ℕ) (z : List ℕ). readBlock size maxSlot c (take size (drop at t)) x z (next size (suc k) z)) (getD-drop at t size 0 ∙ sym e)
-    (drop-drop (suc size) at t ∙ ap (λ (n : ℕ). drop n t) {x = at + suc size} {y = at + size + 1} (omega arith))
-    ∙ ap (λ (n : ℕ). readBlock size maxSlot c (take size (drop at t)) end (drop (at + size + 1) t) (next size n (drop (at + size + 1) t))) (sym (add-one k)))
+    (drop-drop (suc size) at t ∙ ap (λ (n : ℕ). drop n t) {x = at + suc size} {y = at + (size + 1)} (omega arith))
+    ∙ ap (λ (n : ℕ). readBlock size maxSlot c (take size (drop at t)) end (drop (at + (size + 1)) t) (next size n (drop (at + (size + 1)) t))) (sym (add-one k)))
   where
     next : ℕ → ℕ → List ℕ → Parsed (List ℕ)
     next s n z = readBlocks blockSize maxSlot (length t - 1 - (k + 1)) n (c + s) z
@@ -81,8 +81,8 @@ faulty : (n c : ℕ) (f : RowFault) (l k : ℕ) (m : Parsed (List ℕ)) → l �
 faulty n c f l k m h e = ap (Fault f) h ∙ sym (ap (counted n c) e)
 
 module _ (t : List ℕ) (n at size end c : ℕ) (long : length t ≡ n) (inside : at + size < n) (last : end ≡ 255 → ⊥) where
-  left : n - at - size ≡ suc (length (drop (at + size + 1) t))
-  left = omega (arith, length-drop (at + size + 1) t)
+  left : n - at - size ≡ suc (length (drop (at + (size + 1)) t))
+  left = omega (arith, length-drop (at + (size + 1)) t)
 
   -- no data, or more than the block holds
   pub ended-none : end < 1 → Ended t n at size end c (Fault EndByte (n - at - size))
@@ -99,8 +99,8 @@ module _ (t : List ℕ) (n at size end c : ℕ) (long : length t ≡ n) (inside 
 
     ended : (more : Parsed (List ℕ)) → blockAt t at size end c more
         ≡ cond (allZero (drop end (take size (drop at t))))
-        (cond (ltb maxSlot (c + end)) (fault TooLong (suc (length (drop (at + size + 1) t)))) (got (take end (take size (drop at t))) (drop (at + size + 1) t)))
-        (fault Padding (fromBad (drop end (take size (drop at t))) + suc (length (drop (at + size + 1) t))))
+        (cond (ltb maxSlot (c + end)) (fault TooLong (suc (length (drop (at + (size + 1)) t)))) (got (take end (take size (drop at t))) (drop (at + (size + 1)) t)))
+        (fault Padding (fromBad (drop end (take size (drop at t))) + suc (length (drop (at + (size + 1)) t))))
     ended more = rw (ne-eqb end 255 last) (rw (le-ltb end 1 o) (rw (le-ltb size end h)))
 
     pub ended-padding : 0 < bad → Ended t n at size end c (Fault Padding (bad + (n - at - size)))
@@ -116,6 +116,6 @@ module _ (t : List ℕ) (n at size end c : ℕ) (long : length t ≡ n) (inside 
 
     pub ended-done : bad ≤ 0 → c + end ≤ maxSlot → Ended t n at size end c (Value (at + size + 1) (c + end))
     ended-done p l more =
-        ap₂ Value {x = at + size + 1} {y = n - length (drop (at + size + 1) t)} (omega (arith, length-drop (at + size + 1) t))
+        ap₂ Value {x = at + size + 1} {y = n - length (drop (at + (size + 1)) t)} (omega (arith, length-drop (at + (size + 1)) t))
         (ap (λ (x : ℕ). c + x) (sym (length-take-le end (take size (drop at t)) (omega (arith, length-take-le size (drop at t) (omega (arith, length-drop at t)))))))
-        ∙ sym (ap (counted n c) {y = got (take end (take size (drop at t))) (drop (at + size + 1) t)} (ended more ∙ rw (clean p) (rw (le-ltb maxSlot (c + end) l))))
+        ∙ sym (ap (counted n c) {y = got (take end (take size (drop at t))) (drop (at + (size + 1)) t)} (ended more ∙ rw (clean p) (rw (le-ltb maxSlot (c + end) l))))

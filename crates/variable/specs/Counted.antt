@@ -16,7 +16,7 @@ blocksRead descending row = readBlocks blockSize maxSlot (length row - 1) 0 0 (d
 
 -- the block at a place of t, with c bytes of the value before it, and what is read after it if more follow
 abbrev pub blockAt : List ℕ → ℕ → ℕ → ℕ → ℕ → Parsed (List ℕ) → Parsed (List ℕ)
-blockAt t at size end c more = readBlock size maxSlot c (take size (drop at t)) end (drop (at + size + 1) t) more
+blockAt t at size end c more = readBlock size maxSlot c (take size (drop at t)) end (drop (at + (size + 1)) t) more
 
 -- of a row of n bytes: the field's length, and the count of the value's bytes, of which c came before
 abbrev pub counted : ℕ → ℕ → Parsed (List ℕ) → FieldRead

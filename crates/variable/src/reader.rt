@@ -33,7 +33,7 @@ fn unpadded(row: &[u8], from: usize, to: usize, descending: bool) -> usize
 fn last_block(row: &[u8], at: usize, size: usize, end: usize, count: usize, descending: bool) -> FieldRead
     requires { ⌜ at + size < length (now row) ⌝ }
     requires { ⌜ (end ≡ 255 → ⊥) ⌝ }
-    requires { ⌜ (end < 256) × (count ≤ maxSlot) ⌝ }
+    requires { ⌜ count ≤ maxSlot ⌝ }
     ensures { λ r. ⌜ Ended (directed descending (now (row .entry))) (length (now (row .entry))) at size end count r ⌝ }
 {
     let left = row.len() - at - size;

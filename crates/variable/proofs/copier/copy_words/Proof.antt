@@ -3,7 +3,6 @@ use Prim.Native.Nat.{_-_, _%_}
 use mathlib.Core.Path.{_≡_, refl, sym, ap, _∙_}
 use native.Mathlib.Omega.{arith}
 use borrow.Author.Needs.{needs}
-use Rattle.laws.proofs.Bytes.{bytes-of}
 use Rattle.variable.proofs.Copying.{Copied, copy-start, copy-word, copy-end}
 use Rattle.variable.proofs.copier.copy_words.Statement.{statement}
 use Rattle.variable.proofs.copier.copy_words.Tie as tie
@@ -44,10 +43,9 @@ loop-again c =
     let L = turn .before .before .before .before in
     let s = L .loop in
     let known = L .before .before in
-    let A = known .before .args in
     (rw (c .before .before .put64 .ensures)
     (copy-word (s .inv .0) 8 (turn .before .before .low64 .result) (turn .directed64 .result) (omega arith) (known .before .pre .1 .0)
-    (bytes-of (A .row .now) (λ i. known .shared-slice-known .given i .fits)) (turn .before .before .low64 .ensures) (turn .directed64 .ensures)),
+    (λ i. known .shared-slice-known .given i .fits) (turn .before .before .low64 .ensures) (turn .directed64 .ensures)),
     omega arith)
 
 same-length : tie.Need-same-length Inv-loop μ-loop

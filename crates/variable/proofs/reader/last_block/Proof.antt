@@ -4,7 +4,7 @@ use native.Mathlib.Omega.{arith}
 use borrow.Author.Needs.{needs}
 use lib.ListN.{drop}
 use Rattle.format.specs.Field.{directed}
-use Rattle.variable.proofs.Direction.{length-directed}
+use Rattle.laws.proofs.Directed.{length-directed}
 use Rattle.variable.proofs.Padding.{bad-few}
 use Rattle.variable.proofs.Reading.{ended-none, ended-over, ended-padding, ended-long, ended-done}
 use Rattle.variable.proofs.reader.last_block.Statement.{statement}

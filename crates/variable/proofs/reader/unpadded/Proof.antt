@@ -4,7 +4,7 @@ use mathlib.Core.Path.{_≡_, refl, sym, ap, _∙_}
 use native.Mathlib.Omega.{arith}
 use borrow.Author.Needs.{needs}
 use Rattle.format.specs.Field.{directed}
-use Rattle.variable.proofs.Direction.{length-directed}
+use Rattle.laws.proofs.Directed.{length-directed}
 use Rattle.variable.proofs.Padding.{Clear, clear-start, clear-more, clear-bad, clear-end}
 use Rattle.variable.proofs.reader.unpadded.Statement.{statement}
 use Rattle.variable.proofs.reader.unpadded.Tie as tie
