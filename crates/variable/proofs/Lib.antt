@@ -6,3 +6,4 @@ pub mod Padding
 pub mod Reading
 pub mod Counting
 pub mod Lead
+pub mod Taking
