@@ -7,3 +7,5 @@ pub mod Reading
 pub mod Counting
 pub mod Lead
 pub mod Taking
+pub mod Even
+pub mod Writing
