@@ -9,3 +9,4 @@ pub mod Lead
 pub mod Taking
 pub mod Even
 pub mod Writing
+pub mod Whole

@@ -6,7 +6,7 @@ use mathlib.Core.List.{List, [], _∷_, _++_, append-nil, append-assoc}
 use native.Mathlib.Nat.{add-zero, sub-zero, sub-eq-zero-of-le}
 use native.Mathlib.Omega.{arith}
 use lib.ListN.{length, take, drop, set, length-append, length-drop}
-use lib.Seq.{sets, set-set, length-take-le, drop-drop}
+use lib.Seq.{sets, set-set, length-take-le, take-all, drop-drop}
 use Rattle.format.specs.Field.{block, directed, paddedLength, variableBytes}
 use Rattle.format.specs.Lists.{Bytes, low, lowBytes}
 use Rattle.laws.proofs.Append.{sets-append, Walk, walk-start, walk-first, walk-at, walk-more, walk-piece, walk-room, walk-end}
@@ -91,10 +91,13 @@ module _ {val : List ℕ} {size : ℕ} {d : Bool} {out₀ : List ℕ} {at : ℕ}
     more-room fits =
         omega (arith, long, walk-room (t .wrote) (directed d (block size (take size (drop i val)) 255)) (directed d (even size (drop (i + size) val))) parted (omega (arith, length-directed d (evenBlocks size val))))
 
-    pub spread-more : Spreading val size d out₀ at (sets out place (directed d (block size (take size (drop i val)) 255))) (place + (size + 1)) (i + size)
-    spread-more = record {
+    pub spread-more : (out′ : List ℕ) → out′ ≡ sets out place (directed d (block size (take (i + size - i) (drop i val)) 255)) → Spreading val size d out₀ at out′ (place + (size + 1)) (i + size)
+    spread-more out′ f = record {
       some-left = omega arith;
-      wrote = walk-piece (size + 1) (directed d (block size (take size (drop i val)) 255)) (directed d (even size (drop (i + size) val))) (t .wrote) parted long;
+      wrote =
+          subst (λ (z : List ℕ). Walk (directed d (evenBlocks size val)) (directed d (even size (drop (i + size) val))) out₀ at z (place + (size + 1)))
+          (sym (f ∙ ap (λ (k : ℕ). sets out place (directed d (block size (take k (drop i val)) 255))) {x = i + size - i} {y = size} (omega arith)))
+          (walk-piece (size + 1) (directed d (block size (take size (drop i val)) 255)) (directed d (even size (drop (i + size) val))) (t .wrote) parted long);
     }
 
   -- the last block
@@ -111,7 +114,9 @@ module _ {val : List ℕ} {size : ℕ} {d : Bool} {out₀ : List ℕ} {at : ℕ}
     last-room fits =
         omega (arith, last, walk-room (t .wrote) (directed d (block size (drop i val) (length val - i))) [] ended (omega (arith, length-directed d (evenBlocks size val))))
 
-    pub spread-end : (place + size + 1 ≡ at + length (evenBlocks size val)) × (sets out place (directed d (block size (drop i val) (length val - i))) ≡ sets out₀ at (directed d (evenBlocks size val)))
-    spread-end =
+    pub spread-end : (out′ : List ℕ) → out′ ≡ sets out place (directed d (block size (take (length val - i) (drop i val)) (length val - i)))
+        → (place + size + 1 ≡ at + length (evenBlocks size val)) × (out′ ≡ sets out₀ at (directed d (evenBlocks size val)))
+    spread-end out′ f =
         let w = walk-end (walk-piece (size + 1) (directed d (block size (drop i val) (length val - i))) [] (t .wrote) ended last) refl in
-        (omega (arith, w .0, length-directed d (evenBlocks size val)), w .1)
+        (omega (arith, w .0, length-directed d (evenBlocks size val)),
+        f ∙ ap (λ (z : List ℕ). sets out place (directed d (block size z (length val - i)))) (take-all (length val - i) (drop i val) (omega (arith, length-drop i val))) ∙ w .1)
