@@ -95,9 +95,8 @@ pub fn hold(judge: &mut Judge) {
 /// The crate writes these rows, and the station the crate's.
 fn hold_rows(judge: &mut Judge, table: &Table, rows: &[&[u8]]) {
     let (bytes, offsets) = crate_side::encode(table);
-    judge.check(match crate_side::cut(&bytes, &offsets) == rows {
-        true => Ok(()),
-        false => Err(format!("the crate: {} for {table}", hex(&bytes))),
+    judge.ensure(crate_side::cut(&bytes, &offsets) == rows, || {
+        format!("the crate: {} for {table}", hex(&bytes))
     });
     judge.table(table);
 }
@@ -118,9 +117,8 @@ fn hold_lengths(judge: &mut Judge) {
         let (rows, offsets) = crate_side::encode(&table);
         let (first, second) = (bytes as u64, bytes as u64 + 1);
         let right = offsets == [0, first, second] && ends.iter().all(|(at, end)| rows[*at] == *end);
-        judge.check(match right {
-            true => Ok(()),
-            false => Err(format!("the crate ends length {length} otherwise")),
+        judge.ensure(right, || {
+            format!("the crate ends length {length} otherwise")
         });
         judge.table(&table);
     }
@@ -141,9 +139,8 @@ fn hold_refusals(judge: &mut Judge) {
 /// The model says these numbers, and the station what the model says.
 fn hold_numbers(judge: &mut Judge, call: Call, said: Numbers) {
     let modelled = numbers(&call.expected().answer);
-    judge.check(match modelled == said {
-        true => Ok(()),
-        false => Err(format!("the model: {modelled:?}, not {said:?}, for {call}")),
+    judge.ensure(modelled == said, || {
+        format!("the model: {modelled:?}, not {said:?}, for {call}")
     });
     judge.call(call);
 }

@@ -2,6 +2,7 @@
 
 use crate::call::{eights, numbers, Call, Entry, Exit, ENTRIES};
 use crate::crate_side;
+use crate::hex::hex_start;
 use crate::model;
 use crate::order::row_order;
 use crate::shrink::{shrunk_call, shrunk_table};
@@ -89,10 +90,10 @@ impl Judge {
         }
     }
 
-    /// Anything else that must hold.
-    pub fn check(&mut self, held: Result<(), String>) {
-        if let Err(fault) = held {
-            self.failed(Failing::Other(fault));
+    /// Anything else that must hold, or else what is wrong.
+    pub fn ensure(&mut self, held: bool, fault: impl FnOnce() -> String) {
+        if !held {
+            self.failed(Failing::Other(fault()));
         }
     }
 
@@ -108,7 +109,7 @@ impl Judge {
         let expected = call.expected();
         self.count(call.entry, &expected);
         let exit = call.performed(&mut self.yard)?;
-        same(&exit, &expected, || {
+        ensure(exit == expected, || {
             format!("document 01: {expected}\n  the station: {exit}")
         })
     }
@@ -154,25 +155,28 @@ impl Judge {
         for i in 0..rows.len().min(PAIRS) {
             for j in [(i + 1) % rows.len(), (7 * i + 3) % rows.len()] {
                 self.tally.pairs += 1;
-                let (bytes, values) = (rows[i].cmp(rows[j]), row_order(table, i, j));
-                same(&station::compare(rows[i], rows[j]), &bytes, || {
+                let order = rows[i].cmp(rows[j]);
+                ensure(station::compare(rows[i], rows[j]) == order, || {
                     format!("rows {i} and {j} do not compare as their bytes")
                 })?;
-                same(&bytes, &values, || {
+                ensure(row_order(table, i, j) == order, || {
                     format!("the bytes of rows {i} and {j} are not in the order of their values")
                 })?;
             }
         }
-        Ok(())
+        match rows[..] {
+            [first, .., last] => self.hold(&Call::compare(first, last)),
+            _ => Ok(()),
+        }
     }
 
     /// Prints what was done; a failure is made small first, and printed in hex. Refusals in `needed`
     /// must all have been seen.
     pub fn finish(mut self, needed: std::ops::Range<usize>) -> ExitCode {
         let unseen: Vec<usize> = needed.filter(|i| self.tally.answers[*i] == 0).collect();
-        if !unseen.is_empty() {
-            self.check(Err(format!("no call was answered with {unseen:?}")));
-        }
+        self.ensure(unseen.is_empty(), || {
+            format!("no call was answered with {unseen:?}")
+        });
         self.print_tally();
         match self.smallest.take() {
             None => {
@@ -219,15 +223,15 @@ impl Judge {
                 let table = shrunk_table(table, |table| self.hold_table(table).is_err());
                 let fault = self.hold_table(&table).err().unwrap_or(first);
                 let (rows, offsets) = crate_side::encode(&table);
-                let rows = crate::hex::hex_start(&rows, 4096);
+                let rows = hex_start(&rows, 4096);
                 format!("  {table}\n  {fault}\n  the crate: rows {rows} offsets {offsets:?}")
             }
         }
     }
 }
 
-fn same<T: PartialEq>(a: &T, b: &T, fault: impl FnOnce() -> String) -> Result<(), String> {
-    match a == b {
+fn ensure(held: bool, fault: impl FnOnce() -> String) -> Result<(), String> {
+    match held {
         true => Ok(()),
         false => Err(fault()),
     }
@@ -235,57 +239,45 @@ fn same<T: PartialEq>(a: &T, b: &T, fault: impl FnOnce() -> String) -> Result<()
 
 /// The model writes what the crate writes.
 fn hold_model(table: &Table, rows: &[u8], offsets: &[u64]) -> Result<(), String> {
-    let (list, sheet) = (table.list(), table.sheet());
-    let room = (rows.len(), offsets.len());
-    let encoded = model::encode(&list, table.rows as u64, &sheet, room.0, room.1)
+    let (list, n, sheet) = (table.list(), table.rows as u64, table.sheet());
+    let encoded = model::encode(&list, n, &sheet, rows.len(), offsets.len())
         .map_err(|numbers| format!("the model refuses what the crate encodes: {numbers:?}"))?;
-    let (modelled, crates) = (
-        (encoded.rows.as_slice(), encoded.offsets.as_slice()),
-        (rows, offsets),
-    );
-    same(&modelled, &crates, || {
+    ensure(encoded.rows == rows && encoded.offsets == offsets, || {
         "the model's rows are not the crate's".to_string()
     })?;
-    same(&encoded.nulls, &table.nulls(), || {
+    ensure(encoded.nulls == table.nulls(), || {
         "the model's null total is off".to_string()
     })
 }
 
 /// The safe bindings: encode, decode to the cleared sheet, encode that again.
 fn hold_bindings(table: &Table, rows: &[u8], offsets: &[u64]) -> Result<(), String> {
-    let (list, n) = (table.list(), table.rows as u64);
+    let (list, n, cleared) = (table.list(), table.rows as u64, table.cleared().sheet());
     let refused = |refusal: station::Refusal| format!("the station refuses: {refusal}");
-    let cleared = table.cleared().sheet();
-    for sheet in [table.sheet(), cleared.clone()] {
-        let encoded = station::encode_to_vec(&list, n, &sheet).map_err(refused)?;
-        let expected = station::Rows {
-            bytes: rows.to_vec(),
-            offsets: offsets.to_vec(),
-            nulls: table.nulls(),
-        };
-        same(&encoded, &expected, || {
-            let rows = crate::hex::hex_start(&encoded.bytes, 4096);
-            format!("the station: rows {rows} offsets {:?}", encoded.offsets)
+    for sheet in [&table.sheet(), &cleared] {
+        let encoded = station::encode_to_vec(&list, n, sheet).map_err(refused)?;
+        let same_rows = encoded.bytes == rows && encoded.offsets == offsets;
+        ensure(same_rows && encoded.nulls == table.nulls(), || {
+            let (rows, offsets) = (hex_start(&encoded.bytes, 4096), &encoded.offsets);
+            let nulls = encoded.nulls;
+            format!("the station: rows {rows} offsets {offsets:?} nulls {nulls}")
         })?;
     }
     let decoded = station::decode_to_vec(&list, n, rows, offsets).map_err(refused)?;
-    same(&decoded, &cleared, || {
-        let sheet = crate::hex::hex_start(&decoded, 4096);
-        format!("the station decodes to {sheet}")
+    ensure(decoded == cleared, || {
+        format!("the station decodes to {}", hex_start(&decoded, 4096))
     })
 }
 
 /// The crate's decoders give the valid slots back and leave no byte of a row.
 fn hold_crate_decoders(table: &Table, rows: &[u8], offsets: &[u64]) -> Result<(), String> {
     let read = crate_side::decode(&table.columns, rows, offsets);
-    let left = read.left.iter().all(|left| *left == 0);
-    same(&left, &true, || {
+    ensure(read.left.iter().all(|left| *left == 0), || {
         "the crate leaves bytes of a row".to_string()
     })?;
     for (c, (read, slots)) in read.slots.iter().zip(&table.slots).enumerate() {
         let values = slots.iter().map(|slot| slot.value());
-        let agree = read.iter().map(Option::as_deref).eq(values);
-        same(&agree, &true, || {
+        ensure(read.iter().map(Option::as_deref).eq(values), || {
             format!("the crate decodes column {c} to other values")
         })?;
     }

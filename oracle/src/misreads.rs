@@ -123,56 +123,49 @@ pub fn hold(judge: &mut Judge) -> usize {
     std::panic::set_hook(Box::new(|_| {}));
     let misreads = misreads();
     for misread in &misreads {
-        judge.check(hold_misread(misread));
+        hold_misread(judge, misread);
     }
     std::panic::set_hook(hook);
-    let unwritten = [
-        hold_unwritten(U8, None, &[0, 0xAA], &[0, 0]),
-        hold_unwritten(
-            VARIABLE,
-            Some(b"a"),
-            &[2, b'a', 0xAA, 0xAA, 0xAA, 0xAA, 0xAA, 0xAA, 0xAA, 1],
-            &[2, b'a', 0, 0, 0, 0, 0, 0, 0, 1],
-        ),
-    ];
-    let count = misreads.len() + unwritten.len();
-    unwritten.into_iter().for_each(|held| judge.check(held));
-    count
+    hold_unwritten(judge, U8, None, &[0, 0xAA], &[0, 0]);
+    hold_unwritten(
+        judge,
+        VARIABLE,
+        Some(b"a"),
+        &[2, b'a', 0xAA, 0xAA, 0xAA, 0xAA, 0xAA, 0xAA, 0xAA, 1],
+        &[2, b'a', 0, 0, 0, 0, 0, 0, 0, 1],
+    );
+    misreads.len() + 2
 }
 
-fn hold_misread(misread: &Misread) -> Result<(), String> {
+fn hold_misread(judge: &mut Judge, misread: &Misread) {
     let Misread { what, row, .. } = misread;
     let column = Column::new(misread.kind, NULLS_FIRST);
     let read = crate_reads(column, row);
     let (list, offsets) = (column.description(), [0, row.len() as u64]);
     let station = station::decode(&list, 1, row, &offsets, &mut [0; 64]);
     let refused = station.map_err(|r| [r.number, r.second, r.third]);
-    match read == misread.crate_reads && refused == Err(misread.refused) {
-        true => Ok(()),
-        false => Err(format!(
-            "{what}, row {}: the crate reads {read:?}, the station answers {refused:?}",
-            hex(row)
-        )),
-    }
+    let as_said = read == misread.crate_reads && refused == Err(misread.refused);
+    judge.ensure(as_said, || {
+        let row = hex(row);
+        format!("{what}, row {row}: the crate reads {read:?}, the station answers {refused:?}")
+    });
 }
 
 /// One slot written into a buffer that holds AA: the crate's row and the station's.
 fn hold_unwritten(
+    judge: &mut Judge,
     kind: u8,
     value: Option<&[u8]>,
     crate_row: &[u8],
     station_row: &[u8],
-) -> Result<(), String> {
+) {
     let table = one_slot_each(Column::new(kind, NULLS_FIRST), &[value]);
     let (crate_rows, _) = crate_side::encode_into(&table, 0xAA);
     let mut rows = vec![0xAA; station_row.len()];
     let answer = station::encode(&table.list(), 1, &table.sheet(), &mut rows, &mut [0; 2]);
-    match answer.is_ok() && crate_rows == crate_row && rows == station_row {
-        true => Ok(()),
-        false => Err(format!(
-            "into a buffer of AA: the crate writes {}, the station {}",
-            hex(&crate_rows),
-            hex(&rows)
-        )),
-    }
+    let as_said = answer.is_ok() && crate_rows == crate_row && rows == station_row;
+    judge.ensure(as_said, || {
+        let (crate_rows, rows) = (hex(&crate_rows), hex(&rows));
+        format!("into a buffer of AA: the crate writes {crate_rows}, the station {rows}")
+    });
 }

@@ -188,20 +188,26 @@ fn float_key(value: &[u8]) -> Vec<u8> {
     signed_key(&bits)
 }
 
-/// The value bytes of a fixed kind.
-fn key(column: Column, value: &[u8]) -> Vec<u8> {
+/// A value of a fixed kind to its value bytes, or back, given how a signed number and a float go:
+/// unsigned numbers are reversed both ways, a bool and fixed binary stay as they stand.
+fn turned(
+    column: Column,
+    bytes: &[u8],
+    signed: fn(&[u8]) -> Vec<u8>,
+    float: fn(&[u8]) -> Vec<u8>,
+) -> Vec<u8> {
     match column.kind {
-        2..=5 => signed_key(value),
-        6..=9 => unsigned_key(value),
-        10..=12 => float_key(value),
-        DAY_TIME => each_part(&[4, 4], value, signed_key),
-        MONTH_DAY_NANO => each_part(&[4, 4, 8], value, signed_key),
-        _ => value.to_vec(),
+        2..=5 => signed(bytes),
+        6..=9 => unsigned_key(bytes),
+        10..=12 => float(bytes),
+        DAY_TIME => each_part(&[4, 4], bytes, signed),
+        MONTH_DAY_NANO => each_part(&[4, 4, 8], bytes, signed),
+        _ => bytes.to_vec(),
     }
 }
 
 /// Parts of so many bytes each, each turned by `f`, joined.
-fn each_part(widths: &[usize], bytes: &[u8], f: impl Fn(&[u8]) -> Vec<u8>) -> Vec<u8> {
+fn each_part(widths: &[usize], bytes: &[u8], f: fn(&[u8]) -> Vec<u8>) -> Vec<u8> {
     let mut rest = bytes;
     let mut joined = Vec::new();
     for width in widths {
@@ -257,7 +263,7 @@ fn field(column: Column, slot: Option<&[u8]>) -> Vec<u8> {
             field
         }
         Some(value) => {
-            let mut key = key(column, value);
+            let mut key = turned(column, value, signed_key, float_key);
             if column.descending {
                 invert(&mut key);
             }
@@ -376,7 +382,7 @@ fn read_fixed(column: Column, rest: &mut &[u8]) -> Result<Option<Vec<u8>>, u64> 
     if column.kind == BOOL && key[0] > 1 {
         return Err(19);
     }
-    Ok(Some(unkey(column, &key)))
+    Ok(Some(turned(column, &key, signed_unkey, float_unkey)))
 }
 
 /// The number whose signed key this is.
@@ -391,18 +397,6 @@ fn float_unkey(key: &[u8]) -> Vec<u8> {
     let mut bits = signed_unkey(key);
     invert_below_sign(&mut bits);
     bits
-}
-
-/// The value of a fixed kind whose key this is.
-fn unkey(column: Column, key: &[u8]) -> Vec<u8> {
-    match column.kind {
-        2..=5 => signed_unkey(key),
-        6..=9 => unsigned_key(key),
-        10..=12 => float_unkey(key),
-        DAY_TIME => each_part(&[4, 4], key, signed_unkey),
-        MONTH_DAY_NANO => each_part(&[4, 4, 8], key, signed_unkey),
-        _ => key.to_vec(),
-    }
 }
 
 /// Lead byte 16, 17; each block 16, 20, 21, 23.
