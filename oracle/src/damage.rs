@@ -102,7 +102,7 @@ fn change_number(rng: &mut Rng, number: u64) -> u64 {
         2 => rng.pick(&[0, 1, 8, 4096, 4097, 65_536, 16_777_217]),
         3 => u64::MAX - rng.below(3) as u64,
         4 => number ^ 1 << rng.below(64),
-        _ => rng.next(),
+        _ => rng.word(),
     }
 }
 

@@ -56,6 +56,19 @@ const FIELDS: [Written; 15] = [
     (VARIABLE, 0, None, &[0xFF]),
 ];
 
+/// A length, the bytes of its field, and some places in it with the bytes there.
+type Ended = (usize, usize, &'static [(usize, u8)]);
+
+/// Line 11 of the table, and the lengths among the cases to run.
+const LENGTHS: [Ended; 6] = [
+    (1, 10, &[(9, 1)]),
+    (8, 10, &[(9, 8)]),
+    (9, 19, &[(9, 0xFF), (18, 1)]),
+    (32, 37, &[(36, 8)]),
+    (33, 70, &[(36, 0xFF), (69, 1)]),
+    (65_535, 67_588, &[(67_587, 31)]),
+];
+
 /// Rows of one variable column, nulls first, and what is wrong with them.
 const DAMAGED: [(&[u8], u64); 5] = [
     (&[3], 17),
@@ -101,17 +114,9 @@ fn hold_rows(judge: &mut Judge, table: &Table, rows: &[&[u8]]) {
     judge.table(table);
 }
 
-/// Where a value of some length ends, and with which bytes.
+/// The field of a value of each length takes so many bytes, of which these are as document 01 says.
 fn hold_lengths(judge: &mut Judge) {
-    let places: [(usize, usize, &[(usize, u8)]); 6] = [
-        (1, 10, &[(9, 1)]),
-        (8, 10, &[(9, 8)]),
-        (9, 19, &[(9, 0xFF), (18, 1)]),
-        (32, 37, &[(36, 8)]),
-        (33, 70, &[(36, 0xFF), (69, 1)]),
-        (65_535, 67_588, &[(67_587, 31)]),
-    ];
-    for (length, bytes, ends) in places {
+    for (length, bytes, ends) in LENGTHS {
         let value = vec![b'a'; length];
         let table = one_slot_each(Column::new(VARIABLE, 2), &[Some(&value), None]);
         let (rows, offsets) = crate_side::encode(&table);

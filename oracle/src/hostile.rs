@@ -29,7 +29,7 @@ fn some_list(rng: &mut Rng) -> Vec<u8> {
 /// Any 64-bit number, mostly a small one.
 fn some_count(rng: &mut Rng) -> u64 {
     match rng.below(4) {
-        0 => rng.next(),
+        0 => rng.word(),
         1 => rng.below(5000) as u64,
         _ => rng.below(10) as u64,
     }
@@ -70,18 +70,24 @@ fn noisy(rng: &mut Rng, entry: Entry) -> Call {
     }
 }
 
-/// A call: noise, a good one that was damaged, or a good one.
+/// Something good to damage, mostly small.
+fn some_good(rng: &mut Rng) -> Good {
+    Good::of(&match rng.once_in(50) {
+        true => make::any_table(rng),
+        false => make::small_table(rng),
+    })
+}
+
+/// A call of any entry: noise, or a good one that was damaged.
 pub fn call(rng: &mut Rng) -> Call {
     let entry = rng.pick(&ENTRIES);
-    let damaged = rng.below(4);
     let mut call = match entry {
-        _ if damaged == 0 => noisy(rng, entry),
-        Entry::Encode | Entry::Measure => {
-            let good = Good::of(&make::small_table(rng));
+        Entry::Encode | Entry::Measure if !rng.once_in(4) => {
+            let good = some_good(rng);
             damage::encode(rng, &good)
         }
-        Entry::Decode => {
-            let good = Good::of(&make::small_table(rng));
+        Entry::Decode if !rng.once_in(4) => {
+            let good = some_good(rng);
             damage::decode(rng, &good)
         }
         _ => noisy(rng, entry),

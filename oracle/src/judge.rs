@@ -1,6 +1,6 @@
 //! Holds the station against the crate and the model, counts, and reports the smallest failure.
 
-use crate::call::{eights, numbers, Call, Entry, Exit, ENTRIES};
+use crate::call::{eights, junk, numbers, Call, Entry, Exit, ENTRIES};
 use crate::crate_side;
 use crate::hex::hex_start;
 use crate::model;
@@ -68,7 +68,7 @@ impl Judge {
 
     /// A line on standard error, every few seconds.
     pub fn progress(&mut self, stage: &str, done: usize, all: usize) {
-        if self.shown.elapsed() > Duration::from_secs(2) {
+        if self.shown.elapsed() > Duration::from_secs(5) {
             self.shown = Instant::now();
             let seconds = self.started.elapsed().as_secs();
             let failures = self.failures;
@@ -129,24 +129,24 @@ impl Judge {
         self.tally.rows += table.rows as u64;
         self.tally.row_bytes += rows.len() as u64;
         hold_model(table, &rows, &offsets)?;
+        self.hold_entries(table, &rows, &offsets)?;
         hold_bindings(table, &rows, &offsets)?;
         hold_crate_decoders(table, &rows, &offsets)?;
-        self.hold_entries(table, &rows, &offsets)?;
         self.hold_order(table, &rows, &offsets)
     }
 
-    /// The C entries, each slice fenced, with exact room and with a little more.
+    /// The C entries, each slice fenced, with exact room and with a little more; row bytes past the
+    /// last offset and offsets past index n mean nothing.
     fn hold_entries(&mut self, table: &Table, rows: &[u8], offsets: &[u64]) -> Result<(), String> {
         let (list, sheet, n) = (table.list(), table.sheet(), table.rows as u64);
         let more = table.rows % 3 * 5;
-        let offset_bytes = eights(offsets);
-        let offset_room = offset_bytes.len() + more;
+        let rows = [rows, &junk(more)].concat();
+        let offsets = [eights(offsets), junk(more)].concat();
+        let sheet_room = table.cleared().sheet().len() + more;
         self.hold(&Call::check_list(&list))?;
         self.hold(&Call::measure(&list, n, &sheet))?;
-        let encode = Call::encode(&list, n, &sheet, rows.len() + more, offset_room);
-        self.hold(&encode)?;
-        let sheet_room = table.cleared().sheet().len() + more;
-        self.hold(&Call::decode(&list, n, rows, &offset_bytes, sheet_room))
+        self.hold(&Call::encode(&list, n, &sheet, rows.len(), offsets.len()))?;
+        self.hold(&Call::decode(&list, n, &rows, &offsets, sheet_room))
     }
 
     /// Compare against the order of slices, and that against the order of values.
@@ -193,10 +193,12 @@ impl Judge {
 
     fn print_tally(&self) {
         let tally = &self.tally;
-        println!(
-            "tables {}, rows {}, row bytes {}, pairs compared {}",
-            tally.tables, tally.rows, tally.row_bytes, tally.pairs
-        );
+        if tally.tables > 0 {
+            println!(
+                "accepted sheets {}, rows {}, row bytes {}, pairs of rows compared {}",
+                tally.tables, tally.rows, tally.row_bytes, tally.pairs
+            );
+        }
         let calls = ENTRIES.iter().zip(tally.calls);
         let calls: Vec<String> = calls.map(|(e, n)| format!("{} {n}", e.name())).collect();
         println!("fenced calls: {}", calls.join(", "));

@@ -134,7 +134,7 @@ fn number(rng: &mut Rng, width: usize) -> Vec<u8> {
     let edges = [0, 1, 2, u64::MAX, u64::MAX - 1, top, top - 1, top + 1];
     let number = match rng.once_in(2) {
         true => rng.pick(&edges),
-        false => rng.next(),
+        false => rng.word(),
     };
     number.to_le_bytes()[..width].to_vec()
 }
@@ -160,7 +160,7 @@ fn float(rng: &mut Rng, width: usize) -> Vec<u8> {
     ];
     let bits = match rng.once_in(2) {
         true => rng.pick(&edges) | rng.pick(&[0, sign]),
-        false => rng.next(),
+        false => rng.word(),
     };
     bits.to_le_bytes()[..width].to_vec()
 }

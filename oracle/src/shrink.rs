@@ -1,39 +1,51 @@
 //! From an input that fails to a small one that still does.
 
 use crate::call::Call;
+use crate::columns::VARIABLE;
 use crate::table::Table;
+use std::ops::Range;
+use std::time::{Duration, Instant};
 
-/// How many inputs are tried at the most.
-const TRIES: usize = 20_000;
+/// How long smaller inputs are looked for.
+const PATIENCE: Duration = Duration::from_secs(20);
 
-/// Takes the first smaller input that still fails, again and again.
-fn shrunk<T>(start: T, smaller: impl Fn(&T) -> Vec<T>, mut fails: impl FnMut(&T) -> bool) -> T {
-    let (mut best, mut tries) = (start, 0);
-    while tries < TRIES {
-        let next = smaller(&best).into_iter().find(|candidate| {
-            tries += 1;
-            fails(candidate)
+/// A step to a smaller input.
+type Step<T> = Box<dyn Fn(&mut T)>;
+
+/// Takes the first step after which the input still fails, again and again.
+fn shrunk<T: Clone + PartialEq>(
+    start: T,
+    steps: fn(&T) -> Vec<Step<T>>,
+    mut fails: impl FnMut(&T) -> bool,
+) -> T {
+    let started = Instant::now();
+    let mut best = start;
+    loop {
+        let next = steps(&best).into_iter().find_map(|step| {
+            let mut next = best.clone();
+            step(&mut next);
+            let tried = next != best && started.elapsed() < PATIENCE;
+            (tried && fails(&next)).then_some(next)
         });
         match next {
             Some(next) => best = next,
-            None => break,
+            None => return best,
         }
     }
-    best
 }
 
 /// A small table that still fails.
 pub fn shrunk_table(table: Table, fails: impl FnMut(&Table) -> bool) -> Table {
-    shrunk(table, smaller_tables, fails)
+    shrunk(table, table_steps, fails)
 }
 
 /// A small call that still fails.
 pub fn shrunk_call(call: Call, fails: impl FnMut(&Call) -> bool) -> Call {
-    shrunk(call, smaller_calls, fails)
+    shrunk(call, call_steps, fails)
 }
 
-/// Parts of `len` things to leave out: halves first, single ones last.
-fn parts(len: usize) -> Vec<std::ops::Range<usize>> {
+/// Parts of `len` things to leave out: all first, single ones last.
+fn parts(len: usize) -> Vec<Range<usize>> {
     let mut parts = Vec::new();
     let mut size = len;
     while size > 0 {
@@ -45,85 +57,79 @@ fn parts(len: usize) -> Vec<std::ops::Range<usize>> {
 }
 
 /// Fewer columns, fewer rows, then shorter and simpler values.
-fn smaller_tables(table: &Table) -> Vec<Table> {
-    let mut tables = Vec::new();
+fn table_steps(table: &Table) -> Vec<Step<Table>> {
+    let mut steps: Vec<Step<Table>> = Vec::new();
     for part in parts(table.columns.len()) {
         if part.len() < table.columns.len() {
-            let mut next = table.clone();
-            next.columns.drain(part.clone());
-            next.slots.drain(part);
-            tables.push(next);
+            steps.push(Box::new(move |table| {
+                table.columns.drain(part.clone());
+                table.slots.drain(part.clone());
+            }));
         }
     }
     for part in parts(table.rows) {
-        let mut next = table.clone();
-        next.rows -= part.len();
-        let slots = next.slots.iter_mut();
-        slots.for_each(|slots| drop(slots.drain(part.clone())));
-        tables.push(next);
+        steps.push(Box::new(move |table| {
+            table.rows -= part.len();
+            for slots in &mut table.slots {
+                slots.drain(part.clone());
+            }
+        }));
     }
     if table.rows * table.columns.len() <= 64 {
-        tables.extend(simpler_slots(table));
+        steps.extend(slot_steps(table));
     }
-    tables
+    steps
 }
 
-/// The table with one slot shorter (variable bytes) or with zeros in it.
-fn simpler_slots(table: &Table) -> Vec<Table> {
-    let mut tables = Vec::new();
-    for (c, slots) in table.slots.iter().enumerate() {
-        for (r, slot) in slots.iter().enumerate() {
-            let mut with = |bytes: Vec<u8>| {
-                if bytes != slot.bytes {
-                    let mut next = table.clone();
-                    next.slots[c][r].bytes = bytes;
-                    tables.push(next);
+/// One slot shorter (variable bytes), or with zeros in it.
+fn slot_steps(table: &Table) -> Vec<Step<Table>> {
+    let mut steps: Vec<Step<Table>> = Vec::new();
+    for (c, column) in table.columns.iter().enumerate() {
+        for r in 0..table.rows {
+            let len = table.slots[c][r].bytes.len();
+            if column.kind == VARIABLE {
+                for shorter in [len / 2, len.saturating_sub(1)] {
+                    steps.push(Box::new(move |t| t.slots[c][r].bytes.truncate(shorter)));
                 }
-            };
-            if table.columns[c].width == 0 && table.columns[c].kind == crate::columns::VARIABLE {
-                let len = slot.bytes.len();
-                with(slot.bytes[..len / 2].to_vec());
-                with(slot.bytes[..len.saturating_sub(1)].to_vec());
             }
-            with(vec![0; slot.bytes.len()]);
+            steps.push(Box::new(move |t| t.slots[c][r].bytes.fill(0)));
         }
     }
-    tables
+    steps
 }
 
-/// Fewer rows, fewer bytes read, less room.
-fn smaller_calls(call: &Call) -> Vec<Call> {
-    let mut calls = Vec::new();
-    let mut push = |change: &dyn Fn(&mut Call)| {
-        let mut next = call.clone();
-        change(&mut next);
-        if next != *call {
-            calls.push(next);
-        }
-    };
+/// Fewer rows, fewer bytes read, fewer bits set in them, less room.
+fn call_steps(call: &Call) -> Vec<Step<Call>> {
+    let mut steps: Vec<Step<Call>> = Vec::new();
     for n in [0, 1, call.n / 2, call.n.saturating_sub(1)] {
-        push(&|next| next.n = n.min(next.n));
+        steps.push(Box::new(move |call| call.n = n.min(call.n)));
     }
     for (i, bytes) in call.given.iter().enumerate() {
         for part in parts(bytes.len()) {
-            push(&|next| drop(next.given[i].drain(part.clone())));
+            steps.push(Box::new(move |call| {
+                call.given[i].drain(part.clone());
+            }));
         }
-        for at in 0..bytes.len().min(64) {
-            push(&|next| next.given[i][at] = 0);
+        for (at, byte) in bytes.iter().copied().enumerate().take(64) {
+            for simpler in [0, byte & byte.wrapping_sub(1)] {
+                steps.push(Box::new(move |call| call.given[i][at] = simpler));
+            }
         }
     }
-    for (i, room) in call.lent.iter().enumerate() {
+    for (i, room) in call.lent.iter().copied().enumerate() {
         for less in [0, room / 2, room.saturating_sub(8), room.saturating_sub(1)] {
-            push(&|next| next.lent[i] = less);
+            steps.push(Box::new(move |call| call.lent[i] = less));
         }
     }
-    calls
+    let least = call.answer.min(station::ANSWER_BYTES);
+    steps.push(Box::new(move |call| call.answer = least));
+    steps
 }
 
 #[cfg(test)]
 mod tests {
     use super::*;
-    use crate::columns::{Column, VARIABLE};
+    use crate::columns::Column;
     use crate::make::{self, Nulls};
     use crate::rng::Rng;
 
@@ -143,7 +149,7 @@ mod tests {
     #[test]
     fn a_call_shrinks_to_what_fails() {
         let call = Call::measure(&[5; 90], 1000, &[7; 300]);
-        let small = shrunk_call(call, |call| call.given[1].iter().any(|b| *b == 7));
+        let small = shrunk_call(call, |call| call.given[1].contains(&7));
         assert_eq!((small.n, small.given), (0, vec![vec![], vec![7]]));
     }
 }

@@ -19,7 +19,7 @@ impl Slot {
 }
 
 /// Columns with their slots, as many in each as there are rows.
-#[derive(Clone)]
+#[derive(Clone, PartialEq, Eq)]
 pub struct Table {
     pub rows: usize,
     pub columns: Vec<Column>,

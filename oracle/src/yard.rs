@@ -127,7 +127,7 @@ impl Yard {
         self.turn += 1;
         let pen = &mut self.pens[self.guards.len()];
         // The Thue-Morse sequence has no period, so each slice of a call lies now this way, now that.
-        let (place, guard) = pen.place(len, self.turn.count_ones() % 2 == 0);
+        let (place, guard) = pen.place(len, self.turn.count_ones().is_multiple_of(2));
         pen.part_mut(guard, ZONE).fill(GUARD);
         pen.part_mut(place, len).copy_from_slice(bytes);
         self.guards.push(guard);
@@ -166,9 +166,10 @@ mod tests {
         for turn in 0..8 {
             let lend = yard.lend(&[1, 2, 3]);
             assert_eq!(yard.bytes(lend), [1, 2, 3]);
-            // SAFETY: guard bytes lie on one side of the slice; which one is seen by their value.
+            // SAFETY: a slice at the start of its pen begins on a page and has its guard bytes after
+            // it; one at the end has them before it.
             unsafe {
-                let before = lend.at as usize % PAGE != 0;
+                let before = !(lend.at as usize).is_multiple_of(PAGE);
                 let beside = if before {
                     lend.at.sub(1)
                 } else {

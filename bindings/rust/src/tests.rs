@@ -61,6 +61,7 @@ fn vectors_have_the_right_size() {
     let rows = encode_to_vec(&NAMES, 2, &A_AND_NULL).unwrap();
     assert_eq!(rows.offsets, [0, 10, 11]);
     assert_eq!(rows.iter().map(<[u8]>::len).collect::<Vec<_>>(), [10, 1]);
+    assert_eq!((rows.len(), rows.is_empty()), (2, false));
     let sheet = decode_to_vec(&NAMES, 2, &rows.bytes, &rows.offsets);
     assert_eq!(sheet.unwrap(), A_AND_NULL);
     assert_eq!(decode_to_vec(&[4, 0], 0, &[], &[0]), Ok(vec![]));
