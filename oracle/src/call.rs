@@ -186,10 +186,8 @@ impl Call {
             answer: yard.bytes(answer).to_vec(),
             sign,
         };
-        let kept = given.iter().zip(&self.given);
-        let changed = kept
-            .into_iter()
-            .any(|(lend, before)| yard.bytes(*lend) != before);
+        let mut kept = given.iter().zip(&self.given);
+        let changed = kept.any(|(lend, before)| yard.bytes(*lend) != before);
         yard.take_back()?;
         match changed {
             true => Err("a slice that is only read has changed".to_string()),
@@ -229,7 +227,7 @@ impl fmt::Display for Call {
         let (read, written) = self.entry.arguments();
         write!(f, "{} n {}", self.entry.name(), self.n)?;
         for (name, bytes) in read.iter().zip(&self.given) {
-            write!(f, " {name} {}", hex_start(bytes, 4096))?;
+            write!(f, " {name} {}", hex_start(bytes))?;
         }
         for (name, len) in written.iter().zip(&self.lent) {
             write!(f, " room for {name} {len}")?;
@@ -247,7 +245,7 @@ impl fmt::Display for Exit {
             self.sign
         )?;
         for bytes in &self.lent {
-            write!(f, " lent {}", hex_start(bytes, 256))?;
+            write!(f, " lent {}", hex_start(bytes))?;
         }
         Ok(())
     }

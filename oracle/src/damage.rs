@@ -49,26 +49,16 @@ impl Good {
         Call::decode(&self.list, self.n, &self.rows, &offsets, self.cleared)
     }
 
-    /// Decode with row r in place of its own bytes.
+    /// Decode with other bytes in place of row r, and room for them.
     pub fn decode_with_row(&self, r: usize, row: &[u8]) -> Call {
         let (start, end) = (self.offsets[r] as usize, self.offsets[r + 1] as usize);
         let rows = [&self.rows[..start], row, &self.rows[end..]].concat();
-        let moved = self
-            .offsets
-            .iter()
-            .enumerate()
-            .map(|(i, offset)| match i > r {
-                true => offset + row.len() as u64 - (end - start) as u64,
-                false => *offset,
-            });
-        let offsets = eights(&moved.collect::<Vec<_>>());
-        Call::decode(
-            &self.list,
-            self.n,
-            &rows,
-            &offsets,
-            self.cleared + row.len(),
-        )
+        let mut offsets = self.offsets.clone();
+        for offset in &mut offsets[r + 1..] {
+            *offset = *offset - (end - start) as u64 + row.len() as u64;
+        }
+        let room = self.cleared + row.len();
+        Call::decode(&self.list, self.n, &rows, &eights(&offsets), room)
     }
 
     pub fn row(&self, r: usize) -> &[u8] {

@@ -8,12 +8,13 @@ pub fn hex(bytes: &[u8]) -> String {
     bytes.iter().map(|b| format!("{b:02x}")).collect()
 }
 
-/// The same, cut after `most` bytes.
-pub fn hex_start(bytes: &[u8], most: usize) -> String {
-    match bytes.get(..most) {
-        Some(start) if start.len() < bytes.len() => {
-            format!("{}.. ({} bytes)", hex(start), bytes.len())
-        }
-        _ => hex(bytes),
+/// The most bytes that a report prints.
+const MOST: usize = 4096;
+
+/// The same, cut where it gets long.
+pub fn hex_start(bytes: &[u8]) -> String {
+    match bytes.len() {
+        0..=MOST => hex(bytes),
+        len => format!("{}.. ({len} bytes)", hex(&bytes[..MOST])),
     }
 }

@@ -225,7 +225,7 @@ impl Judge {
                 let table = shrunk_table(table, |table| self.hold_table(table).is_err());
                 let fault = self.hold_table(&table).err().unwrap_or(first);
                 let (rows, offsets) = crate_side::encode(&table);
-                let rows = hex_start(&rows, 4096);
+                let rows = hex_start(&rows);
                 format!("  {table}\n  {fault}\n  the crate: rows {rows} offsets {offsets:?}")
             }
         }
@@ -260,14 +260,14 @@ fn hold_bindings(table: &Table, rows: &[u8], offsets: &[u64]) -> Result<(), Stri
         let encoded = station::encode_to_vec(&list, n, sheet).map_err(refused)?;
         let same_rows = encoded.bytes == rows && encoded.offsets == offsets;
         ensure(same_rows && encoded.nulls == table.nulls(), || {
-            let (rows, offsets) = (hex_start(&encoded.bytes, 4096), &encoded.offsets);
+            let (rows, offsets) = (hex_start(&encoded.bytes), &encoded.offsets);
             let nulls = encoded.nulls;
             format!("the station: rows {rows} offsets {offsets:?} nulls {nulls}")
         })?;
     }
     let decoded = station::decode_to_vec(&list, n, rows, offsets).map_err(refused)?;
     ensure(decoded == cleared, || {
-        format!("the station decodes to {}", hex_start(&decoded, 4096))
+        format!("the station decodes to {}", hex_start(&decoded))
     })
 }
 

@@ -90,13 +90,7 @@ fn push_values(sheet: &mut Vec<u8>, column: Column, slots: &[Slot]) {
 
 impl fmt::Display for Table {
     fn fmt(&self, f: &mut fmt::Formatter<'_>) -> fmt::Result {
-        let (list, sheet) = (self.list(), self.sheet());
-        write!(
-            f,
-            "list {} n {} sheet {}",
-            hex_start(&list, 64),
-            self.rows,
-            hex_start(&sheet, 4096)
-        )
+        let (list, sheet) = (hex_start(&self.list()), hex_start(&self.sheet()));
+        write!(f, "list {list} n {} sheet {sheet}", self.rows)
     }
 }
