@@ -1,0 +1,6 @@
+-- The laws that the proofs of the walk cite.
+pub mod Falls
+pub mod Taken
+pub mod Turns
+pub mod RowNulls
+pub mod Framing
