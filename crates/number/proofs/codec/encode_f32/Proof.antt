@@ -1,0 +1,15 @@
+-- `number::codec::encode_f32` meets its contract: the law of the width. Assumes nothing.
+use borrow.Author.Needs.{needs}
+use mir.Syntax.{w32}
+use Rattle.number.proofs.Codecs.{encode-f}
+use Rattle.number.proofs.codec.encode_f32.Statement.{statement}
+use Rattle.number.proofs.codec.encode_f32.Tie as tie
+
+pub encode-f32-spec : {M : Type 1} → statement M
+encode-f32-spec =
+    tie.close
+    (tie.spec (λ c κs. search needs) (λ c κs. search needs) (λ c κs. search needs)
+    (λ c.
+    let start = c .before .before .before in
+    let fold = c .before .fold32 in
+    encode-f w32 (start .args .x) _ _ (fold .result) (start .fits .x) (fold .ok) (c .before .before .signed32 .ensures) (fold .ensures) (c .encode-i32 .ensures)))

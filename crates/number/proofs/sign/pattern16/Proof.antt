@@ -1,0 +1,15 @@
+-- `number::sign::pattern16` meets its contract: by the sign. Assumes nothing.
+use mir.Syntax.{w16}
+use Rattle.number.proofs.Signed.{low-cast, low-is, high-cast, high-below, high-is}
+use Rattle.number.proofs.sign.pattern16.Statement.{statement}
+use Rattle.number.proofs.sign.pattern16.Tie as tie
+
+pub pattern16-spec : {M : Type 1} → statement M
+pattern16-spec =
+    tie.close
+    (tie.spec
+    (λ c. low-cast w16 (c .before .fits .s) (c .if1 .taken))
+    (λ c. high-cast w16 (c .before .fits .s) (c .if1 .left))
+    (λ c. high-below w16 (c .before .fits .s) (c .if1 .left))
+    (λ c. low-is w16 (c .before .fits .s) (c .if1 .taken))
+    (λ c. high-is w16 (c .before .fits .s) (c .if1 .left)))

@@ -1,0 +1,8 @@
+-- Laws of the walks over a variable field.
+pub mod Direction
+pub mod Padded
+pub mod Copying
+pub mod Padding
+pub mod Reading
+pub mod Counting
+pub mod Lead
