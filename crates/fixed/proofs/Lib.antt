@@ -1,0 +1,7 @@
+-- What the proofs of the functions share.
+pub mod Writing
+pub mod Words
+pub mod Scan
+pub mod Reading
+pub mod Parts
+pub mod Arms
