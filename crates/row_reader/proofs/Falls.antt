@@ -6,7 +6,6 @@ use native.Mathlib.Numerals.{add-one}
 use native.Mathlib.Omega.{arith}
 use lib.ListN.{length, getD}
 use borrow.Author.Tests.{lt-ltb, le-ltb, eq-eqb, ne-eqb}
-use Rattle.format.specs.declared.Check.{Check}
 use Rattle.format.specs.declared.Check.the-variants.{Pass, Refuse}
 use Rattle.format.specs.declared.Refusal.the-variants.{ManyBytes, OffsetRoom, Offsets}
 use Rattle.format.specs.Limits.{maxTotal}

@@ -3,4 +3,6 @@ pub mod Falls
 pub mod Taken
 pub mod Turns
 pub mod RowNulls
-pub mod Framing
+pub mod Arms
+pub mod Columns
+pub mod Batches

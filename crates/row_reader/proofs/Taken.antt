@@ -11,7 +11,7 @@ use Rattle.format.specs.declared.FieldRead.{FieldRead}
 use Rattle.format.specs.declared.FieldRead.the-variants.{Null, Value, Fault}
 use Rattle.format.specs.Field.{field}
 use Rattle.format.specs.Fits.{SlotFits}
-use Rattle.format.specs.Kinds.{Fixed, bool, plain, number, integer, float, parts, Shape, fixed, variable, Slot, columnShape}
+use Rattle.format.specs.Kinds.{bool, plain, number, integer, float, parts, Shape, fixed, variable, Slot, columnShape}
 use Rattle.format.specs.Limits.{maxSlot}
 use Rattle.format.specs.Lists.{Bytes}
 use Rattle.format.specs.Read.{Parsed, got, fault, fieldCheck, fieldRead, leftAfter, readField, rowFault, rowSlots, slotRead}

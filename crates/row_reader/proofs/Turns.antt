@@ -1,6 +1,6 @@
 -- The loops of `check_fields`: what holds at each head, and what each way on gives. Assumes nothing.
 use Prim.Native.Nat.{ℕ, zero, suc, _+_, _*_, _<_, _≤_}
-use mathlib.Core.Path.{_≡_, refl, ap, ap₂, sym, subst, _∙_}
+use mathlib.Core.Path.{_≡_, refl, ap, sym, subst, _∙_}
 use mathlib.Core.List.{List, [], _∷_, map}
 use native.Mathlib.Numerals.{add-one}
 use native.Mathlib.Omega.{arith}
@@ -19,11 +19,9 @@ use Rattle.format.specs.Limits.{maxColumns, maxRows, maxSlot}
 use Rattle.format.specs.Lists.{each, sum}
 use Rattle.format.specs.Read.{Parsed, fault, fieldCheck, readField, rowFault, rowSlots, rowsFault}
 use Rattle.format.specs.Sheet.{layout, nullsIn}
-use Rattle.format.specs.Entries.{rowsSlots}
 use Rattle.laws.proofs.Checks.{refuse-pass}
 use Rattle.laws.proofs.Room.{added, rowAdded}
 use Rattle.row_reader.specs.Walk.{Finds, dataBytes, mostData}
-use Rattle.row_reader.specs.declared.Walked.{Walked}
 use Rattle.row_reader.proofs.Taken.{Took, past-fault, past-added, past-nulls, added-small, null-once}
 use Rattle.row_reader.proofs.RowNulls.{rows-nulls}
 
@@ -188,8 +186,8 @@ module _ {cols : List Column} {f : ℕ → List ℕ} {n bytes₀ nulls₀ r : �
   passed l m =
       let w = whole u l m in
       let k = first-left (λ rows. (rowsFault r cols rows ≡ rowsFault 0 cols (each 0 n f))
-        × (bytes₀ + dataBytes cols rows ≡ dataBytes cols (each 0 n f)) × (nulls₀ + nullSlots cols rows ≡ nullSlots cols (each 0 n f)))
-        (t .says, t .adds, t .empty) in
+      × (bytes₀ + dataBytes cols rows ≡ dataBytes cols (each 0 n f)) × (nulls₀ + nullSlots cols rows ≡ nullSlots cols (each 0 n f)))
+      (t .says, t .adds, t .empty) in
       record {
         left = k .0;
         counts = omega (arith, k .1, t .counts);

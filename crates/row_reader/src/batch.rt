@@ -1,14 +1,14 @@
 // The check of a batch.
-ghost use mathlib.Core.Path.{_≡_};
 ghost use Prim.Native.Nat.{_≤_};
 ghost use Rattle.format.specs.Limits.{maxRows};
 ghost use Rattle.format.specs.Schemas.{Limited, colsOf};
 ghost use Rattle.row_reader.specs.Walk.{Checks};
+use crate::Checked;
 use crate::offsets::check_offsets;
 use crate::room::frames;
 use crate::walk::check_fields;
-use crate::Checked;
-use format::{Check, Schema};
+use format::Check;
+use format::Schema;
 
 // The offsets, then the rows; and what a decoder asks of rows that pass.
 pub fn check_rows(schema: Schema, n: usize, rows: &[u8], offsets: &[u64]) -> Checked
@@ -18,9 +18,17 @@ pub fn check_rows(schema: Schema, n: usize, rows: &[u8], offsets: &[u64]) -> Che
 {
     let check = check_offsets(n, rows, offsets);
     if let Check::Refuse(refusal) = check {
-        return Checked { check: Check::Refuse(refusal), bytes: 0, nulls: 0 };
+        return Checked {
+            check: Check::Refuse(refusal),
+            bytes: 0,
+            nulls: 0,
+        };
     }
     let walked = check_fields(schema, n, rows, offsets);
     let found = walked.check;
-    Checked { check: found, bytes: frames(schema, n) + walked.bytes, nulls: walked.nulls }
+    Checked {
+        check: found,
+        bytes: frames(schema, n) + walked.bytes,
+        nulls: walked.nulls,
+    }
 }

@@ -3,7 +3,9 @@ ghost use mathlib.Core.Path.{_≡_};
 ghost use Prim.Native.Nat.{_≤_};
 ghost use Rattle.format.specs.Limits.{maxRows};
 ghost use Rattle.format.specs.Entries.{offsetsFault};
-use format::{Check, Refusal, MAX_TOTAL};
+use format::Check;
+use format::MAX_TOTAL;
+use format::Refusal;
 
 // 14, 15 (first, falling in order, last), 12: the first of these that the offsets break.
 pub fn check_offsets(n: usize, rows: &[u8], offsets: &[u64]) -> Check

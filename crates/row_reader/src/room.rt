@@ -9,7 +9,9 @@ ghost use Rattle.format.specs.Schemas.{Limited, colsOf};
 ghost use Rattle.format.specs.Sheet.{layout, layoutFor};
 ghost use Rattle.laws.proofs.Room.{frame};
 ghost use Rattle.row_reader.specs.Walk.{widestFrame};
-use format::{width, Kind, Schema};
+use format::Kind;
+use format::Schema;
+use format::width;
 
 // Of a column: validity, and the packed bits, the values or the ends.
 fn frame_bytes(kind: Kind, n: usize) -> usize

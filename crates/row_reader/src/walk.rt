@@ -2,22 +2,29 @@
 ghost use mathlib.Core.Path.{_≡_};
 ghost use Prim.Native.Nat.{_≤_};
 ghost use Rattle.format.specs.declared.Check.the-variants.{Pass};
-ghost use Rattle.format.specs.Kinds.{Slot, shape};
+ghost use Rattle.format.specs.Kinds.{Slot};
 ghost use Rattle.format.specs.Limits.{maxRows};
 ghost use Rattle.format.specs.Schemas.{Limited, colsOf};
-ghost use Rattle.format.specs.Sheet.{layoutFor};
+ghost use Rattle.format.specs.Sheet.{layout};
 ghost use Rattle.format.specs.Entries.{cutRows, offsetsFault};
 ghost use Rattle.laws.proofs.Cleared.{slotLength};
 ghost use Rattle.laws.proofs.Room.{added};
 ghost use Rattle.row_reader.specs.Walk.{Finds};
-use crate::field::read_field;
 use crate::Walked;
-use format::{Check, FieldRead, Kind, Refusal, RowFault, Schema};
+use crate::field::read_field;
+use format::Check;
+use format::Column;
+use format::FieldRead;
+use format::Kind;
+use format::Refusal;
+use format::RowFault;
+use format::Schema;
 
 // The bytes that a value of so many bytes adds to its column: its own in a variable column, none in a fixed one.
-fn added_bytes(kind: Kind, value: usize) -> usize
-    ensures { λ r. ⌜ ((s : Slot) → slotLength s ≡ value → r ≡ added (layoutFor (shape kind)) s) ⌝ }
+fn added_bytes(column: Column, value: usize) -> usize
+    ensures { λ r. ⌜ ((s : Slot) → slotLength s ≡ value → r ≡ added (layout column) s) ⌝ }
 {
+    let kind = column.kind;
     match kind {
         Kind::Variable => value,
         _ => 0,
@@ -45,7 +52,6 @@ pub fn check_fields(schema: Schema, n: usize, rows: &[u8], offsets: &[u64]) -> W
         let mut c = 0;
         while c < count {
             let column = columns[c];
-            let kind = column.kind;
             let read = read_field(&row[at..], column);
             match read {
                 FieldRead::Null(len) => {
@@ -54,7 +60,7 @@ pub fn check_fields(schema: Schema, n: usize, rows: &[u8], offsets: &[u64]) -> W
                 }
                 FieldRead::Value(len, value) => {
                     at += len;
-                    bytes += added_bytes(kind, value);
+                    bytes += added_bytes(column, value);
                 }
                 FieldRead::Fault(fault, _) => {
                     check = Check::Refuse(Refusal::Row(fault, r, c));
@@ -69,5 +75,9 @@ pub fn check_fields(schema: Schema, n: usize, rows: &[u8], offsets: &[u64]) -> W
         }
         r += 1;
     }
-    Walked { check, bytes, nulls }
+    Walked {
+        check,
+        bytes,
+        nulls,
+    }
 }

@@ -8,8 +8,6 @@ use Rattle.format.specs.Entries.{fallFault}
 use Rattle.row_reader.proofs.Falls.{Falls, begins, falls, rises, risen, few, late, fell, past, heavy, sound}
 use Rattle.row_reader.proofs.offsets.check_offsets.Statement.{statement}
 use Rattle.row_reader.proofs.offsets.check_offsets.Tie as tie
-use Rattle.row_reader.proofs.offsets.check_offsets.Reads as reads
-use Rattle.row_reader.proofs.offsets.check_offsets.Lts as lts
 
 abbrev Inv-loop : tie.InvT-loop
 Inv-loop n rows offsets i₀ i = (i ≤ n) × Falls n offsets i

@@ -1,20 +1,18 @@
+-- `row_reader::added_bytes` meets its contract: only a value of variable bytes adds. Assumes nothing.
 use borrow.Author.Needs.{needs}
+use mathlib.Core.Path.{ap, sym, _∙_}
+use Rattle.format.specs.declared.Kind.{Kind}
+use Rattle.format.specs.Kinds.{shape}
+use Rattle.format.specs.Sheet.{layoutFor}
+use Rattle.laws.proofs.Room.{added}
+use Rattle.row_reader.proofs.Arms.{fixed-arm}
 use Rattle.row_reader.proofs.walk.added_bytes.Statement.{statement}
 use Rattle.row_reader.proofs.walk.added_bytes.Tie as tie
-use Rattle.row_reader.proofs.walk.added_bytes.Reads as reads
-use Rattle.row_reader.proofs.walk.added_bytes.Lts as lts
-
--- src/walk.rt:22:27
-enum-told : tie.Need-enum-told
-enum-told c = search needs
-
--- src/walk.rt:18:1
-returns : tie.Need-returns
-returns c = ?
-
--- src/walk.rt:18:1
-returns-2 : tie.Need-returns-2
-returns-2 c = ?
 
 pub added-bytes-spec : {M : Type 1} → statement M
-added-bytes-spec = tie.close (tie.spec enum-told returns returns-2)
+added-bytes-spec =
+    tie.close
+    (tie.spec
+    (λ c. search needs)
+    (λ c s e. sym e ∙ sym (ap (λ (k : Kind). added (layoutFor (shape k)) s) (c .enum-told .given .1)))
+    (λ c s e. sym (fixed-arm (c .before .args .column .kind) s (c .match .keys2))))

@@ -2,7 +2,7 @@
 -- fault, at the head of the loop over rows the rows that are left have the fault of all; so too what is still to count.
 -- Assumes nothing.
 use borrow.Author.Needs.{needs}
-use Prim.Native.Nat.{ℕ, suc, _+_, _-_, _<_, _≤_}
+use Prim.Native.Nat.{ℕ, suc, _+_, _-_, _≤_}
 use mathlib.Core.Path.{_≡_, refl, ap, sym, subst, _∙_}
 use mathlib.Core.Logic.{⊎-elim}
 use mathlib.Core.Option.{none, some}
@@ -10,11 +10,11 @@ use mathlib.Core.List.{List, _∷_}
 use native.Mathlib.Numerals.{add-one}
 use native.Mathlib.Omega.{arith}
 use lib.ListN.{length, getD, take, drop, length-drop, length-map, length-take}
-use lib.Seq.{drop-cons, getD-take, length-take-le}
+use lib.Seq.{length-take-le}
 use Rattle.format.specs.declared.Check.the-variants.{Pass, Refuse}
 use Rattle.format.specs.declared.Column.{Column}
 use Rattle.format.specs.declared.FieldRead.{FieldRead}
-use Rattle.format.specs.declared.FieldRead.the-variants.{Null, Value, Fault}
+use Rattle.format.specs.declared.FieldRead.the-variants.{Null, Value}
 use Rattle.format.specs.declared.Refusal.the-variants as refusal
 use Rattle.format.specs.declared.RowFault.the-variants.{Extra}
 use Rattle.format.specs.Kinds.{Slot}
@@ -26,14 +26,11 @@ use Rattle.laws.proofs.Bytes.{bytes-of, bytes-take, bytes-drop}
 use Rattle.laws.proofs.Cleared.{slotLength}
 use Rattle.laws.proofs.Cuts.{Cuts, offsets-passed, below-last}
 use Rattle.laws.proofs.Room.{added}
+use Rattle.row_reader.proofs.Columns.{in-use}
 use Rattle.row_reader.proofs.Taken.{Says, says-rest, null-added}
 use Rattle.row_reader.proofs.Turns.{Fields, starts, taken, broken, longer, Rows, begins, ends, InRow, bytes-small, nulls-small, faulty, passed}
 use Rattle.row_reader.proofs.walk.check_fields.Statement.{statement}
 use Rattle.row_reader.proofs.walk.check_fields.Tie as tie
-use Rattle.row_reader.proofs.walk.check_fields.Reads as reads
-use Rattle.row_reader.proofs.walk.check_fields.Lts as lts
-use Rattle.row_reader.proofs.field.read_field.Reads as read-field-reads
-use Rattle.row_reader.proofs.walk.added_bytes.Reads as added-bytes-reads
 
 abbrev Inv-loop : tie.InvT-loop
 Inv-loop n rows offsets count columns check₀ bytes₀ nulls₀ r start end row at₀ c₀ check bytes nulls at c =
@@ -55,11 +52,13 @@ abbrev Start : Type 0
 Start = tie.Start Inv-loop μ-loop Inv-rows μ-rows
 
 -- the columns in use are as many as the schema says
+enough : (c : Start) → c .args .schema .count ≤ length (c .args .schema .columns)
+enough c =
+    let sixteen : length (c .args .schema .columns) ≡ 16 = sym (length-map (c .args .schema .columns) _) ∙ c .good .0 .1 .1 .0 .1 .0 .1 in
+    omega (arith, c .pre .1 .0 .few)
+
 full : (c : Start) → length (colsOf (c .args .schema)) ≡ c .args .schema .count
-full c = length-take-le (c .args .schema .count) (c .args .schema .columns) (omega (arith, sixteen, c .pre .1 .0 .few))
-  where
-    sixteen : length (c .args .schema .columns) ≡ 16
-    sixteen = sym (length-map (c .args .schema .columns) _) ∙ c .good .0 .1 .1 .0 .1 .0 .1
+full c = length-take-le (c .args .schema .count) (c .args .schema .columns) (enough c)
 
 -- the offsets cut the rows
 cuts : (c : Start) → Cuts (c .args .n) (c .args .rows .now) (c .args .offsets .now)
@@ -137,11 +136,8 @@ col c = getD (start (row c) .args .schema .columns) (c .before .loop .c) noColum
 
 here : (c : Turn) → drop (c .before .loop .c) (cols (row c)) ≡ col c ∷ drop (suc (c .before .loop .c)) (cols (row c))
 here c =
-    let schema = start (row c) .args .schema in
-    let k = c .before .loop .c in
-    let l : k < length (colsOf schema) = omega (arith, full (start (row c)), c .loop-test .taken) in
-    drop-cons (colsOf schema) k noColumn l
-    ∙ ap (λ (x : Column). x ∷ drop (suc k) (colsOf schema)) (getD-take (schema .count) (schema .columns) k noColumn (c .loop-test .taken))
+    let S = start (row c) in
+    in-use (S .args .schema .columns) (S .args .schema .count) (c .before .loop .c) noColumn (enough S) (c .loop-test .taken)
 
 -- where the next turn stands
 abbrev Next : Turn → ℕ → ℕ → ℕ → Type 0
@@ -176,93 +172,72 @@ past-value c more e adds p q o =
     let v = said c e in
     taken (t .before .loop .inv .1) (here t) (some (v .0)) _ _ _ _ (v .2) (p ∙ ap (λ (n : ℕ). t .before .loop .bytes + n) (adds (some (v .0)) (v .1))) (omega arith) o
 
--- src/walk.rt:40:5
 rows-holds : tie.Need-rows-holds Inv-loop μ-loop Inv-rows μ-rows
 rows-holds c = (refl, begins _ _ _)
 
--- src/walk.rt:41:21
 mul-start : tie.Need-mul-start Inv-loop μ-loop Inv-rows μ-rows
 mul-start c = omega arith
 
--- src/walk.rt:41:21
 shared-slice-read-start : tie.Need-shared-slice-read-start Inv-loop μ-loop Inv-rows μ-rows
 shared-slice-read-start c = omega (arith, cuts (c .before .before .before .before .before .before) .there)
 
--- src/walk.rt:42:27
 add-end : tie.Need-add-end Inv-loop μ-loop Inv-rows μ-rows
 add-end c = omega arith
 
--- src/walk.rt:42:19
 mul-end : tie.Need-mul-end Inv-loop μ-loop Inv-rows μ-rows
 mul-end c = omega arith
 
--- src/walk.rt:42:19
 shared-slice-read-end : tie.Need-shared-slice-read-end Inv-loop μ-loop Inv-rows μ-rows
 shared-slice-read-end c = omega (arith, cuts (c .before .before .before .before .before .before .before) .there)
 
--- src/walk.rt:43:19
 sub-row : tie.Need-sub-row Inv-loop μ-loop Inv-rows μ-rows
 sub-row c = rises c
 
--- src/walk.rt:43:19
 part-row-start : tie.Need-part-row-start Inv-loop μ-loop Inv-rows μ-rows
 part-row-start c = rises c
 
--- src/walk.rt:43:19
 part-row-end : tie.Need-part-row-end Inv-loop μ-loop Inv-rows μ-rows
 part-row-end c = inside c
 
--- src/walk.rt:46:9
 loop-holds : tie.Need-loop-holds Inv-loop μ-loop Inv-rows μ-rows
 loop-holds c = (c .before .before .before .before .rows .inv .0, starts _ _ _ _ _)
 
--- src/walk.rt:47:26
 mul-column : tie.Need-mul-column Inv-loop μ-loop Inv-rows μ-rows
 mul-column c = omega arith
 
--- src/walk.rt:47:26
 array-copy-out-column : tie.Need-array-copy-out-column Inv-loop μ-loop Inv-rows μ-rows
 array-copy-out-column c = omega arith
 
--- src/walk.rt:49:35
 sub-read-field : tie.Need-sub-read-field Inv-loop μ-loop Inv-rows μ-rows
 sub-read-field c = c .before .before .loop .inv .1 .within
 
--- src/walk.rt:49:35
 part-read-field-start : tie.Need-part-read-field-start Inv-loop μ-loop Inv-rows μ-rows
 part-read-field-start c = c .before .before .loop .inv .1 .within
 
--- src/walk.rt:49:35
 part-read-field-end : tie.Need-part-read-field-end Inv-loop μ-loop Inv-rows μ-rows
 part-read-field-end c = omega arith
 
--- src/walk.rt:49:17
 read-field-requires : tie.Need-read-field-requires Inv-loop μ-loop Inv-rows μ-rows
 read-field-requires c κs = search needs
 
--- src/walk.rt:51:33
 enum-known-read : tie.Need-enum-known-read Inv-loop μ-loop Inv-rows μ-rows
 enum-known-read c = search needs
 
--- src/walk.rt:52:21
 add-at : tie.Need-add-at Inv-loop μ-loop Inv-rows μ-rows
 add-at c =
     let k = c .before .before .before in
     let next = past-null k (c .before .read .given .1) refl refl refl in
     omega (arith, next .within, short (row (turn k)), start (row (turn k)) .good .1 .1 .0 .0)
 
--- src/walk.rt:53:21
 add-nulls : tie.Need-add-nulls Inv-loop μ-loop Inv-rows μ-rows
 add-nulls c =
     let k = c .before .before .before in
     let next = past-null k (c .before .read .given .1) refl refl refl in
     omega (arith, nulls-small (stands (row (turn k))) next)
 
--- src/walk.rt:55:34
 enum-known-read-2 : tie.Need-enum-known-read-2 Inv-loop μ-loop Inv-rows μ-rows
 enum-known-read-2 c = search needs
 
--- src/walk.rt:56:21
 add-at-2 : tie.Need-add-at-2 Inv-loop μ-loop Inv-rows μ-rows
 add-at-2 c =
     let k = c .before .before .before in
@@ -270,67 +245,56 @@ add-at-2 c =
     let v = said k (c .before .read2 .given .1) in
     omega (arith, v .2 .inside, length-drop (t .before .loop .at) (bytes (row t)), t .before .loop .inv .1 .within, short (row t), start (row t) .good .1 .1 .0 .0)
 
--- src/walk.rt:57:30
 added-bytes-requires : tie.Need-added-bytes-requires Inv-loop μ-loop Inv-rows μ-rows
 added-bytes-requires c κs = search needs
 
--- src/walk.rt:57:21
 add-bytes : tie.Need-add-bytes Inv-loop μ-loop Inv-rows μ-rows
 add-bytes c =
     let k = c .before .before .before .before in
     let next = past-value k (c .added-bytes .result) (c .before .before .read2 .given .1) (c .added-bytes .ensures) refl refl refl in
     omega (arith, bytes-small (stands (row (turn k))) next)
 
--- src/walk.rt:59:34
 enum-known-read-3 : tie.Need-enum-known-read-3 Inv-loop μ-loop Inv-rows μ-rows
 enum-known-read-3 c = search needs
 
--- src/walk.rt:64:13
 add-c : tie.Need-add-c Inv-loop μ-loop Inv-rows μ-rows
 add-c c = omega arith
 
--- src/walk.rt:46:9
 loop-less : tie.Need-loop-less Inv-loop μ-loop Inv-rows μ-rows
 loop-less c = omega arith
 
--- src/walk.rt:46:9
 loop-again : tie.Need-loop-again Inv-loop μ-loop Inv-rows μ-rows
 loop-again c =
-    let k = c .before in
-    (turn k .before .loop .inv .0,
-    ⊎-elim
-    (λ w. past-null k (w .1 .given .1) (w .3) (w .4) (w .5))
-    (λ w. past-value k (w .3 .result) (w .1 .given .1) (w .3 .ensures) (w .4) (w .5) (w .6))
-    (c .match .came))
+    let k = c .before in (
+      turn k .before .loop .inv .0,
+      ⊎-elim
+          (λ w. past-null k (w .1 .given .1) (w .3) (w .4) (w .5))
+          (λ w. past-value k (w .3 .result) (w .1 .given .1) (w .3 .ensures) (w .4) (w .5) (w .6))
+          (c .match .came),
+    )
 
--- src/walk.rt:70:9
 add-r : tie.Need-add-r Inv-loop μ-loop Inv-rows μ-rows
 add-r c = omega arith
 
--- src/walk.rt:40:5
 rows-less : tie.Need-rows-less Inv-loop μ-loop Inv-rows μ-rows
 rows-less c = omega arith
 
--- src/walk.rt:40:5
 rows-again : tie.Need-rows-again Inv-loop μ-loop Inv-rows μ-rows
 rows-again c =
     let at = c .before .before in
     (at .loop .inv .0, passed (stands (at .before)) (at .loop .inv .1) (omega (arith, full (start (at .before)), c .before .loop-test .left)) (c .if1 .left))
 
--- src/walk.rt:28:1
 returns : tie.Need-returns Inv-loop μ-loop Inv-rows μ-rows
 returns c =
     let at = c .before in
     rw (at .rows .inv .0) (ends (at .rows .inv .1) (at .before .before .before .before .pre .0) (c .rows-test .left))
 
--- src/walk.rt:28:1
 returns-2 : tie.Need-returns-2 Inv-loop μ-loop Inv-rows μ-rows
 returns-2 c =
     let k = c .before .before .before in
     let t = turn k in
     faulty (stands (row t)) (t .before .loop .inv .1) (broken (t .before .loop .inv .1) (here t) _ _ (said k (c .before .read3 .given .1)))
 
--- src/walk.rt:28:1
 returns-3 : tie.Need-returns-3 Inv-loop μ-loop Inv-rows μ-rows
 returns-3 c =
     let at = c .before .before in
