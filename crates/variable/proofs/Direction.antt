@@ -48,7 +48,7 @@ pub turned : (d : Bool) (x r : ℕ) → x < 256 → r < 256 → lowBytes 1 r ≡
 turned d x r hx hr e =
     sym (mod-eq-of-lt hr) ∙ ap (λ (z : List ℕ). getD z 0 0) (e ∙ directed-cons d (x % 256) []) ∙ ap (turn d) (mod-eq-of-lt hx)
 
-directed-one : (d : Bool) (x : ℕ) → directed d (x ∷ []) ≡ turn d x ∷ []
+pub directed-one : (d : Bool) (x : ℕ) → directed d (x ∷ []) ≡ turn d x ∷ []
 directed-one true x = refl
 directed-one false x = refl
 

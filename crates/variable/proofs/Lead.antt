@@ -1,22 +1,25 @@
 -- What the lead byte of a field says. Assumes nothing.
-use Prim.Native.Nat.{ℕ, suc, _+_, _-_, _<_}
-use mathlib.Core.Path.{_≡_, refl, sym, ap, ap₂, _∙_}
+use Prim.Native.Nat.{ℕ, suc, _+_, _-_, _<_, _≤_}
+use mathlib.Core.Path.{_≡_, refl, sym, ap, ap₂, _∙_, subst}
 use mathlib.Core.Bool.{Bool, true, false, cond}
 use mathlib.Core.Option.{none, some}
 use mathlib.Core.List.{List, [], _∷_}
 use native.Mathlib.Omega.{arith}
 use lib.Dec.{eqb}
 use lib.ListN.{length, getD, drop, length-drop}
-use borrow.Author.Tests.{eq-eqb, ne-eqb}
+use lib.Seq.{sets}
+use borrow.Author.Tests.{eq-eqb, ne-eqb, eqb-true, eqb-false}
 use Rattle.format.specs.declared.SortOptions.{SortOptions}
 use Rattle.format.specs.declared.RowFault.the-variants.{Cut, Lead}
 use Rattle.format.specs.declared.FieldRead.{FieldRead}
 use Rattle.format.specs.declared.FieldRead.the-variants.{Null, Value, Fault}
 use Rattle.format.specs.Limits.{maxSlot}
 use Rattle.format.specs.Field.{directed, nullByte, blockSize}
-use Rattle.format.specs.Read.{Parsed, got, fault, fieldRead, readBlocks, readValue, readVariable, valueSlot}
+use Rattle.format.specs.Kinds.{Slot}
+use Rattle.format.specs.Cleared.{variableSlot}
+use Rattle.format.specs.Read.{Parsed, got, fault, Good, fieldRead, leftAfter, slotRead, readBlocks, readValue, readVariable, valueSlot}
 use Rattle.laws.proofs.Directed.{length-directed}
-use Rattle.variable.specs.Counted.{blocksRead, counted}
+use Rattle.variable.specs.Counted.{blocksRead, counted, valueOf, restOf}
 
 -- a value by its lead byte x, where u are the bytes after it
 abbrev Led : ℕ → List ℕ → ℕ → Parsed (List ℕ)
@@ -94,3 +97,59 @@ module _ (o : SortOptions) (row : List ℕ) (some-lead : 0 < length row) (no-nul
       → r ≡ fieldRead row (readVariable maxSlot o row)
   read-blocks r e h =
       h ∙ sym (value-counted (o .descending) row (blocksRead (o .descending) row)) ∙ sym (ap (fieldRead row) (lead-blocks o row some-lead no-null e))
+
+-- ---- what the copying walk answers
+
+-- of what was read: the field's length, the value's, and the bytes written
+abbrev pub Wrote : List ℕ → List ℕ → ℕ → Parsed Slot → ℕ → ℕ → List ℕ → Type 0
+Wrote row out₀ at m field value out =
+    (field ≡ length row - length (leftAfter m)) × ((value ≡ length (variableSlot (slotRead m))) × (out ≡ sets out₀ at (variableSlot (slotRead m))))
+
+pub good-lead : (o : SortOptions) (row : List ℕ) → Good (readVariable maxSlot o row) → 0 < length row
+good-lead o [] g = absurd g
+good-lead o (b ∷ row) g = omega arith
+
+pub wrote-null : (o : SortOptions) (row out : List ℕ) (at : ℕ) → 0 < length row → getD row 0 0 ≡ nullByte o → Wrote row out at (readVariable maxSlot o row) 1 0 out
+wrote-null o row out at h e = subst (λ (m : Parsed Slot). Wrote row out at m 1 0 out) (sym (lead-null o row h e)) (lead-only row h, (refl, refl))
+
+-- a value that was read, as its slot
+slot-good : (d : Bool) (m : Parsed (List ℕ)) → Good (valueSlot d m)
+    → Good m × (valueOf m ≡ variableSlot (slotRead (valueSlot d m))) × (length (restOf m) ≡ length (leftAfter (valueSlot d m)))
+slot-good d (got v r) g = (tt, refl, sym (length-directed d r))
+slot-good d (fault f l) g = absurd g
+
+module _ (o : SortOptions) (row : List ℕ) (some-lead : 0 < length row) (no-null : getD row 0 0 ≡ nullByte o → ⊥) where
+  pub wrote-empty : (out : List ℕ) (at : ℕ) → getD (directed (o .descending) row) 0 0 ≡ 1 → Wrote row out at (readVariable maxSlot o row) 1 0 out
+  wrote-empty out at e =
+      subst (λ (m : Parsed Slot). Wrote row out at m 1 0 out) (sym (lead-empty o row some-lead no-null e))
+      (lead-only-turned (o .descending) row some-lead, (refl, refl))
+
+  module _ (good : Good (readVariable maxSlot o row)) (some-data : getD (directed (o .descending) row) 0 0 ≡ 1 → ⊥) where
+    blocks : readVariable maxSlot o row ≡ valueSlot (o .descending) (blocksRead (o .descending) row)
+    blocks = go (eqb (getD (directed (o .descending) row) 0 0) 2) refl
+      where
+        go : (b : Bool) → eqb (getD (directed (o .descending) row) 0 0) 2 ≡ b → readVariable maxSlot o row ≡ valueSlot (o .descending) (blocksRead (o .descending) row)
+        go true e = lead-blocks o row some-lead no-null (eqb-true _ 2 e)
+        go false e = absurd (subst Good (lead-other o row some-lead no-null some-data (eqb-false _ 2 e)) good)
+
+    -- blocks follow, read without fault
+    led-slot : Good (blocksRead (o .descending) row)
+        × (valueOf (blocksRead (o .descending) row) ≡ variableSlot (slotRead (readVariable maxSlot o row)))
+        × (length (restOf (blocksRead (o .descending) row)) ≡ length (leftAfter (readVariable maxSlot o row)))
+    led-slot =
+        subst (λ (m : Parsed Slot). Good (blocksRead (o .descending) row) × (valueOf (blocksRead (o .descending) row) ≡ variableSlot (slotRead m)) × (length (restOf (blocksRead (o .descending) row)) ≡ length (leftAfter m)))
+        (sym blocks) (slot-good (o .descending) (blocksRead (o .descending) row) (subst Good blocks good))
+
+    pub blocks-good : Good (blocksRead (o .descending) row)
+    blocks-good = led-slot .0
+
+    pub blocks-room : (out : List ℕ) (at : ℕ) → at + length (variableSlot (slotRead (readVariable maxSlot o row))) ≤ length out → at + length (valueOf (blocksRead (o .descending) row)) ≤ length out
+    blocks-room out at h = omega (arith, ap length (led-slot .1))
+
+    pub wrote-blocks : (out₀ : List ℕ) (at field value : ℕ) (out : List ℕ) → field ≡ length row - length (restOf (blocksRead (o .descending) row))
+        → value ≡ length (valueOf (blocksRead (o .descending) row)) → out ≡ sets out₀ at (valueOf (blocksRead (o .descending) row))
+        → Wrote row out₀ at (readVariable maxSlot o row) field value out
+    wrote-blocks out₀ at field value out f v e = (
+      f ∙ ap (λ (n : ℕ). length row - n) (led-slot .2),
+      (v ∙ ap length (led-slot .1), e ∙ ap (sets out₀ at) (led-slot .1)),
+    )

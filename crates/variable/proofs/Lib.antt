@@ -6,3 +6,7 @@ pub mod Padding
 pub mod Reading
 pub mod Counting
 pub mod Lead
+pub mod Taking
+pub mod Even
+pub mod Writing
+pub mod Whole

@@ -1,5 +1,5 @@
 -- Reading the blocks of a field, from any place on. t is the row's bytes, inverted back. Assumes nothing.
-use Prim.Native.Nat.{ℕ, zero, suc, _+_, _-_, _<_, _≤_}
+use Prim.Native.Nat.{ℕ, zero, suc, _+_, _-_, _%_, _<_, _≤_}
 use mathlib.Core.Path.{_≡_, refl, sym, ap, ap₂, _∙_, subst}
 use mathlib.Core.Logic.{_⊎_, inl, inr}
 use mathlib.Core.Bool.{Bool, true, false, cond, _||_}
@@ -32,6 +32,14 @@ rest-start d row =
     (omega (arith, length-directed d row))
 
 -- ---- the block at a place
+
+-- a block holds whole words
+pub size-words : (k size : ℕ) → size ≡ blockSize k → size % 8 ≡ 0
+size-words k size e = ap (λ (n : ℕ). n % 8) e ∙ go (ltb k 4)
+  where
+    go : (b : Bool) → cond b 8 32 % 8 ≡ 0
+    go true = refl
+    go false = refl
 
 pub rest-cut : (t : List ℕ) (at k c : ℕ) → length t - at ≤ blockSize k → Rest t at k c ≡ fault Cut 0
 rest-cut t at k c h = go (length t - 1 - k)

@@ -1,6 +1,6 @@
 // The copying walk: the value of a field that the count walk passed, into the sheet.
 ghost use mathlib.Core.Path.{_≡_};
-ghost use Prim.Native.Nat.{_+_, _-_, _%_, _<_, _≤_};
+ghost use Prim.Native.Nat.{_+_, _-_, _%_, _≤_};
 ghost use lib.ListN.{length, take, drop};
 ghost use lib.Seq.{sets};
 ghost use Rattle.format.specs.Limits.{maxSlot};
@@ -60,7 +60,6 @@ fn copy_bytes(row: &[u8], from: usize, count: usize, descending: bool, out: &mut
 
 // The data of the blocks of a field, after its lead byte.
 fn copy_blocks(row: &[u8], descending: bool, out: &mut [u8], at: usize) -> Copied
-    requires { ⌜ 0 < length (now row) ⌝ }
     requires { ⌜ Good (blocksRead descending (now row)) ⌝ }
     requires { ⌜ at + length (valueOf (blocksRead descending (now row))) ≤ length (now out) ⌝ }
     ensures { λ r. ⌜ r .field ≡ length (now (row .entry)) - length (restOf (blocksRead descending (now (row .entry)))) ⌝ }
