@@ -3,5 +3,7 @@ pub mod Writing
 pub mod Words
 pub mod Scan
 pub mod Reading
+pub mod Standing
+pub mod Beside
 pub mod Parts
 pub mod Arms

@@ -16,7 +16,7 @@ use Rattle.format.specs.declared.RowFault.the-variants.{Cut, Lead, NullRest}
 use Rattle.format.specs.Kinds.{Fixed, bool, plain, number, integer, float, parts, width}
 use Rattle.format.specs.Key.{allowed, invert, unkey}
 use Rattle.format.specs.Field.{directed, nullByte}
-use Rattle.format.specs.Read.{Parsed, got, fault, allZero, fromBad, fieldRead, readBytes, readFixed, readKey, readNull}
+use Rattle.format.specs.Read.{got, fault, allZero, fromBad, fieldRead, readBytes, readFixed, readKey, readNull}
 use Rattle.laws.proofs.Unkey.{length-unkey}
 use Rattle.fixed.specs.Wide.{WideShape}
 use Rattle.fixed.proofs.Scan.{Clean, clean-bad, clean-end, clean-more}

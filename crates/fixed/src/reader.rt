@@ -2,13 +2,14 @@
 ghost use mathlib.Core.Path.{_≡_};
 ghost use Prim.Native.Nat.{_<_};
 ghost use lib.ListN.{length, drop};
-ghost use Rattle.format.specs.Kinds.{Fixed};
+ghost use Rattle.format.specs.Kinds.{Fixed, bool};
 ghost use Rattle.format.specs.Read.{fieldRead, readFixed, readNull};
 ghost use Rattle.fixed.specs.Wide.{WideShape};
 use format::FieldRead;
 use format::RowFault;
 use format::SortOptions;
 use format::null_sentinel;
+use number::directed8;
 
 // After the null byte: zeros, as many as a value has bytes.
 fn read_null(row: &[u8], width: usize) -> FieldRead
@@ -48,4 +49,21 @@ pub fn read(row: &[u8], width: usize, options: SortOptions) -> FieldRead
         return FieldRead::Fault(RowFault::Cut, 0);
     }
     FieldRead::Value(1 + width, width)
+}
+
+// A bool: as one byte, and that byte is 00 or 01.
+pub fn read_boolean(row: &[u8], options: SortOptions) -> FieldRead
+    ensures { λ r. ⌜ r ≡ fieldRead (now (row .entry)) (readFixed bool options (now (row .entry))) ⌝ }
+{
+    let field = read(row, 1, options);
+    match field {
+        FieldRead::Null(_) => field,
+        FieldRead::Value(_, _) => {
+            if 1 < directed8(options.descending, row[1]) {
+                return FieldRead::Fault(RowFault::BoolByte, row.len() - 1);
+            }
+            field
+        }
+        FieldRead::Fault(_, _) => field,
+    }
 }
