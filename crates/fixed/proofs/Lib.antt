@@ -6,4 +6,6 @@ pub mod Reading
 pub mod Standing
 pub mod Beside
 pub mod Parts
-pub mod Arms
+pub mod WideLaws
+pub mod EncodeArms
+pub mod DecodeArms

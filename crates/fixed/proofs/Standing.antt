@@ -6,17 +6,18 @@ use mathlib.Core.Option.{none, some}
 use mathlib.Core.List.{List, [], _∷_}
 use native.Mathlib.Omega.{arith}
 use lib.Dec.{ltb, eqb}
-use lib.ListN.{length, getD, take, drop}
+use lib.ListN.{length, getD, take, drop, replicate}
 use lib.Seq.{drop-cons}
 use borrow.Author.Tests.{ltb-false, eq-eqb, ne-eqb, eqb-true, eqb-false}
 use Rattle.format.specs.declared.SortOptions.{SortOptions}
+use Rattle.format.specs.declared.Kind.{Kind}
 use Rattle.format.specs.declared.RowFault.{RowFault}
 use Rattle.format.specs.declared.RowFault.the-variants.{BoolByte, Cut, Lead, NullRest}
-use Rattle.format.specs.Kinds.{Fixed, Slot, bool, width}
+use Rattle.format.specs.Kinds.{Fixed, Shape, Slot, bool, fixed, shape, shapeBytes, valueBytes, width}
 use Rattle.format.specs.Key.{allowed, unkey}
 use Rattle.format.specs.Field.{directed, nullByte}
-use Rattle.format.specs.Read.{Good, Parsed, got, fault, allZero, fromBad, readBytes, readFixed, readKey, slotRead}
-use Rattle.format.specs.Cleared.{isTrue, valid}
+use Rattle.format.specs.Read.{Good, Parsed, got, fault, allZero, fromBad, readBytes, readField, readFixed, readKey, slotRead}
+use Rattle.format.specs.Cleared.{fixedSlot, isTrue, valid}
 use Rattle.fixed.proofs.Writing.{turn, directed-map}
 use Rattle.fixed.proofs.Reading.{lead-null, lead-value}
 
@@ -74,6 +75,35 @@ valid-lead k o s n e g = rw e (go (eqb (getD s 0 0) (nullByte o)) refl)
     go : (t : Bool) → eqb (getD s 0 0) (nullByte o) ≡ t → not (eqb (getD s 0 0) (nullByte o)) ≡ valid (slotRead (readFixed k o s))
     go true q = rw (q, stands k o s g .null (eqb-true (getD s 0 0) (nullByte o) q) .0)
     go false q = rw (q, stands k o s g .value (eqb-false (getD s 0 0) (nullByte o) q) .0)
+
+-- ---- a field of a kind that has the shape k, as `decode` finds it
+
+module _ (kind : Kind) (k : Fixed) (says : shape kind ≡ fixed k) (o : SortOptions) (s : List ℕ) (g : Good (readField (shape kind) o s)) where
+  pub good-fixed : Good (readFixed k o s)
+  good-fixed = subst (λ (sh : Shape). Good (readField sh o s)) says g
+
+  bytes : valueBytes kind ≡ width k
+  bytes = ap shapeBytes says
+
+  pub field-whole : 1 + valueBytes kind ≤ length s
+  field-whole = omega (arith, stands k o s good-fixed .whole, bytes)
+
+  -- r says whether it is valid
+  module _ (r : Bool) (v : r ≡ valid (slotRead (readFixed k o s))) where
+    pub field-value : r ≡ true → unkey k (directed (o .descending) (take (valueBytes kind) (drop 1 s))) ≡ fixedSlot (valueBytes kind) (slotRead (readField (shape kind) o s))
+    field-value t = rw (says, stands k o s good-fixed .value other .0)
+      where
+        other : getD s 0 0 ≡ nullByte o → ⊥
+        other e =
+            let n = ap valid (stands k o s good-fixed .null e .0) in
+            let z : _≡_ {A = ℕ} 0 1 = cc in omega arith
+
+    pub field-null : r ≡ false → replicate (valueBytes kind) 0 ≡ fixedSlot (valueBytes kind) (slotRead (readField (shape kind) o s))
+    field-null f = rw says (ap (fixedSlot (width k)) (sym (none-of (slotRead (readFixed k o s)) (sym v ∙ f))))
+      where
+        none-of : (x : Slot) → valid x ≡ false → x ≡ none
+        none-of none e = refl
+        none-of (some y) e = absurd (let z : _≡_ {A = ℕ} 0 1 = cc in omega arith)
 
 -- ---- bools
 

@@ -29,6 +29,9 @@ word-field n out at d x y last q e = lead-run out at 1 1 (directed d (lowBytes n
 pub byte-word : (x : ℕ) → x < 256 → lowBytes 1 x ≡ x ∷ []
 byte-word x h = ap (λ (b : ℕ). b ∷ []) (mod-eq-of-lt h)
 
+pub byte-set : (out : List ℕ) (at x : ℕ) → x < 256 → set out at x ≡ sets out at (lowBytes 1 x)
+byte-set out at x h = ap (sets out at) (sym (byte-word x h))
+
 -- descending inverts, byte by byte
 abbrev pub turn : Bool → ℕ → ℕ
 turn d b = cond d (255 - b) b
@@ -41,7 +44,7 @@ directed-map false (x ∷ f) = ap (λ (g : List ℕ). x ∷ g) (directed-map fal
 -- 01, then the byte y, which is x, inverted under descending
 pub byte-field : (out : List ℕ) (at : ℕ) (d : Bool) (x y : ℕ) → y < 256 → lowBytes 1 y ≡ directed d (lowBytes 1 x)
     → set (set out at 1) (at + 1) y ≡ sets out at (1 ∷ directed d (lowBytes 1 x))
-byte-field out at d x y h q = word-field 1 out at d x y (set (set out at 1) (at + 1) y) q (ap (sets (set out at 1) (at + 1)) (sym (byte-word y h)))
+byte-field out at d x y h q = word-field 1 out at d x y (set (set out at 1) (at + 1) y) q (byte-set (set out at 1) (at + 1) y h)
 
 -- a byte, inverted under descending, as a copy has it
 pub byte-turn : (d : Bool) (x y : ℕ) → x < 256 → y < 256 → lowBytes 1 y ≡ directed d (lowBytes 1 x) → y ≡ turn d x

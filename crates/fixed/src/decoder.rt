@@ -4,8 +4,8 @@ ghost use mathlib.Core.List.{[], _∷_};
 ghost use Prim.Native.Nat.{_+_, _≤_, _<_};
 ghost use lib.ListN.{length, take, drop};
 ghost use lib.Seq.{sets};
-ghost use Rattle.format.specs.Kinds.{Fixed, bool, shape, valueBytes};
-ghost use Rattle.format.specs.Key.{partsUnkey};
+ghost use Rattle.format.specs.Kinds.{Fixed, bool, fixed, shape, valueBytes};
+ghost use Rattle.format.specs.Key.{partsUnkey, unkey};
 ghost use Rattle.format.specs.Field.{directed};
 ghost use Rattle.format.specs.Read.{Good, readField, readFixed, slotRead};
 ghost use Rattle.format.specs.Cleared.{fixedSlot, isTrue, valid};
@@ -64,18 +64,13 @@ fn decode_month_day_nano(row: &[u8], descending: bool, out: &mut [u8], at: usize
     put64(out, at + 8, nanoseconds);
 }
 
-// Every fixed kind but bool: the value's bytes in the sheet, zeros for a null.
-pub fn decode(row: &[u8], kind: Kind, options: SortOptions, out: &mut [u8], at: usize)
+// Every fixed kind but bool, from a row whose lead byte is 01.
+fn decode_value(row: &[u8], kind: Kind, descending: bool, out: &mut [u8], at: usize)
     requires { ⌜ WideKind kind ⌝ }
-    requires { ⌜ Good (readField (shape kind) options (now row)) ⌝ }
+    requires { ⌜ 1 + valueBytes kind ≤ length (now row) ⌝ }
     requires { ⌜ at + valueBytes kind ≤ length (now out) ⌝ }
-    ensures { λ _. ⌜ now (out .exit) ≡ sets (now (out .entry)) at (fixedSlot (valueBytes kind) (slotRead (readField (shape kind) options (now (row .entry))))) ⌝ }
+    ensures { λ _. ⌜ ((k : Fixed) → shape kind ≡ fixed k → now (out .exit) ≡ sets (now (out .entry)) at (unkey k (directed descending (take (valueBytes kind) (drop 1 (now (row .entry))))))) ⌝ }
 {
-    if !is_valid(row, options) {
-        zeros(out, at, width(kind));
-        return;
-    }
-    let descending = options.descending;
     match kind {
         Kind::I8 => out[at] = unkey8(row, 1, descending),
         Kind::I16 => put16(out, at, unkey16(row, 1, descending)),
@@ -97,4 +92,18 @@ pub fn decode(row: &[u8], kind: Kind, options: SortOptions, out: &mut [u8], at: 
         Kind::Bool => {}
         Kind::Variable => {}
     }
+}
+
+// Every fixed kind but bool: the value's bytes in the sheet, zeros for a null.
+pub fn decode(row: &[u8], kind: Kind, options: SortOptions, out: &mut [u8], at: usize)
+    requires { ⌜ WideKind kind ⌝ }
+    requires { ⌜ Good (readField (shape kind) options (now row)) ⌝ }
+    requires { ⌜ at + valueBytes kind ≤ length (now out) ⌝ }
+    ensures { λ _. ⌜ now (out .exit) ≡ sets (now (out .entry)) at (fixedSlot (valueBytes kind) (slotRead (readField (shape kind) options (now (row .entry))))) ⌝ }
+{
+    if is_valid(row, options) {
+        decode_value(row, kind, options.descending, out, at);
+        return;
+    }
+    zeros(out, at, width(kind))
 }

@@ -10,7 +10,8 @@ use Rattle.format.specs.Kinds.{shape, valueBytes}
 use Rattle.format.specs.Key.{floatKey, signedKey, unsignedKey}
 use Rattle.format.specs.Field.{directed, field}
 use Rattle.number.proofs.Words.{byte}
-use Rattle.fixed.proofs.Arms.{Handed, wrote, wrote-key, wrote-code, wrote-plain, not-bool, not-variable}
+use Rattle.fixed.proofs.WideLaws.{not-bool, not-variable}
+use Rattle.fixed.proofs.EncodeArms.{Handed, wrote, wrote-key, wrote-code, wrote-plain}
 use Rattle.fixed.proofs.encoder.encode.Statement.{statement}
 use Rattle.fixed.proofs.encoder.encode.Tie as tie
 

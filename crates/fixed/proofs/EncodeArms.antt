@@ -1,4 +1,4 @@
--- The arms of the tables of kinds, each from what its calls ensure. Assumes nothing.
+-- The arms of `encode`, each from what its calls ensure. Assumes nothing.
 use Prim.Native.Nat.{ℕ, _+_}
 use mathlib.Core.Path.{_≡_, sym, ap, _∙_}
 use mathlib.Core.Option.{some}
@@ -10,33 +10,11 @@ use mir.Syntax.{w8}
 use mir.Val.{Fits}
 use Rattle.format.specs.declared.SortOptions.{SortOptions}
 use Rattle.format.specs.declared.Kind.{Kind}
-use Rattle.format.specs.declared.Kind.the-variants.{Bool as BoolKind, FixedBinary, Variable}
+use Rattle.format.specs.declared.Kind.the-variants.{FixedBinary}
 use Rattle.format.specs.Lists.{low, lowBytes}
-use Rattle.format.specs.Kinds.{bool, fixed, shape, valueBytes, variable}
+use Rattle.format.specs.Kinds.{shape, valueBytes}
 use Rattle.format.specs.Field.{directed, field}
-use Rattle.fixed.specs.Wide.{WideKind}
 use Rattle.fixed.proofs.Words.{word-at}
-
--- no value bytes of a bool or of variable bytes are asked for
-pub not-bool : {kind : Kind} → WideKind kind → kind ≡ BoolKind → ⊥
-not-bool {kind} w e = w .other (sym same)
-  where
-    told : fixed bool ≡ fixed (w .k)
-    told = sym (ap shape e) ∙ w .says
-
-    same : bool ≡ w .k
-    same = cc
-
-pub not-variable : {kind : Kind} → WideKind kind → kind ≡ Variable → ⊥
-not-variable {kind} w e = let z : _≡_ {A = ℕ} 0 1 = differ in omega arith
-  where
-    told : variable ≡ fixed (w .k)
-    told = sym (ap shape e) ∙ w .says
-
-    differ : _≡_ {A = ℕ} 0 1
-    differ = cc
-
--- ---- encode
 
 -- what it is handed: a value of a kind, and where it is to be written
 pub record Handed : Type 0 where
@@ -79,7 +57,7 @@ module _ (h : Handed) where
           wrote n bytes r last (
             p .0,
             p .1 ∙ ap (λ (f : List ℕ). sets (h .out) (h .at) (1 ∷ directed (h .options .descending) f)) (q ∙ ap key (take-all n (h .val) (omega (arith, fits))))
-                ∙ ap (sets (h .out) (h .at)) (sym keyed),
+            ∙ ap (sets (h .out) (h .at)) (sym keyed),
           )
 
       -- x is the word of the value, y that of the key
