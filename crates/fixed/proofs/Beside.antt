@@ -46,11 +46,13 @@ beside o (b ∷ s) = by-null (eqb b (nullByte o)) refl
     by-length false l n e =
         let h = ltb-false (length s) 1 l in
         valued (omega arith) (lead-value (plain 1) o (b ∷ s) (omega arith) n e) (lead-value bool o (b ∷ s) (omega arith) n e)
+
     by-one : (t : Bool) → eqb b 1 ≡ t → (b ≡ nullByte o → ⊥) → Beside o (b ∷ s)
     by-one true q n = by-length (ltb (length s) 1) refl n (eqb-true b 1 q)
     by-one false q n =
         let e = eqb-false b 1 q in
         alike (fault Lead (suc (length s))) refl (lead-bad (plain 1) o (b ∷ s) (omega arith) n e) (lead-bad bool o (b ∷ s) (omega arith) n e)
+
     by-null : (t : Bool) → eqb b (nullByte o) ≡ t → Beside o (b ∷ s)
     by-null true q =
         let e = eqb-true b (nullByte o) q in

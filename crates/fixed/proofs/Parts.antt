@@ -117,8 +117,10 @@ module _ (d : Bool) (w : ℕ) (row out : List ℕ) (at : ℕ) where
     where
       room : sum ns ≤ length body
       room = omega (arith, length-directed d (take w (drop 1 row)), length-take-le w (drop 1 row) (omega (arith, length-drop 1 row)))
+
       long : length (partsUnkey ns body) ≡ sum ns
       long = ap length (unkey-parted ns body) ∙ parted-long signedUnkey long-unsigned ns body room
+
       joined : partsUnkey ns body ++ lowBytes n x ≡ partsUnkey (ns ++ (n ∷ [])) body
       joined =
           ap₂ (λ (f g : List ℕ). f ++ g) (unkey-parted ns body) (e ∙ ap signedUnkey (sym (part-at (sum ns) n h)))

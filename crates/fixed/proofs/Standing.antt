@@ -45,6 +45,7 @@ module _ (k : Fixed) (o : SortOptions) where
     where
       w : ℕ
       w = width k
+
       go : (t : Bool) → eqb b (nullByte o) ≡ t → Stands (b ∷ s)
       go true q =
           let e = eqb-true b (nullByte o) q in
@@ -138,6 +139,7 @@ true-byte o s y e h g = rw e (go (eqb (getD s 0 0) (nullByte o)) refl)
   where
     f : Stands bool o s
     f = stands bool o s g
+
     go : (t : Bool) → eqb (getD s 0 0) (nullByte o) ≡ t → eqb (getD s 1 0) (turn (o .descending) 1) ≡ isTrue (slotRead (readFixed bool o s))
     go true q =
         let n = f .null (eqb-true (getD s 0 0) (nullByte o) q) in

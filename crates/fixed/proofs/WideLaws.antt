@@ -13,6 +13,7 @@ not-bool {kind} w e = w .other (sym same)
   where
     told : fixed bool ≡ fixed (w .k)
     told = sym (ap shape e) ∙ w .says
+
     same : bool ≡ w .k
     same = cc
 
@@ -21,5 +22,6 @@ not-variable {kind} w e = let z : _≡_ {A = ℕ} 0 1 = differ in omega arith
   where
     told : variable ≡ fixed (w .k)
     told = sym (ap shape e) ∙ w .says
+
     differ : _≡_ {A = ℕ} 0 1
     differ = cc

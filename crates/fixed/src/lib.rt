@@ -6,6 +6,12 @@ mod reader;
 mod runs;
 mod signed;
 
-pub use encoder::{encode, encode_boolean, encode_fixed_size_binary, encode_null};
-pub use decoder::{decode, decode_boolean, is_valid};
-pub use reader::{read, read_boolean};
+pub use decoder::decode;
+pub use decoder::decode_boolean;
+pub use decoder::is_valid;
+pub use encoder::encode;
+pub use encoder::encode_boolean;
+pub use encoder::encode_fixed_size_binary;
+pub use encoder::encode_null;
+pub use reader::read;
+pub use reader::read_boolean;
