@@ -8,10 +8,16 @@ ghost use Rattle.format.specs.Field.{directed};
 ghost use Rattle.format.specs.Read.{Good, leftAfter, readVariable, slotRead};
 ghost use Rattle.format.specs.Cleared.{variableSlot};
 ghost use Rattle.variable.specs.Counted.{blocksRead, restOf, valueOf};
-use crate::block::{block_size, BLOCK_CONTINUATION, EMPTY_SENTINEL};
-use crate::byte::{byte_at, wide};
-use format::{null_sentinel, SortOptions};
-use number::{directed64, low64, put64};
+use crate::block::BLOCK_CONTINUATION;
+use crate::block::EMPTY_SENTINEL;
+use crate::block::block_size;
+use crate::byte::byte_at;
+use crate::byte::wide;
+use format::SortOptions;
+use format::null_sentinel;
+use number::directed64;
+use number::low64;
+use number::put64;
 
 // How long the field was, and how many bytes were written.
 pub struct Copied {
@@ -55,7 +61,14 @@ fn copy_bytes(row: &[u8], from: usize, count: usize, descending: bool, out: &mut
 {
     let words = count - count % 8;
     copy_words(row, from, words, descending, out, at);
-    copy_rest(row, from + words, count - words, descending, out, at + words);
+    copy_rest(
+        row,
+        from + words,
+        count - words,
+        descending,
+        out,
+        at + words,
+    );
 }
 
 // The data of the blocks of a field, after its lead byte.
@@ -75,7 +88,10 @@ fn copy_blocks(row: &[u8], descending: bool, out: &mut [u8], at: usize) -> Copie
         if end != BLOCK_CONTINUATION {
             let used = wide(end);
             copy_bytes(row, from, used, descending, out, at + count);
-            return Copied { field: from + size + 1, value: count + used };
+            return Copied {
+                field: from + size + 1,
+                value: count + used,
+            };
         }
         copy_words(row, from, size, descending, out, at + count);
         from += size + 1;

@@ -1,17 +1,23 @@
 // A slot into its field, from a place of the row buffer on. Each writer returns the place after what it wrote.
 ghost use mathlib.Core.Path.{_≡_};
 ghost use mathlib.Core.Option.{none, some};
-ghost use mathlib.Core.List.{[], _∷_};
 ghost use Prim.Native.Nat.{_+_, _%_, _<_, _≤_};
 ghost use lib.ListN.{length, take, drop};
 ghost use lib.Seq.{sets};
 ghost use Rattle.format.specs.Lists.{low};
 ghost use Rattle.format.specs.Field.{block, directed, paddedLength, variableField};
 ghost use Rattle.variable.specs.Even.{evenBlocks};
+use crate::block::BLOCK_CONTINUATION;
+use crate::block::BLOCK_SIZE;
+use crate::block::EMPTY_SENTINEL;
+use crate::block::MINI_BLOCK_SIZE;
+use crate::block::NON_EMPTY_SENTINEL;
 use crate::byte::put_byte;
-use crate::block::{BLOCK_CONTINUATION, BLOCK_SIZE, EMPTY_SENTINEL, MINI_BLOCK_SIZE, NON_EMPTY_SENTINEL};
-use format::{null_sentinel, SortOptions};
-use number::{directed64, low64, put64};
+use format::SortOptions;
+use format::null_sentinel;
+use number::directed64;
+use number::low64;
+use number::put64;
 
 // Null: the null byte, which descending does not invert.
 pub fn encode_null(out: &mut [u8], at: usize, options: SortOptions) -> usize
@@ -86,7 +92,14 @@ fn encode_blocks(out: &mut [u8], at: usize, val: &[u8], size: usize, descending:
     let mut place = at;
     let mut i = 0;
     while size < len - i {
-        encode_block(out, place, &val[i..i + size], size, BLOCK_CONTINUATION, descending);
+        encode_block(
+            out,
+            place,
+            &val[i..i + size],
+            size,
+            BLOCK_CONTINUATION,
+            descending,
+        );
         place += size + 1;
         i += size;
     }

@@ -1,16 +1,23 @@
 // The count walk: what the field in front of a row is, how long it and its value are, or what is wrong with it. Total on
 // any bytes; bytes are inverted back as they are read.
 ghost use mathlib.Core.Path.{_≡_};
-ghost use mathlib.Core.List.{_∷_};
 ghost use Prim.Native.Nat.{_+_, _-_, _<_, _≤_};
 ghost use lib.ListN.{length, take, drop};
 ghost use Rattle.format.specs.Limits.{maxSlot};
 ghost use Rattle.format.specs.Field.{directed};
 ghost use Rattle.format.specs.Read.{fieldRead, fromBad, readVariable};
 ghost use Rattle.variable.specs.Counted.{blocksRead, counted, Ended};
-use crate::byte::{byte_at, wide};
-use crate::block::{block_size, BLOCK_CONTINUATION, EMPTY_SENTINEL, NON_EMPTY_SENTINEL};
-use format::{null_sentinel, FieldRead, RowFault, SortOptions, MAX_SLOT};
+use crate::block::BLOCK_CONTINUATION;
+use crate::block::EMPTY_SENTINEL;
+use crate::block::NON_EMPTY_SENTINEL;
+use crate::block::block_size;
+use crate::byte::byte_at;
+use crate::byte::wide;
+use format::FieldRead;
+use format::MAX_SLOT;
+use format::RowFault;
+use format::SortOptions;
+use format::null_sentinel;
 
 // How many bytes there are before `to` from the first that is not zero on, of those from `from` on.
 fn unpadded(row: &[u8], from: usize, to: usize, descending: bool) -> usize
@@ -30,7 +37,14 @@ fn unpadded(row: &[u8], from: usize, to: usize, descending: bool) -> usize
 }
 
 // A last block at a place, whose end byte says how many data bytes it has, with `count` bytes of the value before it.
-fn last_block(row: &[u8], at: usize, size: usize, end: usize, count: usize, descending: bool) -> FieldRead
+fn last_block(
+    row: &[u8],
+    at: usize,
+    size: usize,
+    end: usize,
+    count: usize,
+    descending: bool,
+) -> FieldRead
     requires { ⌜ at + size < length (now row) ⌝ }
     requires { ⌜ (end ≡ 255 → ⊥) ⌝ }
     requires { ⌜ count ≤ maxSlot ⌝ }

@@ -1,6 +1,6 @@
 -- `variable::copier::copy_words` meets its contract: each turn copies a word. Assumes nothing.
 use Prim.Native.Nat.{_-_, _%_}
-use mathlib.Core.Path.{_≡_, refl, sym, ap, _∙_}
+use mathlib.Core.Path.{_≡_, refl}
 use native.Mathlib.Omega.{arith}
 use borrow.Author.Needs.{needs}
 use Rattle.variable.proofs.Copying.{Copied, copy-start, copy-word, copy-end}
@@ -42,11 +42,12 @@ loop-again c =
     let turn = c .before .before .before in
     let L = turn .before .before .before .before in
     let s = L .loop in
-    let known = L .before .before in
-    (rw (c .before .before .put64 .ensures)
-    (copy-word (s .inv .0) 8 (turn .before .before .low64 .result) (turn .directed64 .result) (omega arith) (known .before .pre .1 .0)
-    (λ i. known .shared-slice-known .given i .fits) (turn .before .before .low64 .ensures) (turn .directed64 .ensures)),
-    omega arith)
+    let known = L .before .before in (
+      rw (c .before .before .put64 .ensures)
+          (copy-word (s .inv .0) 8 (turn .before .before .low64 .result) (turn .directed64 .result) (omega arith) (known .before .pre .1 .0)
+          (λ i. known .shared-slice-known .given i .fits) (turn .before .before .low64 .ensures) (turn .directed64 .ensures)),
+      omega arith,
+    )
 
 same-length : tie.Need-same-length Inv-loop μ-loop
 same-length c = c .before .loop .inv .0 .wrote .same

@@ -35,9 +35,10 @@ copy-blocks-requires c κs =
     let e = b .before in
     let s = e .before .before .before in
     let A = s .before .before .args in
-    let n : getD (directed (A .options .descending) (A .row .now)) 0 0 ≡ 1 → ⊥ = λ x. c .before .if2 .left (b .byte-at .ensures ∙ x) in
-    (blocks-good (A .options) (A .row .now) (led s) (past e) (s .before .before .pre .0) n,
-    blocks-room (A .options) (A .row .now) (led s) (past e) (s .before .before .pre .0) n (A .out .now) (A .at) (s .before .before .pre .1))
+    let n : getD (directed (A .options .descending) (A .row .now)) 0 0 ≡ 1 → ⊥ = λ x. c .before .if2 .left (b .byte-at .ensures ∙ x) in (
+      blocks-good (A .options) (A .row .now) (led s) (past e) (s .before .before .pre .0) n,
+      blocks-room (A .options) (A .row .now) (led s) (past e) (s .before .before .pre .0) n (A .out .now) (A .at) (s .before .before .pre .1),
+    )
 
 returns-3 : tie.Need-returns-3
 returns-3 c =

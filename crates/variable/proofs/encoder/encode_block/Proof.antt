@@ -33,11 +33,12 @@ loop-again : tie.Need-loop-again Inv-loop μ-loop
 loop-again c =
     let turn = c .before .before .before in
     let L = turn .before .before .before .before in
-    let known = L .before in
-    (rw (c .before .before .put64 .ensures)
-    (fill-word (L .loop .inv .0) 8 (turn .before .before .word-at .result) (turn .directed64 .result) (omega arith)
-    (bytes-of (known .before .before .args .input .now) (λ i. known .shared-slice-known .given i .fits)) (turn .before .before .word-at .ensures) (turn .directed64 .ensures)),
-    omega arith)
+    let known = L .before in (
+      rw (c .before .before .put64 .ensures)
+          (fill-word (L .loop .inv .0) 8 (turn .before .before .word-at .result) (turn .directed64 .result) (omega arith)
+          (bytes-of (known .before .before .args .input .now) (λ i. known .shared-slice-known .given i .fits)) (turn .before .before .word-at .ensures) (turn .directed64 .ensures)),
+      omega arith,
+    )
 
 put-byte-requires : tie.Need-put-byte-requires Inv-loop μ-loop
 put-byte-requires c κs = omega (arith, c .before .before .loop .inv .0 .wrote .same)
@@ -46,7 +47,7 @@ same-length : tie.Need-same-length Inv-loop μ-loop
 same-length c = c .before .before .put-byte .kept .0 ∙ c .before .before .before .before .before .loop .inv .0 .wrote .same
 
 returns : tie.Need-returns Inv-loop μ-loop
-returns c = fill-end (c .before .before .before .before .before .loop .inv .0) _ (c .before .before .before .before .loop-test .left) (c .before .before .put-byte .ensures)
+returns c = fill-end (c .before .before .before .before .before .loop .inv .0) _ (omega arith) (c .before .before .put-byte .ensures)
 
 pub encode-block-spec : {M : Type 1} → statement M
 encode-block-spec =

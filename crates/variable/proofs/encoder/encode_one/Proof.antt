@@ -1,9 +1,9 @@
 -- `variable::encoder::encode_one` meets its contract: the parts are written one after the other. Assumes nothing.
 use Prim.Native.Nat.{_-_, _<_, _≤_}
-use mathlib.Core.Path.{_≡_, refl, sym, _∙_}
+use mathlib.Core.Path.{refl, sym}
 use native.Mathlib.Omega.{arith}
 use borrow.Author.Needs.{needs}
-use lib.ListN.{length, take, drop, length-drop}
+use lib.ListN.{length, drop, length-drop}
 use lib.Seq.{length-take-le}
 use Rattle.variable.proofs.Whole.{lead-room, one-empty, short-room, one-short, first-room, again-room, later-room, one-long}
 use Rattle.variable.proofs.encoder.encode_one.Statement.{statement}
@@ -22,9 +22,13 @@ returns c =
 encode-blocks-requires : tie.Need-encode-blocks-requires
 encode-blocks-requires c κs =
     let b = c .before .before .before .before in
-    let s = b .before .before .before .before .before in
-    ((omega arith, omega arith, refl), (omega arith,
-    short-room (s .args .val .now) (s .args .out .now) (s .args .at) (s .args .options .descending) (s .pre .1) _ (b .put-byte2 .ensures) (omega arith) (c .before .if2 .taken)))
+    let s = b .before .before .before .before .before in (
+      (omega arith, omega arith, refl),
+      (
+        omega arith,
+        short-room (s .args .val .now) (s .args .out .now) (s .args .at) (s .args .options .descending) (s .pre .1) _ (b .put-byte2 .ensures) (omega arith) (c .before .if2 .taken),
+      ),
+    )
 
 returns-2 : tie.Need-returns-2
 returns-2 c =
@@ -40,9 +44,13 @@ slice-aggregate-encode-blocks c = sym (length-take-le 32 (c .before .before .bef
 encode-blocks-requires-2 : tie.Need-encode-blocks-requires-2
 encode-blocks-requires-2 c κs =
     let b = c .before .before .before .before .before in
-    let s = b .before .before .before .before .before in
-    ((omega arith, omega arith, refl), (omega (arith, length-take-le 32 (s .args .val .now) (omega arith)),
-    first-room (s .args .val .now) (s .args .out .now) (s .args .at) (s .args .options .descending) (s .pre .1) _ (b .put-byte2 .ensures) (c .before .before .if2 .left)))
+    let s = b .before .before .before .before .before in (
+      (omega arith, omega arith, refl),
+      (
+        omega (arith, length-take-le 32 (s .args .val .now) (omega arith)),
+        first-room (s .args .val .now) (s .args .out .now) (s .args .at) (s .args .options .descending) (s .pre .1) _ (b .put-byte2 .ensures) (c .before .before .if2 .left),
+      ),
+    )
 
 -- the end byte that is written again
 again : (c : tie.After-encode-blocks2) → (1 ≤ c .encode-blocks2 .result) × (c .encode-blocks2 .result - 1 < length (c .encode-blocks2 .last .0))
@@ -58,10 +66,14 @@ encode-blocks-requires-3 c κs =
     let t = w .before .before .before in
     let b = t .before .before .before in
     let s = b .before .before .before .before .before in
-    let v = s .args .val .now in
-    ((omega arith, omega arith, refl), (omega (arith, t .if2 .left, length-take-le (length v - 32) (drop 32 v) (omega (arith, length-drop 32 v)), length-drop 32 v),
-    later-room (s .args .val .now) (s .args .out .now) (s .args .at) (s .args .options .descending) (s .pre .1) _ (b .put-byte2 .ensures) (t .if2 .left) _ (w .encode-blocks2 .ensures .0) _ (w .encode-blocks2 .ensures .1)
-    _ (c .before .before .before .before .put-byte3 .ensures)))
+    let v = s .args .val .now in (
+      (omega arith, omega arith, refl),
+      (
+        omega (arith, t .if2 .left, length-take-le (length v - 32) (drop 32 v) (omega (arith, length-drop 32 v)), length-drop 32 v),
+        later-room (s .args .val .now) (s .args .out .now) (s .args .at) (s .args .options .descending) (s .pre .1) _ (b .put-byte2 .ensures) (t .if2 .left) _ (w .encode-blocks2 .ensures .0) _ (w .encode-blocks2 .ensures .1)
+            _ (c .before .before .before .before .put-byte3 .ensures),
+      ),
+    )
 
 returns-3 : tie.Need-returns-3
 returns-3 c =

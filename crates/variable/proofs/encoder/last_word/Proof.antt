@@ -30,9 +30,10 @@ turn : (c : tie.In-loop Inv-loop μ-loop)
 turn c =
     let L = c .before .loop in
     let known = c .before .before in
-    let l = known .before .args .input .now in
-    (word-more l (L .i) (L .x) (omega arith) (L .inv .1) (L .inv .2),
-    word-fits l (L .i - 1) (bytes-of l (λ i. known .shared-slice-known .given i .fits)) (omega arith))
+    let l = known .before .args .input .now in (
+      word-more l (L .i) (L .x) (omega arith) (L .inv .1) (L .inv .2),
+      word-fits l (L .i - 1) (bytes-of l (λ i. known .shared-slice-known .given i .fits)) (omega arith),
+    )
 
 mul-x : tie.Need-mul-x Inv-loop μ-loop
 mul-x c = omega (arith, turn c)
