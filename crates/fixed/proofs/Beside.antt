@@ -7,11 +7,10 @@ use mathlib.Core.List.{List, [], _∷_}
 use native.Mathlib.Omega.{arith}
 use lib.Dec.{ltb, eqb}
 use lib.ListN.{length, getD, take, drop, length-drop}
-use lib.Seq.{drop-cons}
 use borrow.Author.Tests.{lt-ltb, le-ltb, ltb-true, ltb-false, eqb-true, eqb-false}
 use Rattle.format.specs.declared.SortOptions.{SortOptions}
 use Rattle.format.specs.declared.FieldRead.{FieldRead}
-use Rattle.format.specs.declared.FieldRead.the-variants.{Null, Value, Fault}
+use Rattle.format.specs.declared.FieldRead.the-variants.{Value, Fault}
 use Rattle.format.specs.declared.RowFault.the-variants.{BoolByte, Cut, Lead, NullRest}
 use Rattle.format.specs.Kinds.{Slot, bool, plain}
 use Rattle.format.specs.Cleared.{valid}
@@ -46,11 +45,13 @@ beside o (b ∷ s) = by-null (eqb b (nullByte o)) refl
     by-length false l n e =
         let h = ltb-false (length s) 1 l in
         valued (omega arith) (lead-value (plain 1) o (b ∷ s) (omega arith) n e) (lead-value bool o (b ∷ s) (omega arith) n e)
+
     by-one : (t : Bool) → eqb b 1 ≡ t → (b ≡ nullByte o → ⊥) → Beside o (b ∷ s)
     by-one true q n = by-length (ltb (length s) 1) refl n (eqb-true b 1 q)
     by-one false q n =
         let e = eqb-false b 1 q in
         alike (fault Lead (suc (length s))) refl (lead-bad (plain 1) o (b ∷ s) (omega arith) n e) (lead-bad bool o (b ∷ s) (omega arith) n e)
+
     by-null : (t : Bool) → eqb b (nullByte o) ≡ t → Beside o (b ∷ s)
     by-null true q =
         let e = eqb-true b (nullByte o) q in

@@ -44,6 +44,7 @@ module _ (h : Taken) where
       where
         shapes : fixed k ≡ fixed j
         shapes = sym is ∙ sym (ap shape e) ∙ q
+
         same : k ≡ j
         same = cc
 

@@ -57,7 +57,7 @@ module _ (h : Handed) where
           wrote n bytes r last (
             p .0,
             p .1 ∙ ap (λ (f : List ℕ). sets (h .out) (h .at) (1 ∷ directed (h .options .descending) f)) (q ∙ ap key (take-all n (h .val) (omega (arith, fits))))
-            ∙ ap (sets (h .out) (h .at)) (sym keyed),
+                ∙ ap (sets (h .out) (h .at)) (sym keyed),
           )
 
       -- x is the word of the value, y that of the key

@@ -9,7 +9,6 @@ use lib.Seq.{sets, length-take-le, drop-drop, take-take}
 use Rattle.format.specs.Lists.{lowBytes, sum}
 use Rattle.format.specs.Key.{invert, partsKey, partsUnkey, signedKey, signedUnkey, topFlipped}
 use Rattle.format.specs.Field.{directed}
-use Rattle.laws.proofs.Append.{sets-append}
 use Rattle.laws.proofs.Bytes.{length-topFlipped, long-signed}
 use Rattle.fixed.proofs.Writing.{run-next}
 use Rattle.fixed.proofs.Reading.{length-directed}
@@ -67,6 +66,7 @@ module _ (d : Bool) (v out : List ℕ) (at : ℕ) where
     where
       long : length (directed d (partsKey ns v)) ≡ sum ns
       long = length-directed d (partsKey ns v) ∙ ap length (key-parted ns v) ∙ parted-long signedKey long-signed ns v h
+
       joined : directed d (partsKey ns v) ++ lowBytes n y ≡ directed d (partsKey (ns ++ (n ∷ [])) v)
       joined =
           ap (λ (f : List ℕ). directed d (partsKey ns v) ++ f) (q ∙ ap (directed d) e)
@@ -116,8 +116,10 @@ module _ (d : Bool) (w : ℕ) (row out : List ℕ) (at : ℕ) where
     where
       room : sum ns ≤ length body
       room = omega (arith, length-directed d (take w (drop 1 row)), length-take-le w (drop 1 row) (omega (arith, length-drop 1 row)))
+
       long : length (partsUnkey ns body) ≡ sum ns
       long = ap length (unkey-parted ns body) ∙ parted-long signedUnkey long-unsigned ns body room
+
       joined : partsUnkey ns body ++ lowBytes n x ≡ partsUnkey (ns ++ (n ∷ [])) body
       joined =
           ap₂ (λ (f g : List ℕ). f ++ g) (unkey-parted ns body) (e ∙ ap signedUnkey (sym (part-at (sum ns) n h)))

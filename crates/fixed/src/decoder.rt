@@ -12,15 +12,31 @@ ghost use Rattle.format.specs.Cleared.{fixedSlot, isTrue, valid};
 ghost use Rattle.fixed.specs.Wide.{WideKind};
 use crate::runs::copy_directed;
 use crate::runs::zeros;
-use crate::signed::{unkey8, unkey16, unkey32, unkey64};
+use crate::signed::unkey8;
+use crate::signed::unkey16;
+use crate::signed::unkey32;
+use crate::signed::unkey64;
 use format::Kind;
 use format::SortOptions;
 use format::null_sentinel;
 use format::width;
-use number::{decode_f16, decode_f32, decode_f64};
-use number::{decode_u8, decode_u16, decode_u32, decode_u64};
-use number::{directed8, directed16, directed32, directed64};
-use number::{low16, low32, low64, put16, put32, put64};
+use number::decode_f16;
+use number::decode_f32;
+use number::decode_f64;
+use number::decode_u8;
+use number::decode_u16;
+use number::decode_u32;
+use number::decode_u64;
+use number::directed8;
+use number::directed16;
+use number::directed32;
+use number::directed64;
+use number::low16;
+use number::low32;
+use number::low64;
+use number::put16;
+use number::put32;
+use number::put64;
 
 // Whether the slot is valid: the lead byte is not the null byte.
 pub fn is_valid(row: &[u8], options: SortOptions) -> bool
@@ -89,6 +105,7 @@ fn decode_value(row: &[u8], kind: Kind, descending: bool, out: &mut [u8], at: us
             let end = 1 + w;
             copy_directed(out, at, &row[1..end], descending)
         }
+        // Not handed.
         Kind::Bool => {}
         Kind::Variable => {}
     }

@@ -16,14 +16,30 @@ ghost use Rattle.format.specs.Field.{directed, field, fixedField, nullByte};
 ghost use Rattle.fixed.specs.Wide.{WideKind};
 use crate::runs::copy_directed;
 use crate::runs::zeros;
-use crate::signed::{key8, key16, key32, key64};
+use crate::signed::key8;
+use crate::signed::key16;
+use crate::signed::key32;
+use crate::signed::key64;
 use format::Kind;
 use format::SortOptions;
 use format::null_sentinel;
-use number::{directed8, directed16, directed32, directed64};
-use number::{encode_f16, encode_f32, encode_f64};
-use number::{encode_u8, encode_u16, encode_u32, encode_u64};
-use number::{low16, low32, low64, put16, put32, put64};
+use number::directed8;
+use number::directed16;
+use number::directed32;
+use number::directed64;
+use number::encode_f16;
+use number::encode_f32;
+use number::encode_f64;
+use number::encode_u8;
+use number::encode_u16;
+use number::encode_u32;
+use number::encode_u64;
+use number::low16;
+use number::low32;
+use number::low64;
+use number::put16;
+use number::put32;
+use number::put64;
 
 // Null: the null byte, then zeros to the length of a value.
 pub fn encode_null(out: &mut [u8], at: usize, width: usize, options: SortOptions) -> usize
@@ -87,7 +103,12 @@ pub fn encode_boolean(out: &mut [u8], at: usize, val: bool, options: SortOptions
 }
 
 // Fixed binary, as it stands.
-pub fn encode_fixed_size_binary(out: &mut [u8], at: usize, val: &[u8], options: SortOptions) -> usize
+pub fn encode_fixed_size_binary(
+    out: &mut [u8],
+    at: usize,
+    val: &[u8],
+    options: SortOptions,
+) -> usize
     requires { ⌜ at + 1 + length (now val) ≤ length (now out) ⌝ }
     ensures { λ r. ⌜ r ≡ at + 1 + length (now (val .entry)) ⌝ }
     ensures { λ _. ⌜ now (out .exit) ≡ sets (now (out .entry)) at (fixedField (plain (length (now (val .entry)))) options (some (now (val .entry)))) ⌝ }
@@ -149,6 +170,7 @@ pub fn encode(out: &mut [u8], at: usize, kind: Kind, val: &[u8], options: SortOp
         Kind::DayTime => encode_day_time(out, at, val, descending),
         Kind::MonthDayNano => encode_month_day_nano(out, at, val, descending),
         Kind::FixedBinary(_) => encode_fixed_size_binary(out, at, val, options),
+        // Not handed.
         Kind::Bool => at,
         Kind::Variable => at,
     }

@@ -5,12 +5,29 @@ ghost use lib.ListN.{length, take, drop};
 ghost use Rattle.format.specs.Lists.{lowBytes};
 ghost use Rattle.format.specs.Key.{signedKey, signedUnkey};
 ghost use Rattle.format.specs.Field.{directed};
-use number::{decode_i8, decode_i16, decode_i32, decode_i64};
-use number::{directed8, directed16, directed32, directed64};
-use number::{encode_i8, encode_i16, encode_i32, encode_i64};
-use number::{low16, low32, low64};
-use number::{pattern8, pattern16, pattern32, pattern64};
-use number::{signed8, signed16, signed32, signed64};
+use number::decode_i8;
+use number::decode_i16;
+use number::decode_i32;
+use number::decode_i64;
+use number::directed8;
+use number::directed16;
+use number::directed32;
+use number::directed64;
+use number::encode_i8;
+use number::encode_i16;
+use number::encode_i32;
+use number::encode_i64;
+use number::low16;
+use number::low32;
+use number::low64;
+use number::pattern8;
+use number::pattern16;
+use number::pattern32;
+use number::pattern64;
+use number::signed8;
+use number::signed16;
+use number::signed32;
+use number::signed64;
 
 // The word whose bytes, low byte first, are the value bytes of the number at `from`.
 pub fn key8(s: &[u8], from: usize) -> u8

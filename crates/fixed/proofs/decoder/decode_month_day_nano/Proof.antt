@@ -16,7 +16,7 @@ returns c =
     let A = start .args in
     let one = unkey-first (A .descending) 16 (A .row .now) (A .out .now) (A .at) 4 _ _ (omega arith) (parts .before .before .unkey32 .ensures) (first .put32 .ensures) in
     let two =
-        unkey-next (A .descending) 16 (A .row .now) (A .out .now) (A .at) (4 ∷ []) 4 _ _ _ (omega arith) (start .pre .0) one (parts .before .unkey322 .ensures) (second .put322 .ensures) in
+    unkey-next (A .descending) 16 (A .row .now) (A .out .now) (A .at) (4 ∷ []) 4 _ _ _ (omega arith) (start .pre .0) one (parts .before .unkey322 .ensures) (second .put322 .ensures) in
     unkey-next (A .descending) 16 (A .row .now) (A .out .now) (A .at) (4 ∷ 4 ∷ []) 8 _ _ _ (omega arith) (start .pre .0) two (parts .unkey64 .ensures) (third .put64 .ensures)
 
 pub decode-month-day-nano-spec : {M : Type 1} → statement M

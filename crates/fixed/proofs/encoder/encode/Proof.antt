@@ -1,14 +1,9 @@
 -- `fixed::encoder::encode` meets its contract: each arm writes the key that the table of kinds has. Assumes nothing.
 use borrow.Author.Needs.{needs}
-use Prim.Native.Nat.{ℕ}
-use mathlib.Core.Path.{_≡_, refl, ap}
-use mathlib.Core.Option.{some}
-use mathlib.Core.List.{List, _∷_}
+use mathlib.Core.Path.{refl, ap}
 use native.Mathlib.Omega.{arith}
-use Rattle.format.specs.declared.Kind.{Kind}
-use Rattle.format.specs.Kinds.{shape, valueBytes}
+use Rattle.format.specs.Kinds.{valueBytes}
 use Rattle.format.specs.Key.{floatKey, signedKey, unsignedKey}
-use Rattle.format.specs.Field.{directed, field}
 use Rattle.number.proofs.Words.{byte}
 use Rattle.fixed.proofs.WideLaws.{not-bool, not-variable}
 use Rattle.fixed.proofs.EncodeArms.{Handed, wrote, wrote-key, wrote-code, wrote-plain}

@@ -19,8 +19,7 @@ number-is false = refl
 returns : tie.Need-returns
 returns c =
     let put = c .before .before in
-    let A = put .before .before .before .args in
-    (
+    let A = put .before .before .before .args in (
       put .put-word8 .ensures .0,
       put .put-word8 .ensures .1 ∙ ap (λ (f : List ℕ). sets (A .out .now) (A .at) (1 ∷ directed (A .options .descending) f)) (number-is (A .val)),
     )

@@ -14,11 +14,10 @@ returns c =
     let keys = first .before .before in
     let start = keys .before .before .before .before in
     let A = start .args in
-    let one = key-first (A .descending) (A .val .now) (A .out .now) (A .at) 4 _ _ (keys .before .key32 .ensures) (first .put-word32 .ensures .1) in
-    (
+    let one = key-first (A .descending) (A .val .now) (A .out .now) (A .at) 4 _ _ (keys .before .key32 .ensures) (first .put-word32 .ensures .1) in (
       refl,
       key-next (A .descending) (A .val .now) (A .out .now) (A .at) (4 ∷ []) 4 _ _ _ _ (omega (arith, start .pre)) one
-      (keys .key322 .ensures) (second .before .directed32 .ensures) (second .put32 .ensures),
+          (keys .key322 .ensures) (second .before .directed32 .ensures) (second .put32 .ensures),
     )
 
 pub encode-day-time-spec : {M : Type 1} → statement M

@@ -17,12 +17,11 @@ returns c =
     let A = start .args in
     let one = key-first (A .descending) (A .val .now) (A .out .now) (A .at) 4 _ _ (keys .before .before .key32 .ensures) (first .put-word32 .ensures .1) in
     let two =
-        key-next (A .descending) (A .val .now) (A .out .now) (A .at) (4 ∷ []) 4 _ _ _ _ (omega (arith, start .pre)) one
-        (keys .before .key322 .ensures) (second .before .directed32 .ensures) (second .put32 .ensures) in
-    (
+    key-next (A .descending) (A .val .now) (A .out .now) (A .at) (4 ∷ []) 4 _ _ _ _ (omega (arith, start .pre)) one
+    (keys .before .key322 .ensures) (second .before .directed32 .ensures) (second .put32 .ensures) in (
       refl,
       key-next (A .descending) (A .val .now) (A .out .now) (A .at) (4 ∷ 4 ∷ []) 8 _ _ _ _ (omega (arith, start .pre)) two
-      (keys .key64 .ensures) (third .before .directed64 .ensures) (third .put64 .ensures),
+          (keys .key64 .ensures) (third .before .directed64 .ensures) (third .put64 .ensures),
     )
 
 pub encode-month-day-nano-spec : {M : Type 1} → statement M
