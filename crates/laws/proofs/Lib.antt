@@ -21,3 +21,15 @@ pub mod ReadFixed
 pub mod ReadField
 pub mod ReadRow
 pub mod FaultPlace
+pub mod Lists
+pub mod Checks
+pub mod Sheets
+pub mod Places
+pub mod Turned
+pub mod Totals
+pub mod Cleared
+pub mod Room
+pub mod Cuts
+pub mod Unique
+pub mod Accept
+pub mod Trips

@@ -2,7 +2,6 @@
 use Prim.Native.Nat.{ℕ, suc}
 use mathlib.Core.Path.{_≡_, refl, ap, sym, _∙_, subst}
 use mathlib.Core.List.{List, [], _∷_, _++_}
-use native.Mathlib.Omega.{arith}
 use Rattle.format.specs.Field.{field}
 use Rattle.format.specs.Fits.{RowFits, SlotFits}
 use Rattle.format.specs.Kinds.{Slot, columnShape}
@@ -15,6 +14,7 @@ use Rattle.format.specs.declared.Check.the-variants.{Pass, Refuse}
 use Rattle.format.specs.declared.Column.{Column}
 use Rattle.format.specs.declared.Refusal.{Refusal}
 use Rattle.laws.proofs.Bytes.{bytes-right}
+use Rattle.laws.proofs.Checks.{refuse-pass}
 use Rattle.laws.proofs.Fields.{bytes-row}
 use Rattle.laws.proofs.ReadField.{field-read, read-field}
 
@@ -47,10 +47,6 @@ pub row-injective : (cols : List Column) (xs ys : List Slot) → RowFits cols xs
 row-injective cols xs ys hx hy e = sym (row-slots cols xs hx) ∙ ap (rowSlots cols) e ∙ row-slots cols ys hy
 
 -- ---- and only a row of slots that fit passes
-
--- a refusal is not a pass
-pub refuse-pass : {x : Refusal} → Refuse x ≡ Pass → ⊥
-refuse-pass e = let z : _≡_ {A = ℕ} 0 1 = cc in omega arith
 
 -- what passes is the row of the slots that are read from it, and they fit
 pub passed-row : (r c : ℕ) (cols : List Column) (f : List ℕ) → Bytes f → rowFault r c cols f ≡ Pass

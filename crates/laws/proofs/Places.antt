@@ -1,0 +1,102 @@
+-- Where the columns of a sheet stand, and a slot from its column's place. Assumes nothing.
+use Prim.Native.Nat.{ℕ, zero, suc, _+_, _<_, _≤_}
+use mathlib.Core.Path.{_≡_, refl, ap, sym, subst, _∙_}
+use mathlib.Core.Option.{none}
+use mathlib.Core.List.{List, [], _∷_}
+use native.Mathlib.Nat.{add-zero, add-suc, suc-add, zero-add}
+use native.Mathlib.Omega.{arith}
+use lib.ListN.{length, getD, drop, length-drop}
+use lib.Seq.{drop-drop}
+use Rattle.format.specs.declared.Check.the-variants.{Pass}
+use Rattle.format.specs.declared.Column.{Column}
+use Rattle.format.specs.Lists.{Bytes, each}
+use Rattle.format.specs.Kinds.{Slot}
+use Rattle.format.specs.Sheet.{Layout, layout, columnFault, columnBytes, slotAt, columnSlots, sheetFaultFrom, sheetFault, sheetSlots}
+use Rattle.laws.proofs.Lists.{each-at}
+use Rattle.laws.proofs.Checks.{enough, both-pass}
+use Rattle.laws.proofs.Sheets.{column-room}
+
+-- the place of column c of a sheet s of n rows, where column 0 stands at `at`; past the last column, the end of the last
+abbrev pub placeFrom : ℕ → ℕ → List Column → List ℕ → ℕ → ℕ
+placeFrom n at cols s zero = at
+placeFrom n at [] s (suc c) = at
+placeFrom n at (col ∷ cols) s (suc c) = placeFrom n (at + columnBytes (layout col) n (drop at s)) cols s c
+
+abbrev pub place : ℕ → List Column → List ℕ → ℕ → ℕ
+place n cols s c = placeFrom n 0 cols s c
+
+next-from : (n at : ℕ) (cols : List Column) (s : List ℕ) (c : ℕ) (d : Column) → c < length cols
+    → placeFrom n at cols s (suc c) ≡ placeFrom n at cols s c + columnBytes (layout (getD cols c d)) n (drop (placeFrom n at cols s c) s)
+next-from n at [] s c d l = absurd (omega arith)
+next-from n at (col ∷ cols) s zero d l = refl
+next-from n at (col ∷ cols) s (suc c) d l = next-from n (at + columnBytes (layout col) n (drop at s)) cols s c d (omega arith)
+
+-- a column stands where the one before it ends
+pub place-next : (n : ℕ) (cols : List Column) (s : List ℕ) (c : ℕ) (d : Column) → c < length cols
+    → place n cols s (suc c) ≡ place n cols s c + columnBytes (layout (getD cols c d)) n (drop (place n cols s c) s)
+place-next n cols s c d l = next-from n 0 cols s c d l
+
+-- past a column that stands at `at`
+pub past-column : (ly : Layout) (n at : ℕ) (s : List ℕ) → drop (columnBytes ly n (drop at s)) (drop at s) ≡ drop (at + columnBytes ly n (drop at s)) s
+past-column ly n at s = drop-drop (columnBytes ly n (drop at s)) at s
+
+-- ---- the slots of column c, by its place
+column-from : (n at : ℕ) (cols : List Column) (s : List ℕ) (c : ℕ) (d : Column) → c < length cols
+    → getD (sheetSlots n cols (drop at s)) c [] ≡ columnSlots (layout (getD cols c d)) n (drop (placeFrom n at cols s c) s)
+column-from n at [] s c d l = absurd (omega arith)
+column-from n at (col ∷ cols) s zero d l = refl
+column-from n at (col ∷ cols) s (suc c) d l =
+    ap (λ (z : List ℕ). getD (sheetSlots n cols z) c []) (past-column (layout col) n at s)
+    ∙ column-from n (at + columnBytes (layout col) n (drop at s)) cols s c d (omega arith)
+
+pub column-at : (n : ℕ) (cols : List Column) (s : List ℕ) (c : ℕ) (d : Column) → c < length cols
+    → getD (sheetSlots n cols s) c [] ≡ columnSlots (layout (getD cols c d)) n (drop (place n cols s c) s)
+column-at n cols s c d l = column-from n 0 cols s c d l
+
+-- slot r of column c
+pub slot-at-place : (n : ℕ) (cols : List Column) (s : List ℕ) (c r : ℕ) (d : Column) → c < length cols → r < n
+    → getD (getD (sheetSlots n cols s) c []) r none ≡ slotAt (layout (getD cols c d)) n (drop (place n cols s c) s) r
+slot-at-place n cols s c r d l m =
+    ap (λ (ss : List Slot). getD ss r none) (column-at n cols s c d l)
+    ∙ each-at n (slotAt (layout (getD cols c d)) n (drop (place n cols s c) s)) none r m
+
+-- ---- a sheet that passes
+
+-- each column passes at its place, and ends within the sheet
+pub record Stands (col : Column) (n c at : ℕ) (s : List ℕ) : Type 0 where
+  pub passes : columnFault (layout col) n c (drop at s) ≡ Pass
+  pub room : at + columnBytes (layout col) n (drop at s) ≤ length s
+
+-- the first of the columns from `at` on, and the others
+first-stands : (n c at : ℕ) (col : Column) (cols : List Column) (s : List ℕ) → at ≤ length s → sheetFaultFrom n c at (col ∷ cols) (drop at s) ≡ Pass
+    → Stands col n c at s
+    × (sheetFaultFrom n (suc c) (at + columnBytes (layout col) n (drop at s)) cols (drop (at + columnBytes (layout col) n (drop at s)) s) ≡ Pass)
+first-stands n c at col cols s l e =
+    let p = both-pass (columnFault (layout col) n c (drop at s)) _ e in (
+      record { passes = p .0; room = omega (arith, column-room (layout col) n c (drop at s) (p .0), length-drop at s) },
+      rw past-column at (p .1),
+    )
+
+stands-from : (n k at : ℕ) (cols : List Column) (s : List ℕ) (c : ℕ) (d : Column) → at ≤ length s → sheetFaultFrom n k at cols (drop at s) ≡ Pass → c < length cols
+    → Stands (getD cols c d) n (k + c) (placeFrom n at cols s c) s
+stands-from n k at [] s c d l e h = absurd (omega arith)
+stands-from n k at (col ∷ cols) s zero d l e h = rw add-zero (first-stands n k at col cols s l e .0)
+stands-from n k at (col ∷ cols) s (suc c) d l e h =
+    let p = first-stands n k at col cols s l e in
+    rw (add-suc k c, ← suc-add k c) (stands-from n (suc k) (at + columnBytes (layout col) n (drop at s)) cols s c d (p .0 .room) (p .1) (omega arith))
+
+pub column-stands : (n : ℕ) (cols : List Column) (s : List ℕ) (c : ℕ) (d : Column) → sheetFault n cols s ≡ Pass → c < length cols
+    → Stands (getD cols c d) n c (place n cols s c) s
+unfolding sheetFault
+column-stands n cols s c d e l = rw zero-add at (stands-from n 0 0 cols s c d (omega arith) e l)
+
+last-from : (n c at : ℕ) (cols : List Column) (s : List ℕ) → at ≤ length s → sheetFaultFrom n c at cols (drop at s) ≡ Pass → placeFrom n at cols s (length cols) ≡ length s
+last-from n c at [] s l e = omega (arith, enough 0 (length (drop at s)) _ _ e .0, length-drop at s)
+last-from n c at (col ∷ cols) s l e =
+    let p = first-stands n c at col cols s l e in
+    last-from n (suc c) (at + columnBytes (layout col) n (drop at s)) cols s (p .0 .room) (p .1)
+
+-- the last column ends with the sheet
+pub place-last : (n : ℕ) (cols : List Column) (s : List ℕ) → sheetFault n cols s ≡ Pass → place n cols s (length cols) ≡ length s
+unfolding sheetFault
+place-last n cols s e = last-from n 0 0 cols s (omega arith) e

@@ -1,0 +1,141 @@
+-- A sheet that passes: its columns have their bytes, and its slots fit. Assumes nothing.
+use Prim.Native.Nat.{ℕ, zero, suc, _+_, _-_, _*_, _<_, _≤_}
+use mathlib.Core.Path.{_≡_, refl, sym, subst, _∙_}
+use mathlib.Core.Bool.{Bool, true, false, not}
+use mathlib.Core.List.{List, [], _∷_}
+use mathlib.Core.Logic.{_⊎_, inl, inr}
+use native.Mathlib.Omega.{arith}
+use lib.Dec.{T, eqb}
+use lib.ListN.{length, take, drop, length-take, length-drop}
+use lib.Seq.{length-take-le}
+use borrow.Author.Tests.{eqb-true, not-false}
+use Rattle.format.specs.declared.Check.the-variants.{Pass}
+use Rattle.format.specs.declared.Column.{Column}
+use Rattle.format.specs.Limits.{maxSlot}
+use Rattle.format.specs.Lists.{Bytes, each}
+use Rattle.format.specs.Kinds.{Fixed, bool, plain, number, integer, float, parts, Shape, fixed, variable, Slot, width, columnShape}
+use Rattle.format.specs.Key.{allowed}
+use Rattle.format.specs.Fits.{Fits, SlotFits, AllSlots, SheetFits}
+use Rattle.format.specs.Sheet.{Layout, bits, ended, wide, layoutFor, layout, packed, bit, bitsFault, end, endsFault, variableFault, valuesFault, valuesBytes, boolByte, valueAt, slotIf, columnFault, columnBytes, slotAt, columnSlots, sheetFaultFrom, sheetFault, sheetSlots}
+use Rattle.bits.proofs.Nulls.{bits-passed}
+use Rattle.laws.proofs.Compare.{choose}
+use Rattle.laws.proofs.Bytes.{bytes-take, bytes-drop}
+use Rattle.laws.proofs.Lists.{length-each}
+use Rattle.laws.proofs.Checks.{failIf-pass, enough, both-pass}
+
+-- ---- the ends of a column of variable bytes
+
+-- ends j and j + 1 do not fall, and are no further apart than the limit
+abbrev pub Step : List ℕ → ℕ → Type 0
+Step s j = (end s j ≤ end s (suc j)) × (end s (suc j) - end s j ≤ maxSlot)
+
+steps-from : (c : ℕ) (s : List ℕ) (i k : ℕ) → endsFault c s i k ≡ Pass → (j : ℕ) → i ≤ j → j < i + k → Step s j
+steps-from c s i zero e j a b = absurd (omega arith)
+steps-from c s i (suc k) e j a b =
+    let rises = enough (end s (suc i)) (end s i) _ _ e in
+    let short = enough maxSlot (end s (suc i) - end s i) _ _ (rises .1) in
+    go (rises .0, short .0) (steps-from c s (suc i) k (short .1) j) (choose i j)
+  where
+    go : Step s i → (suc i ≤ j → j < suc i + k → Step s j) → (i < j) ⊎ (j ≤ i) → Step s j
+    go now later (inl l) = later l (omega arith)
+    go now later (inr l) = subst (Step s) (let same : i ≡ j = omega arith in same) now
+
+-- what a column of variable bytes that passes says of its ends
+pub record Ended (n : ℕ) (s : List ℕ) : Type 0 where
+  pub first : end s 0 ≡ 0
+  pub step : (j : ℕ) → j < n → Step s j
+  pub room : 4 * suc n + end s n ≤ length s
+
+pub variable-passed : (n c : ℕ) (s : List ℕ) → variableFault n c s ≡ Pass → Ended n s
+variable-passed n c s e =
+    let cut = enough (length s) (4 * suc n) _ _ e in
+    let from = failIf-pass (not (eqb (end s 0) 0)) _ _ (cut .1) in
+    let steps = both-pass (endsFault c s 0 n) _ (from .1) in
+    let all = enough (length s) (4 * suc n + end s n) _ _ (steps .1) in
+    record {
+      first = eqb-true (end s 0) 0 (not-false (eqb (end s 0) 0) (from .0));
+      step = λ j l. steps-from c s 0 n (steps .0) j (omega arith) (omega arith);
+      room = all .0;
+    }
+
+-- ---- the values of a column have their bytes
+values-room : (ly : Layout) (n c : ℕ) (s : List ℕ) → valuesFault ly n c s ≡ Pass → valuesBytes ly n s ≤ length s
+values-room bits n c s e = bits-passed n c s e .0
+values-room (wide w) n c s e = enough (length s) (n * w) _ _ e .0
+values-room ended n c s e = variable-passed n c s e .room
+
+-- a column that passes: its validity, then its values
+pub column-passed : (ly : Layout) (n c : ℕ) (s : List ℕ) → columnFault ly n c s ≡ Pass → (bitsFault n c s ≡ Pass) × (valuesFault ly n c (drop (packed n) s) ≡ Pass)
+column-passed ly n c s e = both-pass (bitsFault n c s) _ e
+
+pub column-room : (ly : Layout) (n c : ℕ) (s : List ℕ) → columnFault ly n c s ≡ Pass → columnBytes ly n s ≤ length s
+column-room ly n c s e =
+    let p = column-passed ly n c s e in
+    omega (arith, bits-passed n c s (p .0) .0, values-room ly n c (drop (packed n) s) (p .1), length-drop (packed n) s)
+
+-- ---- the slots of a column fit
+
+-- value j of n values of w bytes each ends within them
+pub within : (j n w : ℕ) → j < n → j * w + w ≤ n * w
+within j zero w h = absurd (omega arith)
+within zero (suc n) w h = omega arith
+within (suc j) (suc n) w h = omega (arith, within j n w (omega arith))
+
+wide-fits : (k : Fixed) (n c : ℕ) (s : List ℕ) → ((x : List ℕ) → T (allowed k x)) → Bytes s → valuesFault (wide (width k)) n c s ≡ Pass
+    → (i : ℕ) → i < n → Fits maxSlot (fixed k) (take (width k) (drop (i * width k) s))
+wide-fits k n c s any b e i l = (
+  bytes-take (width k) (drop (i * width k) s) (bytes-drop (i * width k) s b),
+  length-take-le (width k) (drop (i * width k) s)
+      (omega (arith, length-drop (i * width k) s, within i n (width k) l, enough (length s) (n * width k) _ _ e .0)),
+  any (take (width k) (drop (i * width k) s)),
+)
+
+bool-fits : (b : Bool) → Fits maxSlot (fixed bool) (boolByte b)
+bool-fits true = ((omega arith, tt), refl, tt)
+bool-fits false = ((omega arith, tt), refl, tt)
+
+pub value-fits : (sh : Shape) (n c : ℕ) (s : List ℕ) → Bytes s → valuesFault (layoutFor sh) n c s ≡ Pass → (i : ℕ) → i < n
+    → Fits maxSlot sh (valueAt (layoutFor sh) n s i)
+value-fits (fixed bool) n c s b e i l = bool-fits (bit s i)
+value-fits (fixed (plain w)) n c s b e i l = wide-fits (plain w) n c s (λ x. tt) b e i l
+value-fits (fixed (number w)) n c s b e i l = wide-fits (number w) n c s (λ x. tt) b e i l
+value-fits (fixed (integer w)) n c s b e i l = wide-fits (integer w) n c s (λ x. tt) b e i l
+value-fits (fixed (float w)) n c s b e i l = wide-fits (float w) n c s (λ x. tt) b e i l
+value-fits (fixed (parts ws)) n c s b e i l = wide-fits (parts ws) n c s (λ x. tt) b e i l
+value-fits variable n c s b e i l =
+    let t : List ℕ = drop (end s i) (drop (4 * suc n) s) in (
+      bytes-take (end s (suc i) - end s i) t (bytes-drop (end s i) (drop (4 * suc n) s) (bytes-drop (4 * suc n) s b)),
+      omega (arith, length-take (end s (suc i) - end s i) t, variable-passed n c s e .step i l .1),
+    )
+
+if-fits : (sh : Shape) (b : Bool) (v : List ℕ) → Fits maxSlot sh v → SlotFits maxSlot sh (slotIf b v)
+if-fits sh true v h = h
+if-fits sh false v h = tt
+
+-- slot r of a column that passes
+pub slot-fits : (sh : Shape) (n c : ℕ) (s : List ℕ) → Bytes s → columnFault (layoutFor sh) n c s ≡ Pass → (r : ℕ) → r < n
+    → SlotFits maxSlot sh (slotAt (layoutFor sh) n s r)
+slot-fits sh n c s b e r l =
+    if-fits sh (bit s r) _ (value-fits sh n c (drop (packed n) s) (bytes-drop (packed n) s b) (column-passed (layoutFor sh) n c s e .1) r l)
+
+slots-fit : (sh : Shape) (i k : ℕ) (f : ℕ → Slot) → ((j : ℕ) → i ≤ j → j < i + k → SlotFits maxSlot sh (f j)) → AllSlots sh (each i k f)
+slots-fit sh i zero f h = tt
+slots-fit sh i (suc k) f h = (h i (omega arith) (omega arith), slots-fit sh (suc i) k f (λ j a b. h j (omega arith) (omega arith)))
+
+pub column-fits : (sh : Shape) (n c : ℕ) (s : List ℕ) → Bytes s → columnFault (layoutFor sh) n c s ≡ Pass → AllSlots sh (columnSlots (layoutFor sh) n s)
+column-fits sh n c s b e = slots-fit sh 0 n (slotAt (layoutFor sh) n s) (λ j l m. slot-fits sh n c s b e j (omega arith))
+
+-- ---- and those of a sheet
+columns-fit : (n c at : ℕ) (cols : List Column) (s : List ℕ) → Bytes s → sheetFaultFrom n c at cols s ≡ Pass → SheetFits n cols (sheetSlots n cols s)
+columns-fit n c at [] s b e = tt
+columns-fit n c at (col ∷ cols) s b e =
+    let k : ℕ = columnBytes (layout col) n s in
+    let p = both-pass (columnFault (layout col) n c s) _ e in (
+      length-each 0 n (slotAt (layout col) n s),
+      column-fits (columnShape col) n c s b (p .0),
+      columns-fit n (suc c) (at + k) cols (drop k s) (bytes-drop k s b) (p .1),
+    )
+
+pub sheet-fits : (n : ℕ) (cols : List Column) (s : List ℕ) → Bytes s → sheetFault n cols s ≡ Pass → SheetFits n cols (sheetSlots n cols s)
+unfolding sheetFault
+sheet-fits n cols s b e = columns-fit n 0 0 cols s b e
