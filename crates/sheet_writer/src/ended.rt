@@ -1,0 +1,74 @@
+// Variable bytes: the ends of the values, then their bytes.
+ghost use mathlib.Core.Path.{_≡_};
+ghost use mathlib.Core.List.{map};
+ghost use Prim.Native.Nat.{_+_, _≤_};
+ghost use lib.ListN.{length};
+ghost use lib.Seq.{sets};
+ghost use Rattle.format.specs.declared.Kind.the-variants.{Variable};
+ghost use Rattle.format.specs.Limits.{maxRows, maxSlot};
+ghost use Rattle.format.specs.Lists.{endsFrom, joined, lowBytes};
+ghost use Rattle.format.specs.Cleared.{variableSlot};
+ghost use Rattle.format.specs.Read.{readVariable, slotRead};
+ghost use Rattle.sheet_writer.specs.Cursors.{Readable, slotAt, nextAt};
+use crate::standin::{decode_blocks, read};
+use format::{Column, FieldRead, SortOptions};
+use number::put32;
+
+// How many bytes the value in front of a row has; null has none.
+fn value_length(row: &[u8], options: SortOptions) -> usize
+    ensures { λ r. ⌜ r ≡ length (variableSlot (slotRead (readVariable maxSlot options (now (row .entry))))) ⌝ }
+    ensures { λ r. ⌜ r ≤ maxSlot ⌝ }
+{
+    let field = read(row, options);
+    match field {
+        FieldRead::Null(_) => 0,
+        FieldRead::Value(_, len) => len,
+        FieldRead::Fault(_, _) => 0,
+    }
+}
+
+// The ends: 0, and after each value the count of the bytes so far, four bytes each, low byte first.
+pub fn write_ends(rows: &[u8], cursors: &[usize], column: Column, sheet: &mut [u8], at: usize) -> usize
+    requires { ⌜ column .kind ≡ Variable ⌝ }
+    requires { ⌜ length (now cursors) ≤ maxRows ⌝ }
+    requires { ⌜ Readable column (now rows) (now cursors) ⌝ }
+    requires { ⌜ at + length (joined (map (lowBytes 4) (endsFrom 0 (map variableSlot (map (slotAt column (now rows)) (now cursors)))))) ≤ length (now sheet) ⌝ }
+    ensures { λ r. ⌜ r ≡ at + length (joined (map (lowBytes 4) (endsFrom 0 (map variableSlot (map (slotAt column (now (rows .entry))) (now (cursors .entry))))))) ⌝ }
+    ensures { λ _. ⌜ now (sheet .exit) ≡ sets (now (sheet .entry)) at (joined (map (lowBytes 4) (endsFrom 0 (map variableSlot (map (slotAt column (now (rows .entry))) (now (cursors .entry))))))) ⌝ }
+{
+    let options = column.options;
+    let mut place = at;
+    let mut total: usize = 0;
+    let mut r = 0;
+    while r < cursors.len() {
+        put32(sheet, place, total as u32);
+        let p = cursors[r];
+        total += value_length(&rows[p..], options);
+        place += 4;
+        r += 1;
+    }
+    put32(sheet, place, total as u32);
+    place + 4
+}
+
+// The bytes, each value copied, and its cursor moved past the field.
+pub fn move_data(rows: &[u8], cursors: &mut [usize], column: Column, sheet: &mut [u8], at: usize) -> usize
+    requires { ⌜ column .kind ≡ Variable ⌝ }
+    requires { ⌜ Readable column (now rows) (now cursors) ⌝ }
+    requires { ⌜ at + length (joined (map variableSlot (map (slotAt column (now rows)) (now cursors)))) ≤ length (now sheet) ⌝ }
+    ensures { λ r. ⌜ r ≡ at + length (joined (map variableSlot (map (slotAt column (now (rows .entry))) (now (cursors .entry))))) ⌝ }
+    ensures { λ _. ⌜ now (sheet .exit) ≡ sets (now (sheet .entry)) at (joined (map variableSlot (map (slotAt column (now (rows .entry))) (now (cursors .entry))))) ⌝ }
+    ensures { λ _. ⌜ now (cursors .exit) ≡ map (nextAt column (now (rows .entry))) (now (cursors .entry)) ⌝ }
+{
+    let options = column.options;
+    let mut place = at;
+    let mut r = 0;
+    while r < cursors.len() {
+        let p = cursors[r];
+        let copied = decode_blocks(&rows[p..], options, sheet, place);
+        cursors[r] = p + copied.field;
+        place += copied.value;
+        r += 1;
+    }
+    place
+}
