@@ -12,8 +12,10 @@ use borrow.Author.Tests.{ltb-true, ltb-false}
 use Rattle.format.specs.Sheet.{packed}
 use Rattle.format.specs.Cleared.{byteOf, pack}
 use Rattle.bits.proofs.Flags.{byte-last, byte-small}
+use Rattle.bits.proofs.Bits.{length-pack}
 use Rattle.sheet_writer.specs.Cursors.{inByte}
 use Rattle.laws.proofs.Append.{Walk, walk-start, walk-piece, walk-room, walk-end}
+use Rattle.sheet_writer.proofs.Maps.{map-take, map-drop}
 
 -- ---- a byte
 
@@ -36,63 +38,80 @@ module _ (f : ℕ → Bool) (xs : List ℕ) (k : ℕ) (h : k < length xs) where
 
 -- ---- all bytes
 
--- the flags before `base` are packed
-pub record Packing (fs : List Bool) (out₀ : List ℕ) (at₀ : ℕ) (out : List ℕ) (at base : ℕ) : Type 0 where
-  pub within : base ≤ length fs
-  pub wrote : Walk (pack (packed (length fs)) fs) (pack (packed (length fs - base)) (drop base fs)) out₀ at₀ out at
+module _ (f : ℕ → Bool) (xs : List ℕ) where
+  -- the flags from row `base` on
+  abbrev packedFrom : ℕ → List ℕ
+  packedFrom base = pack (packed (length xs - base)) (map f (drop base xs))
 
-pub pack-start : (fs : List Bool) (out : List ℕ) (at : ℕ) → Packing fs out at out at 0
-pack-start fs out at = record {
-  within = omega arith;
-  wrote =
-      subst (λ (n : ℕ). Walk (pack (packed (length fs)) fs) (pack (packed n) fs) out at out at) {x = length fs} {y = length fs - 0} (omega arith)
-      (walk-start (pack (packed (length fs)) fs) out at);
-}
+  -- those before it are packed
+  pub record Packing (out₀ : List ℕ) (at₀ : ℕ) (out : List ℕ) (at base : ℕ) : Type 0 where
+    pub within : base ≤ length xs
+    pub wrote : Walk (pack (packed (length xs)) (map f xs)) (packedFrom base) out₀ at₀ out at
 
--- how many flags the next byte has
-pub in-byte-small : (left : ℕ) → (inByte left ≤ 8) × (inByte left ≤ left) × (0 < left → 0 < inByte left)
-in-byte-small left = go (ltb left 8) refl
-  where
-    go : (b : Bool) → ltb left 8 ≡ b → (cond b left 8 ≤ 8) × (cond b left 8 ≤ left) × (0 < left → 0 < cond b left 8)
-    go true e = let l = ltb-true left 8 e in (omega arith, omega arith, λ h. h)
-    go false e = let l = ltb-false left 8 e in (omega arith, omega arith, λ h. omega arith)
-
--- the next byte has the flags that are left, eight at most
-pack-next : (fs : List Bool) (base : ℕ) → base < length fs
-    → pack (packed (length fs - base)) (drop base fs)
-      ≡ byteOf (take (inByte (length fs - base)) (drop base fs)) ∷ pack (packed (length fs - (base + inByte (length fs - base)))) (drop (base + inByte (length fs - base)) fs)
-pack-next fs base h = go (ltb (length fs - base) 8) refl
-  where
-    go : (b : Bool) → ltb (length fs - base) 8 ≡ b
-        → pack (packed (length fs - base)) (drop base fs)
-          ≡ byteOf (take (cond b (length fs - base) 8) (drop base fs)) ∷ pack (packed (length fs - (base + cond b (length fs - base) 8))) (drop (base + cond b (length fs - base) 8) fs)
-    go true e =
-        let l = ltb-true (length fs - base) 8 e in
-        let m : packed (length fs - base) ≡ 1 = omega arith in
-        let z : packed (length fs - (base + (length fs - base))) ≡ 0 = omega arith in
-        ap (λ (n : ℕ). pack n (drop base fs)) m
-        ∙ ap₂ {C = List ℕ} (λ (x : List Bool) (n : ℕ). byteOf x ∷ pack n (drop (base + (length fs - base)) fs))
-        (take-all 8 (drop base fs) (omega (arith, length-drop base fs)) ∙ sym (take-all (length fs - base) (drop base fs) (omega (arith, length-drop base fs))))
-        (sym z)
-    go false e =
-        let l = ltb-false (length fs - base) 8 e in
-        let m : packed (length fs - base) ≡ suc (packed (length fs - (base + 8))) = omega arith in
-        ap (λ (n : ℕ). pack n (drop base fs)) m
-        ∙ ap (λ (z : List Bool). byteOf (take 8 (drop base fs)) ∷ pack (packed (length fs - (base + 8))) z) (drop-drop 8 base fs)
-
-module _ (fs : List Bool) (out₀ : List ℕ) (at₀ : ℕ) (out : List ℕ) (at base : ℕ) (t : Packing fs out₀ at₀ out at base) where
-  -- there is room for it
-  pub pack-room : base < length fs → at₀ + length (pack (packed (length fs)) fs) ≤ length out₀ → at < length out
-  pack-room h fits = omega (arith, walk-room (t .wrote) (byteOf (take (inByte (length fs - base)) (drop base fs)) ∷ []) _ (pack-next fs base h) fits)
-
-  -- and it is stored
-  pub pack-more : (byte : ℕ) → base < length fs → byte ≡ byteOf (take (inByte (length fs - base)) (drop base fs))
-      → Packing fs out₀ at₀ (set out at byte) (at + 1) (base + inByte (length fs - base))
-  pack-more byte h e = record {
-    within = omega (arith, in-byte-small (length fs - base) .1);
-    wrote = walk-piece 1 (byte ∷ []) _ (t .wrote) (rw e (pack-next fs base h)) refl;
+  pub pack-start : (out : List ℕ) (at : ℕ) → Packing out at out at 0
+  pack-start out at = record {
+    within = omega arith;
+    wrote =
+        subst (λ (n : ℕ). Walk (pack (packed (length xs)) (map f xs)) (pack (packed n) (map f xs)) out at out at) {x = length xs} {y = length xs - 0} (omega arith)
+        (walk-start (pack (packed (length xs)) (map f xs)) out at);
   }
 
-  -- no flag is left
-  pub pack-end : length fs ≤ base → (at ≡ at₀ + length (pack (packed (length fs)) fs)) × (out ≡ sets out₀ at₀ (pack (packed (length fs)) fs))
-  pack-end h = walk-end (t .wrote) (let z : packed (length fs - base) ≡ 0 = omega arith in ap (λ (n : ℕ). pack n (drop base fs)) z)
+  -- the next byte has eight flags, or all that are left
+  next-is : (base size : ℕ) → base < length xs → size ≡ inByte (length xs - base)
+      → packedFrom base ≡ byteOf (map f (take size (drop base xs))) ∷ packedFrom (base + size)
+  next-is base size h e = go (ltb (length xs - base) 8) refl e
+    where
+      go : (b : Bool) → ltb (length xs - base) 8 ≡ b → size ≡ cond b (length xs - base) 8
+          → packedFrom base ≡ byteOf (map f (take size (drop base xs))) ∷ packedFrom (base + size)
+      go true l e =
+          let few = ltb-true (length xs - base) 8 l in
+          let one : packed (length xs - base) ≡ 1 = omega arith in
+          let none : packed (length xs - (base + size)) ≡ 0 = omega arith in
+          ap (λ (n : ℕ). pack n (map f (drop base xs))) one
+          ∙ ap₂ {C = List ℕ} (λ (x : List Bool) (n : ℕ). byteOf x ∷ pack n (map f (drop (base + size) xs)))
+          (take-all 8 (map f (drop base xs)) (omega (arith, length-map (drop base xs) f, length-drop base xs))
+          ∙ ap (map f) (sym (take-all size (drop base xs) (omega (arith, length-drop base xs)))))
+          (sym none)
+      go false l e =
+          let many = ltb-false (length xs - base) 8 l in
+          let one : packed (length xs - base) ≡ suc (packed (length xs - (base + size))) = omega arith in
+          ap (λ (n : ℕ). pack n (map f (drop base xs))) one
+          ∙ ap₂ {C = List ℕ} (λ (x y : List Bool). byteOf x ∷ pack (packed (length xs - (base + size))) y)
+          (sym (map-take f 8 (drop base xs)) ∙ ap (λ (n : ℕ). map f (take n (drop base xs))) (sym e))
+          (sym (map-drop f 8 (drop base xs)) ∙ ap (map f) (drop-drop 8 base xs ∙ ap (λ (n : ℕ). drop (base + n) xs) (sym e)))
+
+  module _ (out₀ : List ℕ) (at₀ : ℕ) (out : List ℕ) (at base : ℕ) (t : Packing out₀ at₀ out at base) where
+    -- no flag is left
+    pub pack-end : length xs ≤ base
+        → (at ≡ at₀ + packed (length xs)) × (out ≡ sets out₀ at₀ (pack (packed (length xs)) (map f xs)))
+    pack-end h =
+        let z : packed (length xs - base) ≡ 0 = omega arith in
+        let e = walk-end (t .wrote) (ap (λ (n : ℕ). pack n (map f (drop base xs))) z) in
+        (e .0 ∙ ap (λ (n : ℕ). at₀ + n) (length-pack (packed (length xs)) (map f xs)), e .1)
+
+    module _ (size : ℕ) (h : base < length xs) (e : size ≡ inByte (length xs - base)) where
+      -- some are, eight at most
+      pub size-small : (0 < size) × (size ≤ 8) × (base + size ≤ length xs)
+      size-small = go (ltb (length xs - base) 8) refl e
+        where
+          go : (b : Bool) → ltb (length xs - base) 8 ≡ b → size ≡ cond b (length xs - base) 8 → (0 < size) × (size ≤ 8) × (base + size ≤ length xs)
+          go true l e = let few = ltb-true (length xs - base) 8 l in (omega arith, omega arith, omega arith)
+          go false l e = let many = ltb-false (length xs - base) 8 l in (omega arith, omega arith, omega arith)
+
+      -- there is room for the next byte
+      pub pack-room : at₀ + packed (length xs) ≤ length out₀ → at < length out
+      pack-room fits = omega (
+        arith,
+        walk-room (t .wrote) (byteOf (map f (take size (drop base xs))) ∷ []) (packedFrom (base + size)) (next-is base size h e)
+            (omega (arith, length-pack (packed (length xs)) (map f xs))),
+      )
+
+      -- and it is stored
+      pub pack-more : (byte : ℕ) → byte ≡ byteOf (map f (take (base + size - base) (drop base xs)))
+          → Packing out₀ at₀ (set out at byte) (at + 1) (base + size)
+      pack-more byte q = record {
+        within = size-small .2;
+        wrote = walk-piece 1 (byte ∷ []) (packedFrom (base + size)) (t .wrote)
+            (next-is base size h e ∙ ap (λ (x : ℕ). x ∷ packedFrom (base + size)) (sym (q ∙ ap (λ (n : ℕ). byteOf (map f (take n (drop base xs)))) {x = base + size - base} {y = size} (omega arith))))
+            refl;
+      }

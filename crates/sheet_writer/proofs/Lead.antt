@@ -7,18 +7,23 @@ use mathlib.Core.Option.{none, some}
 use mathlib.Core.List.{List, [], _∷_, _++_}
 use native.Mathlib.Omega.{arith}
 use lib.Dec.{eqb}
-use lib.ListN.{length, getD, drop, length-append, length-replicate}
+use lib.ListN.{length, getD, take, drop, length-append, length-take, length-drop, length-replicate}
+use lib.Seq.{getD-take, getD-drop}
 use borrow.Author.Tests.{eq-eqb}
 use Rattle.format.specs.declared.SortOptions.{SortOptions}
+use Rattle.format.specs.declared.Column.{Column}
 use Rattle.format.specs.Limits.{maxSlot}
 use Rattle.format.specs.Lists.{Bytes}
-use Rattle.format.specs.Kinds.{Fixed, Shape, fixed, variable, Slot, width, shapeBytes}
+use Rattle.format.specs.Kinds.{Fixed, bool, Shape, fixed, variable, Slot, width, columnShape}
 use Rattle.format.specs.Field.{directed, field, nullByte, variableBytes}
 use Rattle.format.specs.Fits.{SlotFits}
-use Rattle.format.specs.Cleared.{valid, fixedSlot, variableSlot}
-use Rattle.format.specs.Read.{Parsed, got, fault, Good, slotRead, leftAfter, readField}
+use Rattle.format.specs.Cleared.{valid, isTrue, fixedSlot, variableSlot}
+use Rattle.format.specs.Read.{Parsed, got, fault, Good, slotRead, leftAfter, readField, readFixed}
 use Rattle.laws.proofs.Fields.{Led, led-variable, not-null, length-field}
 use Rattle.laws.proofs.ReadField.{read-field}
+use Rattle.sheet_writer.specs.declared.flags.Flag.{Flag}
+use Rattle.sheet_writer.specs.declared.flags.Flag.the-variants.{Valid, True}
+use Rattle.sheet_writer.specs.Cursors.{fieldAt, Readable, flagOf, Flagged}
 
 -- bytes that open with the field of a slot that fits
 pub record Opens (sh : Shape) (o : SortOptions) (s : List ℕ) : Type 0 where
@@ -49,35 +54,56 @@ lead-is variable o (some v) t =
       ap (λ (f : List ℕ). eqb (getD (f ++ t) 0 0) (nullByte o)) (l .splits) ∙ not-null o (l .lead) (l .above) (l .below)
     ))
 
-field-some : (sh : Shape) (o : SortOptions) (x : Slot) → 0 < length (field sh o x)
-field-some (fixed k) o none = omega arith
-field-some variable o none = omega arith
-field-some (fixed k) o (some v) = omega arith
-field-some variable o (some v) =
-    let l : Led (directed (o .descending) (variableBytes v)) = led-variable (o .descending) v in
-    omega (arith, ap length (l .splits))
+-- there is one
+pub lead-there : (sh : Shape) (o : SortOptions) (s : List ℕ) → Good (readField sh o s) → 0 < length s
+lead-there (fixed k) o [] g = absurd g
+lead-there variable o [] g = absurd g
+lead-there sh o (b ∷ s) g = omega arith
 
-module _ (sh : Shape) (o : SortOptions) (s : List ℕ) (b : Bytes s) (g : Good (readField sh o s)) where
-  t : Opens sh o s
-  t = opens sh o s b g
+-- a cursor in front of a field stands within the rows
+pub inside : (col : Column) (rows : List ℕ) (p : ℕ) → Good (fieldAt col rows p) → p < length rows
+inside col rows p g = omega (arith, lead-there (columnShape col) (col .options) (drop p rows) g, length-drop p rows)
 
-  long : length s ≡ length (field sh o (t .slot)) + length (t .rest)
-  long = ap length (t .is) ∙ length-append (field sh o (t .slot)) (t .rest)
+-- some of the cursors
+pub readable-part : (col : Column) (rows cursors : List ℕ) (a m : ℕ) → Readable col rows cursors → Readable col rows (take m (drop a cursors))
+readable-part col rows cursors a m h r l =
+    let k = length-take m (drop a cursors) in
+    subst (λ (p : ℕ). Good (fieldAt col rows p)) (sym (getD-take m (drop a cursors) r 0 (omega arith) ∙ getD-drop a cursors r 0))
+    (h (a + r) (omega (arith, length-drop a cursors)))
 
-  -- a field is null exactly when its lead byte is the null byte
-  pub valid-lead : valid (slotRead (readField sh o s)) ≡ not (eqb (getD s 0 0) (nullByte o))
-  valid-lead =
-      ap (λ (p : Parsed Slot). valid (slotRead p)) (t .reads)
-      ∙ lead-is sh o (t .slot) (t .rest)
-      ∙ ap (λ (z : List ℕ). not (eqb (getD z 0 0) (nullByte o))) (sym (t .is))
+-- a field is null exactly when its lead byte is the null byte
+pub valid-lead : (sh : Shape) (o : SortOptions) (s : List ℕ) → Bytes s → Good (readField sh o s)
+    → valid (slotRead (readField sh o s)) ≡ not (eqb (getD s 0 0) (nullByte o))
+valid-lead sh o s b g =
+    let t = opens sh o s b g in
+    ap (λ (p : Parsed Slot). valid (slotRead p)) (t .reads)
+    ∙ lead-is sh o (t .slot) (t .rest)
+    ∙ ap (λ (z : List ℕ). not (eqb (getD z 0 0) (nullByte o))) (sym (t .is))
 
-  -- there is one
-  pub lead-there : 0 < length s
-  lead-there = omega (arith, long, field-some sh o (t .slot))
+-- ---- the flags of a field, as they are read
 
-  -- the field is there whole
-  pub field-inside : length s - length (leftAfter (readField sh o s)) ≤ length s
-  field-inside = omega arith
+module _ (which : Flag) (col : Column) (s : List ℕ) (g : Good (readField (columnShape col) (col .options) s)) where
+  abbrev flag : Bool
+  flag = flagOf which (slotRead (readField (columnShape col) (col .options) s))
+
+  -- validity, by the lead byte
+  pub valid-flag : Bytes s → which ≡ Valid → not (eqb (getD s 0 0) (nullByte (col .options))) ≡ flag
+  valid-flag b e =
+      sym (valid-lead (columnShape col) (col .options) s b g)
+      ∙ sym (ap (λ (w : Flag). flagOf w (slotRead (readField (columnShape col) (col .options) s))) e)
+
+  module _ (e : which ≡ True) (f : Flagged which col) where
+    shape-is : columnShape col ≡ fixed bool
+    shape-is = subst (λ (w : Flag). Flagged w col) e f
+
+    -- a bool can be read
+    pub bool-good : Good (readFixed bool (col .options) s)
+    bool-good = subst (λ (sh : Shape). Good (readField sh (col .options) s)) shape-is g
+
+    pub bool-flag : isTrue (slotRead (readFixed bool (col .options) s)) ≡ flag
+    bool-flag =
+        sym (ap (λ (sh : Shape). isTrue (slotRead (readField sh (col .options) s))) shape-is)
+        ∙ sym (ap (λ (w : Flag). flagOf w (slotRead (readField (columnShape col) (col .options) s))) e)
 
 -- ---- lengths
 

@@ -1,75 +1,93 @@
+-- `sheet_writer::flags::pack` meets its contract. The invariant: the flags before `base` are packed. Assumes nothing.
+use borrow.Author.Needs.{needs}
+use Prim.Native.Nat.{_+_, _-_, _<_, _≤_}
+use native.Mathlib.Omega.{arith}
+use lib.ListN.{length, drop, length-take}
+use Rattle.sheet_writer.specs.Cursors.{flagAt}
+use Rattle.sheet_writer.proofs.Lead.{readable-part}
+use Rattle.sheet_writer.proofs.Eights.{Packing, pack-start, size-small, pack-room, pack-more, pack-end}
 use Rattle.sheet_writer.proofs.flags.pack.Statement.{statement}
 use Rattle.sheet_writer.proofs.flags.pack.Tie as tie
-use Rattle.sheet_writer.proofs.flags.pack.Reads as reads
-use Rattle.sheet_writer.proofs.flags.pack.Lts as lts
-use Rattle.sheet_writer.proofs.flags.in_byte.Reads as in-byte-reads
-use Rattle.sheet_writer.proofs.flags.pack_byte.Reads as pack-byte-reads
 
 abbrev Inv-loop : tie.InvT-loop
-Inv-loop rows cursors column which sheet₀ at n place₀ base₀ sheet place base = ?
+Inv-loop rows cursors column which sheet₀ at n place₀ base₀ sheet place base = Packing (flagAt which column rows) cursors sheet₀ at sheet place base
 
 abbrev μ-loop : tie.MeasureT-loop
-μ-loop rows cursors column which sheet₀ at n place₀ base₀ sheet place base = ?
+μ-loop rows cursors column which sheet₀ at n place₀ base₀ sheet place base = length cursors - base
 
--- src/flags.rt:76:5
 loop-holds : tie.Need-loop-holds Inv-loop μ-loop
-loop-holds c = ?
+loop-holds c = let a = c .before .before .before .args in pack-start (flagAt (a .which) (a .column) (a .rows .now)) (a .cursors .now) _ _
 
--- src/flags.rt:77:34
 sub-in-byte : tie.Need-sub-in-byte Inv-loop μ-loop
-sub-in-byte c = ?
+sub-in-byte c = omega arith
 
--- src/flags.rt:77:26
 in-byte-requires : tie.Need-in-byte-requires Inv-loop μ-loop
-in-byte-requires c κs = ?
+in-byte-requires c κs = search needs
 
--- src/flags.rt:77:19
+-- the next byte's rows are there, eight at most
+small : (c : tie.After-in-byte Inv-loop μ-loop)
+    → let base = c .before .before .loop .base in
+    let size = c .in-byte .result in
+    (0 < size) × (size ≤ 8) × (base + size ≤ length (c .before .before .before .before .before .before .args .cursors .now))
+small c =
+    let s = c .before .before .before .before .before .before in
+    let l = c .before .before .loop in
+    size-small (flagAt (s .args .which) (s .args .column) (s .args .rows .now)) (s .args .cursors .now) (s .args .sheet .now) (s .args .at) (l .sheet) (l .place) (l .base) (l .inv)
+    (c .in-byte .result) (c .before .loop-test .taken) (c .in-byte .ensures)
+
 add-end : tie.Need-add-end Inv-loop μ-loop
-add-end c = ?
+add-end c = omega (arith, small c .2)
 
--- src/flags.rt:78:40
 mul-pack-byte : tie.Need-mul-pack-byte Inv-loop μ-loop
-mul-pack-byte c = ?
+mul-pack-byte c = omega arith
 
--- src/flags.rt:78:40
 sub-pack-byte : tie.Need-sub-pack-byte Inv-loop μ-loop
-sub-pack-byte c = ?
+sub-pack-byte c = omega arith
 
--- src/flags.rt:78:40
 part-pack-byte-start : tie.Need-part-pack-byte-start Inv-loop μ-loop
-part-pack-byte-start c = ?
+part-pack-byte-start c = omega arith
 
--- src/flags.rt:78:40
 part-pack-byte-end : tie.Need-part-pack-byte-end Inv-loop μ-loop
-part-pack-byte-end c = ?
+part-pack-byte-end c = small c .2
 
--- src/flags.rt:78:24
 pack-byte-requires : tie.Need-pack-byte-requires Inv-loop μ-loop
-pack-byte-requires c κs = ?
+pack-byte-requires c κs =
+    let s = c .before .before .before .before .before .before .before in
+    let a = s .args in
+    let base = c .before .before .before .loop .base in
+    let size = c .before .in-byte .result in
+    (omega (arith, small (c .before) .1, length-take (base + size - base) (drop base (a .cursors .now))),
+    (readable-part (a .column) (a .rows .now) (a .cursors .now) base (base + size - base) (s .pre .0), s .pre .1 .0))
 
--- src/flags.rt:78:9
 slice-write-sheet : tie.Need-slice-write-sheet Inv-loop μ-loop
-slice-write-sheet c = ?
+slice-write-sheet c =
+    let s = c .before .before .before .before .before .before .before .before in
+    let l = c .before .before .before .before .loop in
+    pack-room (flagAt (s .args .which) (s .args .column) (s .args .rows .now)) (s .args .cursors .now) (s .args .sheet .now) (s .args .at) (l .sheet) (l .place) (l .base) (l .inv)
+    (c .before .before .in-byte .result) (c .before .before .before .loop-test .taken) (c .before .before .in-byte .ensures) (s .pre .1 .1)
 
--- src/flags.rt:79:9
 add-place : tie.Need-add-place Inv-loop μ-loop
-add-place c = ?
+add-place c = omega (arith, slice-write-sheet c)
 
--- src/flags.rt:76:5
 loop-less : tie.Need-loop-less Inv-loop μ-loop
-loop-less c = ?
+loop-less c = omega (arith, small (c .before .before) .0, small (c .before .before) .2)
 
--- src/flags.rt:76:5
 loop-again : tie.Need-loop-again Inv-loop μ-loop
-loop-again c = ?
+loop-again c =
+    let s = c .before .before .before .before .before .before .before .before in
+    let l = c .before .before .before .before .loop in
+    pack-more (flagAt (s .args .which) (s .args .column) (s .args .rows .now)) (s .args .cursors .now) (s .args .sheet .now) (s .args .at) (l .sheet) (l .place) (l .base) (l .inv)
+    (c .before .before .in-byte .result) (c .before .before .before .loop-test .taken) (c .before .before .in-byte .ensures) (c .pack-byte .result) (c .pack-byte .ensures)
 
--- src/flags.rt:66:1
 same-length : tie.Need-same-length Inv-loop μ-loop
-same-length c = ?
+same-length c = c .before .loop .inv .wrote .same
 
--- src/flags.rt:66:1
 returns : tie.Need-returns Inv-loop μ-loop
-returns c = ?
+returns c =
+    let s = c .before .before .before .before .before in
+    let l = c .before .loop in
+    pack-end (flagAt (s .args .which) (s .args .column) (s .args .rows .now)) (s .args .cursors .now) (s .args .sheet .now) (s .args .at) (l .sheet) (l .place) (l .base) (l .inv)
+    (c .loop-test .left)
 
 pub pack-spec : {M : Type 1} → statement M
 pack-spec =
