@@ -1,6 +1,6 @@
 -- Cursors that move on one by one, alone or while a piece is written for each. Assumes nothing.
 use Prim.Native.Nat.{ℕ, suc, _+_, _-_, _<_, _≤_}
-use mathlib.Core.Path.{_≡_, refl, sym, ap, ap₂, _∙_}
+use mathlib.Core.Path.{_≡_, refl, sym, ap, ap₂, _∙_, subst}
 use mathlib.Core.List.{List, [], _∷_, _++_, map, append-assoc, append-nil}
 use native.Mathlib.Numerals.{add-one}
 use native.Mathlib.Omega.{arith}
@@ -72,6 +72,10 @@ module _ (slot : ℕ → Slot) (piece : Slot → List ℕ) (next : ℕ → ℕ) 
   -- the cursor of row r
   pub move-at : r < length now → getD now r 0 ≡ getD xs r 0
   move-at h = fill-at (map next xs) xs now r (t .moved) h
+
+  -- is such as all cursors were
+  pub move-such : (P : ℕ → Type 0) → ((i : ℕ) → i < length xs → P (getD xs i 0)) → r < length now → P (getD now r 0)
+  move-such P such h = subst P (sym (move-at h)) (such r (omega arith))
 
   whole : joined (each 0 (length xs) (λ i. piece (slot (getD xs i 0)))) ≡ joined (map piece (map slot xs))
   whole = ap joined (each-map piece slot 0 xs)

@@ -6,6 +6,8 @@ use mathlib.Core.Bool.{Bool, cond}
 use mathlib.Core.List.{List, [], _∷_, map}
 use lib.Dec.{ltb}
 use lib.ListN.{length, getD, drop}
+use Rattle.format.specs.declared.Kind.the-variants.{Variable}
+use Rattle.format.specs.declared.SortOptions.{SortOptions}
 use Rattle.format.specs.declared.Column.{Column}
 use Rattle.format.specs.Kinds.{bool, fixed, Slot, columnShape}
 use Rattle.format.specs.Sheet.{turned}
@@ -29,6 +31,10 @@ nextAt col rows p = p + (length (drop p rows) - length (leftAfter (fieldAt col r
 -- a field can be read at every cursor
 abbrev pub Readable : Column → List ℕ → List ℕ → Type 0
 Readable col rows cursors = (r : ℕ) → r < length cursors → Good (fieldAt col rows (getD cursors r 0))
+
+-- a column of variable bytes
+abbrev pub ended : SortOptions → Column
+ended o = record { kind = Variable; options = o }
 
 -- ---- the fields of all columns from the cursors on
 

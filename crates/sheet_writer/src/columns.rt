@@ -27,6 +27,7 @@ fn write_column(rows: &[u8], cursors: &mut [usize], column: Column, sheet: &mut 
     ensures { λ _. ⌜ now (cursors .exit) ≡ map (nextAt column (now (rows .entry))) (now (cursors .entry)) ⌝ }
 {
     let kind = column.kind;
+    let options = column.options;
     let place = pack(rows, cursors, column, Flag::Valid, sheet, at);
     match kind {
         Kind::Bool => {
@@ -35,8 +36,8 @@ fn write_column(rows: &[u8], cursors: &mut [usize], column: Column, sheet: &mut 
             return end;
         }
         Kind::Variable => {
-            let data = write_ends(rows, cursors, column, sheet, place);
-            return move_data(rows, cursors, column, sheet, data);
+            let data = write_ends(rows, cursors, options, sheet, place);
+            return move_data(rows, cursors, options, sheet, data);
         }
         _ => {
             return move_values(rows, cursors, column, sheet, place);

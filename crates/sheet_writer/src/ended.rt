@@ -4,14 +4,13 @@ ghost use mathlib.Core.List.{map};
 ghost use Prim.Native.Nat.{_+_, _≤_};
 ghost use lib.ListN.{length};
 ghost use lib.Seq.{sets};
-ghost use Rattle.format.specs.declared.Kind.the-variants.{Variable};
 ghost use Rattle.format.specs.Limits.{maxRows, maxSlot};
 ghost use Rattle.format.specs.Lists.{endsFrom, joined, lowBytes};
 ghost use Rattle.format.specs.Cleared.{variableSlot};
 ghost use Rattle.format.specs.Read.{readVariable, slotRead};
-ghost use Rattle.sheet_writer.specs.Cursors.{Readable, slotAt, nextAt};
+ghost use Rattle.sheet_writer.specs.Cursors.{ended, Readable, slotAt, nextAt};
 use crate::standin::{decode_blocks, read};
-use format::{Column, FieldRead, SortOptions};
+use format::{FieldRead, SortOptions};
 use number::put32;
 
 // How many bytes the value in front of a row has; null has none.
@@ -28,15 +27,13 @@ fn value_length(row: &[u8], options: SortOptions) -> usize
 }
 
 // The ends: 0, and after each value the count of the bytes so far, four bytes each, low byte first.
-pub fn write_ends(rows: &[u8], cursors: &[usize], column: Column, sheet: &mut [u8], at: usize) -> usize
-    requires { ⌜ column .kind ≡ Variable ⌝ }
+pub fn write_ends(rows: &[u8], cursors: &[usize], options: SortOptions, sheet: &mut [u8], at: usize) -> usize
     requires { ⌜ length (now cursors) ≤ maxRows ⌝ }
-    requires { ⌜ Readable column (now rows) (now cursors) ⌝ }
-    requires { ⌜ at + length (joined (map (lowBytes 4) (endsFrom 0 (map variableSlot (map (slotAt column (now rows)) (now cursors)))))) ≤ length (now sheet) ⌝ }
-    ensures { λ r. ⌜ r ≡ at + length (joined (map (lowBytes 4) (endsFrom 0 (map variableSlot (map (slotAt column (now (rows .entry))) (now (cursors .entry))))))) ⌝ }
-    ensures { λ _. ⌜ now (sheet .exit) ≡ sets (now (sheet .entry)) at (joined (map (lowBytes 4) (endsFrom 0 (map variableSlot (map (slotAt column (now (rows .entry))) (now (cursors .entry))))))) ⌝ }
+    requires { ⌜ Readable (ended options) (now rows) (now cursors) ⌝ }
+    requires { ⌜ at + length (joined (map (lowBytes 4) (endsFrom 0 (map variableSlot (map (slotAt (ended options) (now rows)) (now cursors)))))) ≤ length (now sheet) ⌝ }
+    ensures { λ r. ⌜ r ≡ at + length (joined (map (lowBytes 4) (endsFrom 0 (map variableSlot (map (slotAt (ended options) (now (rows .entry))) (now (cursors .entry))))))) ⌝ }
+    ensures { λ _. ⌜ now (sheet .exit) ≡ sets (now (sheet .entry)) at (joined (map (lowBytes 4) (endsFrom 0 (map variableSlot (map (slotAt (ended options) (now (rows .entry))) (now (cursors .entry))))))) ⌝ }
 {
-    let options = column.options;
     let mut place = at;
     let mut total: usize = 0;
     let mut r = 0;
@@ -52,15 +49,13 @@ pub fn write_ends(rows: &[u8], cursors: &[usize], column: Column, sheet: &mut [u
 }
 
 // The bytes, each value copied, and its cursor moved past the field.
-pub fn move_data(rows: &[u8], cursors: &mut [usize], column: Column, sheet: &mut [u8], at: usize) -> usize
-    requires { ⌜ column .kind ≡ Variable ⌝ }
-    requires { ⌜ Readable column (now rows) (now cursors) ⌝ }
-    requires { ⌜ at + length (joined (map variableSlot (map (slotAt column (now rows)) (now cursors)))) ≤ length (now sheet) ⌝ }
-    ensures { λ r. ⌜ r ≡ at + length (joined (map variableSlot (map (slotAt column (now (rows .entry))) (now (cursors .entry))))) ⌝ }
-    ensures { λ _. ⌜ now (sheet .exit) ≡ sets (now (sheet .entry)) at (joined (map variableSlot (map (slotAt column (now (rows .entry))) (now (cursors .entry))))) ⌝ }
-    ensures { λ _. ⌜ now (cursors .exit) ≡ map (nextAt column (now (rows .entry))) (now (cursors .entry)) ⌝ }
+pub fn move_data(rows: &[u8], cursors: &mut [usize], options: SortOptions, sheet: &mut [u8], at: usize) -> usize
+    requires { ⌜ Readable (ended options) (now rows) (now cursors) ⌝ }
+    requires { ⌜ at + length (joined (map variableSlot (map (slotAt (ended options) (now rows)) (now cursors)))) ≤ length (now sheet) ⌝ }
+    ensures { λ r. ⌜ r ≡ at + length (joined (map variableSlot (map (slotAt (ended options) (now (rows .entry))) (now (cursors .entry))))) ⌝ }
+    ensures { λ _. ⌜ now (sheet .exit) ≡ sets (now (sheet .entry)) at (joined (map variableSlot (map (slotAt (ended options) (now (rows .entry))) (now (cursors .entry))))) ⌝ }
+    ensures { λ _. ⌜ now (cursors .exit) ≡ map (nextAt (ended options) (now (rows .entry))) (now (cursors .entry)) ⌝ }
 {
-    let options = column.options;
     let mut place = at;
     let mut r = 0;
     while r < cursors.len() {

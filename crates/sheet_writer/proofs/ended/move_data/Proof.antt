@@ -1,82 +1,119 @@
+-- `sheet_writer::ended::move_data` meets its contract. The invariant: the values of the rows passed are written, and their
+-- cursors moved. Assumes nothing.
+use Prim.Native.Nat.{ℕ, _+_, _-_, _<_, _≤_}
+use mathlib.Core.Path.{_≡_, sym, ap, _∙_}
+use native.Mathlib.Omega.{arith}
+use borrow.Rule.Slice.PartAt.{part-to-end}
+use lib.ListN.{length, getD, length-drop}
+use Rattle.format.specs.Cleared.{variableSlot}
+use Rattle.format.specs.Read.{Good}
+use Rattle.sheet_writer.specs.Cursors.{ended, fieldAt, slotAt, nextAt}
+use Rattle.sheet_writer.proofs.Lead.{inside}
+use Rattle.sheet_writer.proofs.Moving.{Moving, move-start, move-such, move-room, move-more, move-end}
 use Rattle.sheet_writer.proofs.ended.move_data.Statement.{statement}
 use Rattle.sheet_writer.proofs.ended.move_data.Tie as tie
-use Rattle.sheet_writer.proofs.ended.move_data.Reads as reads
-use Rattle.sheet_writer.proofs.ended.move_data.Lts as lts
-use Rattle.sheet_writer.proofs.standin.decode_blocks.Reads as decode-blocks-reads
 
 abbrev Inv-loop : tie.InvT-loop
-Inv-loop rows cursors₀ sheet₀ at options place₀ r₀ cursors sheet place r = ?
+Inv-loop rows cursors₀ options sheet₀ at place₀ r₀ cursors sheet place r = Moving (slotAt (ended options) rows) variableSlot (nextAt (ended options) rows) cursors₀ sheet₀ at cursors sheet place r
 
 abbrev μ-loop : tie.MeasureT-loop
-μ-loop rows cursors₀ sheet₀ at options place₀ r₀ cursors sheet place r = ?
+μ-loop rows cursors₀ options sheet₀ at place₀ r₀ cursors sheet place r = length cursors₀ - r
 
--- src/ended.rt:66:5
 loop-holds : tie.Need-loop-holds Inv-loop μ-loop
-loop-holds c = ?
+loop-holds c = move-start _ _ _ _ _ _
 
--- src/ended.rt:67:17
 mul-p : tie.Need-mul-p Inv-loop μ-loop
-mul-p c = ?
+mul-p c = omega arith
 
--- src/ended.rt:67:17
 slice-read-p : tie.Need-slice-read-p Inv-loop μ-loop
-slice-read-p c = ?
+slice-read-p c = omega arith
 
--- src/ended.rt:68:36
+-- in a turn: the field at the cursor of row r can be read, the cursor stands within the rows, and there is room for the value
+module _ (c : tie.In-loop Inv-loop μ-loop) where
+  abbrev s : tie.Start Inv-loop μ-loop
+  s = c .before .before .before .before .before
+
+  abbrev l : tie.At-loop Inv-loop μ-loop
+  l = c .before
+
+  abbrev p : ℕ
+  p = getD (l .loop .cursors) (l .loop .r) 0
+
+  readable : Good (fieldAt (ended (s .args .options)) (s .args .rows .now) p)
+  readable =
+      move-such (slotAt (ended (s .args .options)) (s .args .rows .now)) variableSlot (nextAt (ended (s .args .options)) (s .args .rows .now)) (s .args .cursors .now)
+      (s .args .sheet .now) (s .args .at) (l .loop .cursors) (l .loop .sheet) (l .loop .place) (l .loop .r) (l .loop .inv)
+      (λ q. Good (fieldAt (ended (s .args .options)) (s .args .rows .now) q)) (s .pre .0) (c .loop-test .taken)
+
+  within : p < length (s .args .rows .now)
+  within = inside (ended (s .args .options)) (s .args .rows .now) p readable
+
+  room : l .loop .place + length (variableSlot (slotAt (ended (s .args .options)) (s .args .rows .now) p)) ≤ length (l .loop .sheet)
+  room =
+      move-room (slotAt (ended (s .args .options)) (s .args .rows .now)) variableSlot (nextAt (ended (s .args .options)) (s .args .rows .now)) (s .args .cursors .now)
+      (s .args .sheet .now) (s .args .at) (l .loop .cursors) (l .loop .sheet) (l .loop .place) (l .loop .r) (l .loop .inv) (c .loop-test .taken) (s .pre .1)
+
 sub-decode-blocks : tie.Need-sub-decode-blocks Inv-loop μ-loop
-sub-decode-blocks c = ?
+sub-decode-blocks c = omega (arith, within (c .before))
 
--- src/ended.rt:68:36
 part-decode-blocks-start : tie.Need-part-decode-blocks-start Inv-loop μ-loop
-part-decode-blocks-start c = ?
+part-decode-blocks-start c = omega (arith, within (c .before))
 
--- src/ended.rt:68:36
 part-decode-blocks-end : tie.Need-part-decode-blocks-end Inv-loop μ-loop
-part-decode-blocks-end c = ?
+part-decode-blocks-end c = omega arith
 
--- src/ended.rt:68:13
 decode-blocks-requires : tie.Need-decode-blocks-requires Inv-loop μ-loop
-decode-blocks-requires c κs = ?
+decode-blocks-requires c κs =
+    let t = c .before .before .before in
+    rw (part-to-end (s t .args .rows .now) (p t)) (readable t, room t)
 
--- src/ended.rt:69:22
 add-cursors : tie.Need-add-cursors Inv-loop μ-loop
-add-cursors c = ?
+add-cursors c =
+    let t = c .before .before .before .before .before .before .before in
+    let e = rw (part-to-end (s t .args .rows .now) (p t)) at (c .before .before .before .decode-blocks .ensures .0) in
+    omega (arith, e, within t, length-drop (p t) (s t .args .rows .now), s t .good)
 
--- src/ended.rt:69:9
 mul-cursors : tie.Need-mul-cursors Inv-loop μ-loop
-mul-cursors c = ?
+mul-cursors c = omega arith
 
--- src/ended.rt:69:9
 slice-write-cursors : tie.Need-slice-write-cursors Inv-loop μ-loop
-slice-write-cursors c = ?
+slice-write-cursors c = omega arith
 
--- src/ended.rt:70:9
 add-place : tie.Need-add-place Inv-loop μ-loop
-add-place c = ?
+add-place c =
+    let t = c .before .before .before .before .before .before .before .before in
+    let e = rw (part-to-end (s t .args .rows .now) (p t)) at (c .before .before .before .before .decode-blocks .ensures .1 .0) in
+    omega (arith, e, room t, l t .loop .inv .wrote .1 .same, s t .good)
 
--- src/ended.rt:71:9
 add-r : tie.Need-add-r Inv-loop μ-loop
-add-r c = ?
+add-r c = omega arith
 
--- src/ended.rt:66:5
 loop-less : tie.Need-loop-less Inv-loop μ-loop
-loop-less c = ?
+loop-less c = omega arith
 
--- src/ended.rt:66:5
 loop-again : tie.Need-loop-again Inv-loop μ-loop
-loop-again c = ?
+loop-again c =
+    let t = c .before .before .before .before .before .before .before .before in
+    let d = c .before .before .before .before .decode-blocks in
+    let e = rw (part-to-end (s t .args .rows .now) (p t)) at (d .ensures) in
+    rw (e .1 .1)
+    (move-more (slotAt (ended (s t .args .options)) (s t .args .rows .now)) variableSlot (nextAt (ended (s t .args .options)) (s t .args .rows .now)) (s t .args .cursors .now)
+    (s t .args .sheet .now) (s t .args .at) (l t .loop .cursors) (l t .loop .sheet) (l t .loop .place) (l t .loop .r) (l t .loop .inv)
+    (d .result .value) (p t + d .result .field) (t .loop-test .taken) (sym (e .1 .0)) (ap (λ (n : ℕ). p t + n) (e .0)))
 
--- src/ended.rt:55:1
 same-length : tie.Need-same-length Inv-loop μ-loop
-same-length c = ?
+same-length c = c .before .loop .inv .moved .long
 
--- src/ended.rt:55:1
 same-length-2 : tie.Need-same-length-2 Inv-loop μ-loop
-same-length-2 c = ?
+same-length-2 c = c .before .loop .inv .wrote .1 .same
 
--- src/ended.rt:55:1
 returns : tie.Need-returns Inv-loop μ-loop
-returns c = ?
+returns c =
+    let a = c .before .before .before .before .before .args in
+    let k = c .before .loop in
+    let e = move-end (slotAt (ended (a .options)) (a .rows .now)) variableSlot (nextAt (ended (a .options)) (a .rows .now)) (a .cursors .now)
+    (a .sheet .now) (a .at) (k .cursors) (k .sheet) (k .place) (k .r) (k .inv) (c .loop-test .left) in
+    (e .0, (e .1, e .2))
 
 pub move-data-spec : {M : Type 1} → statement M
 move-data-spec =

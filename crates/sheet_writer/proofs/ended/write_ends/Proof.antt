@@ -1,91 +1,111 @@
+-- `sheet_writer::ended::write_ends` meets its contract. The invariant: the ends of the rows passed are written, and the
+-- count is at most the limit for each of them, so that it fits four bytes. Assumes nothing.
+use borrow.Author.Needs.{needs}
+use Prim.Native.Nat.{_+_, _-_, _<_, _≤_}
+use mathlib.Core.Path.{_∙_}
+use native.Mathlib.Omega.{arith}
+use borrow.Rule.Slice.PartAt.{part-to-end}
+use lib.ListN.{length, getD}
+use Rattle.sheet_writer.specs.Cursors.{ended, slotAt}
+use Rattle.sheet_writer.proofs.Lead.{inside}
+use Rattle.sheet_writer.proofs.Running.{Running, run-start, run-room, run-more, run-end}
 use Rattle.sheet_writer.proofs.ended.write_ends.Statement.{statement}
 use Rattle.sheet_writer.proofs.ended.write_ends.Tie as tie
-use Rattle.sheet_writer.proofs.ended.write_ends.Reads as reads
-use Rattle.sheet_writer.proofs.ended.write_ends.Lts as lts
-use Rattle.number.proofs.put32.Reads as put32-reads
-use Rattle.sheet_writer.proofs.ended.value_length.Reads as value-length-reads
 
 abbrev Inv-loop : tie.InvT-loop
-Inv-loop rows cursors sheet₀ at options place₀ total₀ r₀ sheet place total r = ?
+Inv-loop rows cursors options sheet₀ at place₀ total₀ r₀ sheet place total r = Running (slotAt (ended options) rows) cursors sheet₀ at sheet place total r
 
 abbrev μ-loop : tie.MeasureT-loop
-μ-loop rows cursors sheet₀ at options place₀ total₀ r₀ sheet place total r = ?
+μ-loop rows cursors options sheet₀ at place₀ total₀ r₀ sheet place total r = length cursors - r
 
--- src/ended.rt:43:5
 loop-holds : tie.Need-loop-holds Inv-loop μ-loop
-loop-holds c = ?
+loop-holds c =
+    let a = c .before .before .before .args in
+    run-start (slotAt (ended (a .options)) (a .rows .now)) (a .cursors .now) (a .sheet .now) (a .at)
 
--- src/ended.rt:44:29
+-- there is room for the next end
+room : (c : tie.At-loop Inv-loop μ-loop) → c .loop .place + 4 ≤ length (c .loop .sheet)
+room c =
+    let s = c .before .before .before .before in
+    let a = s .args in
+    let l = c .loop in
+    run-room (slotAt (ended (a .options)) (a .rows .now)) (a .cursors .now) (a .sheet .now) (a .at) (l .sheet) (l .place) (l .total) (l .r) (l .inv) (s .pre .1 .1)
+
 cast-put32 : tie.Need-cast-put32 Inv-loop μ-loop
-cast-put32 c = ?
+cast-put32 c = omega arith
 
--- src/ended.rt:44:9
 put32-requires : tie.Need-put32-requires Inv-loop μ-loop
-put32-requires c κs = ?
+put32-requires c κs = room (c .before .before)
 
--- src/ended.rt:45:17
 mul-p : tie.Need-mul-p Inv-loop μ-loop
-mul-p c = ?
+mul-p c = omega arith
 
--- src/ended.rt:45:17
 shared-slice-read-p : tie.Need-shared-slice-read-p Inv-loop μ-loop
-shared-slice-read-p c = ?
+shared-slice-read-p c = omega arith
 
--- src/ended.rt:46:31
+-- the cursor of row r stands within the rows
+within : (c : tie.After-shared-slice-known3 Inv-loop μ-loop)
+    → let a = c .before .before .before .before .before .before .before .before .before .before .args in
+    getD (a .cursors .now) (c .before .before .before .before .before .before .loop .r) 0 < length (a .rows .now)
+within c =
+    let s = c .before .before .before .before .before .before .before .before .before .before in
+    let r = c .before .before .before .before .before .before .loop .r in
+    inside (ended (s .args .options)) (s .args .rows .now) (getD (s .args .cursors .now) r 0) (s .pre .1 .0 r (c .before .before .before .before .before .loop-test .taken))
+
 sub-value-length : tie.Need-sub-value-length Inv-loop μ-loop
-sub-value-length c = ?
+sub-value-length c = omega (arith, within c)
 
--- src/ended.rt:46:31
 part-value-length-start : tie.Need-part-value-length-start Inv-loop μ-loop
-part-value-length-start c = ?
+part-value-length-start c = omega (arith, within c)
 
--- src/ended.rt:46:31
 part-value-length-end : tie.Need-part-value-length-end Inv-loop μ-loop
-part-value-length-end c = ?
+part-value-length-end c = omega arith
 
--- src/ended.rt:46:18
 value-length-requires : tie.Need-value-length-requires Inv-loop μ-loop
-value-length-requires c κs = ?
+value-length-requires c κs = search needs
 
--- src/ended.rt:46:9
 add-total : tie.Need-add-total Inv-loop μ-loop
-add-total c = ?
+add-total c =
+    omega (arith, c .before .before .before .before .before .before .before .before .loop .inv .small, c .before .before .before .before .before .before .before .before .loop .inv .within, c .before .before .before .before .before .before .before .before .before .before .before .before .pre .0, c .value-length .ensures .1)
 
--- src/ended.rt:47:9
 add-place : tie.Need-add-place Inv-loop μ-loop
-add-place c = ?
+add-place c = let l = c .before .before .before .before .before .before .before .before in omega (arith, room l, l .loop .inv .wrote .same, l .before .before .before .before .good)
 
--- src/ended.rt:48:9
 add-r : tie.Need-add-r Inv-loop μ-loop
-add-r c = ?
+add-r c = omega arith
 
--- src/ended.rt:43:5
 loop-less : tie.Need-loop-less Inv-loop μ-loop
-loop-less c = ?
+loop-less c = omega arith
 
--- src/ended.rt:43:5
 loop-again : tie.Need-loop-again Inv-loop μ-loop
-loop-again c = ?
+loop-again c =
+    let s = c .before .before .before .before .before .before .before .before .before .before .before .before in
+    let a = s .args in
+    let l = c .before .before .before .before .before .before .before .before .loop in
+    rw (c .before .before .before .before .before .put32 .ensures)
+    (run-more (slotAt (ended (a .options)) (a .rows .now)) (a .cursors .now) (a .sheet .now) (a .at) (l .sheet) (l .place) (l .total) (l .r) (l .inv)
+    (c .value-length .result) (c .before .before .before .before .before .before .before .loop-test .taken)
+    (rw (part-to-end (a .rows .now) (getD (a .cursors .now) (l .r) 0)) at (c .value-length .ensures .0)) (c .value-length .ensures .1))
 
--- src/ended.rt:50:25
 cast-put32-2 : tie.Need-cast-put32-2 Inv-loop μ-loop
-cast-put32-2 c = ?
+cast-put32-2 c = omega arith
 
--- src/ended.rt:50:5
 put32-requires-2 : tie.Need-put32-requires-2 Inv-loop μ-loop
-put32-requires-2 c κs = ?
+put32-requires-2 c κs = room (c .before .before)
 
--- src/ended.rt:51:5
 add-result : tie.Need-add-result Inv-loop μ-loop
-add-result c = ?
+add-result c = let l = c .before .before .before .before .before in omega (arith, room l, l .loop .inv .wrote .same, l .before .before .before .before .good)
 
--- src/ended.rt:31:1
 same-length : tie.Need-same-length Inv-loop μ-loop
-same-length c = ?
+same-length c = c .before .before .put322 .kept .0 ∙ c .before .before .before .before .before .loop .inv .wrote .same
 
--- src/ended.rt:31:1
 returns : tie.Need-returns Inv-loop μ-loop
-returns c = ?
+returns c =
+    let s = c .before .before .before .before .before .before .before .before .before in
+    let a = s .args in
+    let l = c .before .before .before .before .before .loop in
+    let e = run-end (slotAt (ended (a .options)) (a .rows .now)) (a .cursors .now) (a .sheet .now) (a .at) (l .sheet) (l .place) (l .total) (l .r) (l .inv) (c .before .before .before .before .loop-test .left) in
+    (e .0, c .before .before .put322 .ensures ∙ e .1)
 
 pub write-ends-spec : {M : Type 1} → statement M
 write-ends-spec =
