@@ -14,7 +14,7 @@ use Rattle.format.specs.declared.SortOptions.{SortOptions}
 use Rattle.format.specs.declared.Column.{Column}
 use Rattle.format.specs.Limits.{maxSlot}
 use Rattle.format.specs.Lists.{Bytes}
-use Rattle.format.specs.Kinds.{Fixed, bool, Shape, fixed, variable, Slot, width, columnShape}
+use Rattle.format.specs.Kinds.{Fixed, bool, Shape, fixed, variable, Slot, width, shapeBytes, columnShape}
 use Rattle.format.specs.Field.{directed, field, nullByte, variableBytes}
 use Rattle.format.specs.Fits.{SlotFits}
 use Rattle.format.specs.Cleared.{valid, isTrue, fixedSlot, variableSlot}
@@ -107,26 +107,31 @@ module _ (which : Flag) (col : Column) (s : List ℕ) (g : Good (readField (colu
 
 -- ---- lengths
 
--- a field of a fixed kind is a byte longer than a value
-pub fixed-long : (k : Fixed) (o : SortOptions) (s : List ℕ) → Bytes s → Good (readField (fixed k) o s)
-    → (length s - length (leftAfter (readField (fixed k) o s)) ≡ 1 + width k) × (1 + width k ≤ length s)
-fixed-long k o s b g =
-    let t = opens (fixed k) o s b g in
-    let l = length-field (fixed k) o (t .slot) (t .fits) in
-    let m = ap length (t .is) ∙ length-append (field (fixed k) o (t .slot)) (t .rest) in
-    let r = ap (λ (p : Parsed Slot). length (leftAfter p)) (t .reads) in
-    (omega arith, omega arith)
-
 -- what a slot takes up in a column of values of one length
 slot-long : (k : Fixed) (x : Slot) → SlotFits maxSlot (fixed k) x → length (fixedSlot (width k) x) ≡ width k
 slot-long k none h = length-replicate (width k) 0
 slot-long k (some v) h = h .1
 
-pub fixed-slot-long : (k : Fixed) (o : SortOptions) (s : List ℕ) → Bytes s → Good (readField (fixed k) o s)
-    → length (fixedSlot (width k) (slotRead (readField (fixed k) o s))) ≡ width k
-fixed-slot-long k o s b g =
+-- of a fixed kind: the field is a byte longer than a value, is there whole, and its slot is as long as every other
+pub record Whole (sh : Shape) (o : SortOptions) (s : List ℕ) : Type 0 where
+  pub field-long : length s - length (leftAfter (readField sh o s)) ≡ 1 + shapeBytes sh
+  pub there : 1 + shapeBytes sh ≤ length s
+  pub slot-is : length (fixedSlot (shapeBytes sh) (slotRead (readField sh o s))) ≡ shapeBytes sh
+
+whole-fixed : (k : Fixed) (o : SortOptions) (s : List ℕ) → Bytes s → Good (readField (fixed k) o s) → Whole (fixed k) o s
+whole-fixed k o s b g =
     let t = opens (fixed k) o s b g in
-    ap (λ (p : Parsed Slot). length (fixedSlot (width k) (slotRead p))) (t .reads) ∙ slot-long k (t .slot) (t .fits)
+    let l = length-field (fixed k) o (t .slot) (t .fits) in
+    let m = ap length (t .is) ∙ length-append (field (fixed k) o (t .slot)) (t .rest) in
+    let r = ap (λ (p : Parsed Slot). length (leftAfter p)) (t .reads) in
+    record {
+      field-long = omega arith;
+      there = omega arith;
+      slot-is = ap (λ (p : Parsed Slot). length (fixedSlot (width k) (slotRead p))) (t .reads) ∙ slot-long k (t .slot) (t .fits);
+    }
+
+pub whole : (sh : Shape) (k : Fixed) (o : SortOptions) (s : List ℕ) → sh ≡ fixed k → Bytes s → Good (readField sh o s) → Whole sh o s
+whole sh k o s e b = subst (λ (z : Shape). Good (readField z o s) → Whole z o s) (sym e) (whole-fixed k o s b)
 
 -- no value of variable bytes is over the limit
 slot-short : (x : Slot) → SlotFits maxSlot variable x → length (variableSlot x) ≤ maxSlot

@@ -1,91 +1,134 @@
+-- `sheet_writer::values::move_values` meets its contract. The invariant: the values of the rows passed are written, and
+-- their cursors moved. Assumes nothing.
+use borrow.Author.Needs.{needs}
+use Prim.Native.Nat.{ℕ, _+_, _-_, _<_, _≤_}
+use mathlib.Core.Path.{_≡_, sym, ap, _∙_}
+use native.Mathlib.Omega.{arith}
+use borrow.Rule.Slice.PartAt.{part-to-end}
+use lib.ListN.{length, getD, drop, length-drop}
+use Rattle.format.specs.declared.Column.{Column}
+use Rattle.format.specs.Kinds.{columnShape, valueBytes}
+use Rattle.format.specs.Cleared.{fixedSlot}
+use Rattle.format.specs.Read.{Good}
+use Rattle.laws.proofs.Bytes.{bytes-of, bytes-drop}
+use Rattle.sheet_writer.specs.Cursors.{fieldAt, slotAt, nextAt}
+use Rattle.sheet_writer.proofs.Lead.{inside, Whole, whole}
+use Rattle.sheet_writer.proofs.Moving.{Moving, move-start, move-such, move-room, move-more, move-end}
 use Rattle.sheet_writer.proofs.values.move_values.Statement.{statement}
 use Rattle.sheet_writer.proofs.values.move_values.Tie as tie
-use Rattle.sheet_writer.proofs.values.move_values.Reads as reads
-use Rattle.sheet_writer.proofs.values.move_values.Lts as lts
-use Rattle.format.proofs.width.Reads as width-reads
-use Rattle.sheet_writer.proofs.standin.decode.Reads as decode-reads
 
 abbrev Inv-loop : tie.InvT-loop
-Inv-loop rows cursors₀ sheet₀ at kind options w place₀ r₀ cursors sheet place r = ?
+Inv-loop rows cursors₀ sheet₀ at kind options w place₀ r₀ cursors sheet place r =
+    let column : Column = record { kind = kind; options = options } in
+    Moving (slotAt column rows) (fixedSlot (valueBytes kind)) (nextAt column rows) cursors₀ sheet₀ at cursors sheet place r
 
 abbrev μ-loop : tie.MeasureT-loop
-μ-loop rows cursors₀ sheet₀ at kind options w place₀ r₀ cursors sheet place r = ?
+μ-loop rows cursors₀ sheet₀ at kind options w place₀ r₀ cursors sheet place r = length cursors₀ - r
 
--- src/values.rt:26:9
 width-requires : tie.Need-width-requires Inv-loop μ-loop
-width-requires c κs = ?
+width-requires c κs = search needs
 
--- src/values.rt:29:5
 loop-holds : tie.Need-loop-holds Inv-loop μ-loop
-loop-holds c = ?
+loop-holds c = move-start _ _ _ _ _ _
 
--- src/values.rt:30:17
 mul-p : tie.Need-mul-p Inv-loop μ-loop
-mul-p c = ?
+mul-p c = omega arith
 
--- src/values.rt:30:17
 slice-read-p : tie.Need-slice-read-p Inv-loop μ-loop
-slice-read-p c = ?
+slice-read-p c = omega arith
 
--- src/values.rt:31:16
+-- in a turn: the field at the cursor of row r can be read, the cursor stands within the rows, and there is room for the value
+module _ (c : tie.In-loop Inv-loop μ-loop) where
+  abbrev s : tie.Start Inv-loop μ-loop
+  s = c .before .before .before .before .before .before .before
+
+  abbrev l : tie.At-loop Inv-loop μ-loop
+  l = c .before
+
+  abbrev p : ℕ
+  p = getD (l .loop .cursors) (l .loop .r) 0
+
+  readable : Good (fieldAt (s .args .column) (s .args .rows .now) p)
+  readable =
+      move-such (slotAt (s .args .column) (s .args .rows .now)) (fixedSlot (valueBytes (s .args .column .kind))) (nextAt (s .args .column) (s .args .rows .now)) (s .args .cursors .now)
+      (s .args .sheet .now) (s .args .at) (l .loop .cursors) (l .loop .sheet) (l .loop .place) (l .loop .r) (l .loop .inv)
+      (λ q. Good (fieldAt (s .args .column) (s .args .rows .now) q)) (s .pre .1 .0) (c .loop-test .taken)
+
+  within : p < length (s .args .rows .now)
+  within = inside (s .args .column) (s .args .rows .now) p readable
+
+  all : Whole (columnShape (s .args .column)) (s .args .column .options) (drop p (s .args .rows .now))
+  all =
+      whole (columnShape (s .args .column)) (s .pre .0 .k) (s .args .column .options) (drop p (s .args .rows .now)) (s .pre .0 .says)
+      (bytes-drop p (s .args .rows .now) (bytes-of (s .args .rows .now) (λ i. c .before .before .before .before .before .before .shared-slice-known .given i .fits))) readable
+
+  room : l .loop .place + valueBytes (s .args .column .kind) ≤ length (l .loop .sheet)
+  room =
+      rw (all .slot-is) at
+      (move-room (slotAt (s .args .column) (s .args .rows .now)) (fixedSlot (valueBytes (s .args .column .kind))) (nextAt (s .args .column) (s .args .rows .now)) (s .args .cursors .now)
+      (s .args .sheet .now) (s .args .at) (l .loop .cursors) (l .loop .sheet) (l .loop .place) (l .loop .r) (l .loop .inv) (c .loop-test .taken) (s .pre .1 .1))
+
 sub-decode : tie.Need-sub-decode Inv-loop μ-loop
-sub-decode c = ?
+sub-decode c = omega (arith, within (c .before))
 
--- src/values.rt:31:16
 part-decode-start : tie.Need-part-decode-start Inv-loop μ-loop
-part-decode-start c = ?
+part-decode-start c = omega (arith, within (c .before))
 
--- src/values.rt:31:16
 part-decode-end : tie.Need-part-decode-end Inv-loop μ-loop
-part-decode-end c = ?
+part-decode-end c = omega arith
 
--- src/values.rt:31:9
 decode-requires : tie.Need-decode-requires Inv-loop μ-loop
-decode-requires c κs = ?
+decode-requires c κs =
+    let t = c .before .before .before in
+    (s t .pre .0, (rw (part-to-end (s t .args .rows .now) (p t)) (readable t), room t))
 
--- src/values.rt:32:22
 add-cursors : tie.Need-add-cursors Inv-loop μ-loop
-add-cursors c = ?
+add-cursors c = let t = c .before .before .before .before .before .before in omega (arith, within t, s t .good)
 
--- src/values.rt:32:22
 add-cursors-2 : tie.Need-add-cursors-2 Inv-loop μ-loop
-add-cursors-2 c = ?
+add-cursors-2 c =
+    let t = c .before .before .before .before .before .before in
+    omega (arith, within t, all t .there, c .before .before .before .before .before .before .before .before .width .ensures, length-drop (p t) (s t .args .rows .now), s t .good)
 
--- src/values.rt:32:9
 mul-cursors : tie.Need-mul-cursors Inv-loop μ-loop
-mul-cursors c = ?
+mul-cursors c = omega arith
 
--- src/values.rt:32:9
 slice-write-cursors : tie.Need-slice-write-cursors Inv-loop μ-loop
-slice-write-cursors c = ?
+slice-write-cursors c = omega arith
 
--- src/values.rt:33:9
 add-place : tie.Need-add-place Inv-loop μ-loop
-add-place c = ?
+add-place c =
+    let t = c .before .before .before .before .before .before in
+    omega (arith, room t, c .before .before .before .before .before .before .before .before .width .ensures, l t .loop .inv .wrote .1 .same, s t .good)
 
--- src/values.rt:34:9
 add-r : tie.Need-add-r Inv-loop μ-loop
-add-r c = ?
+add-r c = omega arith
 
--- src/values.rt:29:5
 loop-less : tie.Need-loop-less Inv-loop μ-loop
-loop-less c = ?
+loop-less c = omega arith
 
--- src/values.rt:29:5
 loop-again : tie.Need-loop-again Inv-loop μ-loop
-loop-again c = ?
+loop-again c =
+    let t = c .before .before .before .before .before .before in
+    let w = c .before .before .before .before .before .before .before .before .width in
+    rw (c .before .before .decode .ensures, part-to-end (s t .args .rows .now) (p t))
+    (move-more (slotAt (s t .args .column) (s t .args .rows .now)) (fixedSlot (valueBytes (s t .args .column .kind))) (nextAt (s t .args .column) (s t .args .rows .now)) (s t .args .cursors .now)
+    (s t .args .sheet .now) (s t .args .at) (l t .loop .cursors) (l t .loop .sheet) (l t .loop .place) (l t .loop .r) (l t .loop .inv)
+    (w .result) (p t + 1 + w .result) (t .loop-test .taken) (all t .slot-is ∙ sym (w .ensures)) (omega (arith, w .ensures, all t .field-long)))
 
--- src/values.rt:16:1
 same-length : tie.Need-same-length Inv-loop μ-loop
-same-length c = ?
+same-length c = c .before .loop .inv .moved .long
 
--- src/values.rt:16:1
 same-length-2 : tie.Need-same-length-2 Inv-loop μ-loop
-same-length-2 c = ?
+same-length-2 c = c .before .loop .inv .wrote .1 .same
 
--- src/values.rt:16:1
 returns : tie.Need-returns Inv-loop μ-loop
-returns c = ?
+returns c =
+    let a = c .before .before .before .before .before .before .before .args in
+    let k = c .before .loop in
+    let e = move-end (slotAt (a .column) (a .rows .now)) (fixedSlot (valueBytes (a .column .kind))) (nextAt (a .column) (a .rows .now)) (a .cursors .now)
+    (a .sheet .now) (a .at) (k .cursors) (k .sheet) (k .place) (k .r) (k .inv) (c .loop-test .left) in
+    (e .0, (e .1, e .2))
 
 pub move-values-spec : {M : Type 1} → statement M
 move-values-spec =
