@@ -4,4 +4,6 @@ pub mod Maps
 pub mod Moving
 pub mod Running
 pub mod Eights
+pub mod Arms
+pub mod Parts
 pub mod Stand
