@@ -4,12 +4,15 @@ use Prim.Native.Nat.{ℕ, zero, suc, _+_, _-_, _<_, _≤_}
 use mathlib.Core.Path.{_≡_, refl, sym, ap, ap₂, _∙_, subst}
 use mathlib.Core.Option.{none}
 use mathlib.Core.List.{List, [], _∷_, _++_, map, map-map, tail, append-assoc}
+use native.Mathlib.Nat.{zero-add}
+use native.Mathlib.Numerals.{add-one}
 use native.Mathlib.Omega.{arith}
-use lib.ListN.{length, getD, take, drop, take-append-drop, length-map}
-use lib.Seq.{drop-drop, length-take-le, getD-take}
+use lib.ListN.{length, getD, take, drop, take-append-drop, drop-of-length-le, length-map}
+use lib.Seq.{sets, take-at, drop-cons, drop-drop, length-take-le, getD-take}
 use Rattle.format.specs.declared.Check.the-variants.{Pass}
 use Rattle.format.specs.declared.Column.{Column}
 use Rattle.format.specs.Lists.{Bytes, each}
+use Rattle.format.specs.Schemas.{noColumn}
 use Rattle.format.specs.Kinds.{Slot, columnShape}
 use Rattle.format.specs.Field.{field}
 use Rattle.format.specs.Fits.{RowFits}
@@ -18,6 +21,7 @@ use Rattle.format.specs.Sheet.{layout, turned}
 use Rattle.format.specs.Cleared.{clearedColumn, clearedSheet}
 use Rattle.format.specs.Read.{Parsed, got, Good, slotRead, leftAfter, readField, rowFault, rowSlots, rowsFault}
 use Rattle.format.specs.Entries.{rowBytes, cutRows, decodedSheet}
+use Rattle.laws.proofs.Append.{Walk, walk-start, walk-more, walk-room, walk-end}
 use Rattle.laws.proofs.Bytes.{bytes-append, bytes-drop, bytes-take}
 use Rattle.laws.proofs.Fields.{bytes-row}
 use Rattle.laws.proofs.ReadField.{field-read, left-end}
@@ -42,9 +46,6 @@ module _ (col : Column) (rows : List ℕ) (b : Bytes rows) where
       ∙ sym (left-end (columnShape col) (col .options) (drop p rows) (bytes-drop p rows b) g)
 
   module _ (cols : List Column) (cursors : List ℕ) (h : AllFields (col ∷ cols) rows cursors) where
-    pub column-here : Readable col rows cursors
-    column-here r l = h r l .0
-
     pub columns-next : AllFields cols rows (map (nextAt col rows) cursors)
     columns-next r l =
         let k : r < length cursors = omega (arith, length-map cursors (nextAt col rows)) in
@@ -132,3 +133,66 @@ module _ (cols : List Column) (rows offsets : List ℕ) (b : Bytes rows) where
         ap₂ {C = List ℕ} (λ (m : ℕ) (yss : List (List Slot)). clearedSheet m cols (turned (length cols) yss))
         (length-take-le n offsets there)
         (ap (map (slotsFrom cols rows)) (sym firsts-are) ∙ rows-stand 0 n passes .1)
+
+-- the front of an array xs, stored and lent again, is what was stored
+module _ (n : ℕ) (xs v offsets : List ℕ) (room : n ≤ length xs) (there : n ≤ length offsets) (e : v ≡ take (length (take n xs)) offsets) where
+  stored : v ≡ take n offsets
+  stored = e ∙ ap (λ (m : ℕ). take m offsets) (length-take-le n xs room)
+
+  pub front-long : length v ≡ n
+  front-long = ap length stored ∙ length-take-le n offsets there
+
+  pub front-is : take n (v ++ drop n xs) ≡ take n offsets
+  front-is = take-at v (drop n xs) n front-long ∙ stored
+
+-- ---- the walk over the columns
+
+-- before column c: the columns before it are written, and the cursors stand at its fields
+pub record Standing (cols : List Column) (rows cursors₀ out₀ cursors out : List ℕ) (at c : ℕ) : Type 0 where
+  pub within : c ≤ length cols
+  pub many : length cursors ≡ length cursors₀
+  pub fields : AllFields (drop c cols) rows cursors
+  pub wrote : Walk (sheetAt cols rows cursors₀) (sheetAt (drop c cols) rows cursors) out₀ 0 out at
+
+pub stand-first : (cols : List Column) (rows cursors out : List ℕ) → AllFields cols rows cursors → Standing cols rows cursors out cursors out 0 0
+stand-first cols rows cursors out h = record { within = omega arith; many = refl; fields = h; wrote = walk-start (sheetAt cols rows cursors) out 0 }
+
+module _ (cols : List Column) (rows cursors₀ out₀ cursors out : List ℕ) (at c : ℕ) (t : Standing cols rows cursors₀ out₀ cursors out at c) where
+  -- no column is left
+  pub stand-end : length cols ≤ c → (at ≡ length (sheetAt cols rows cursors₀)) × (out ≡ sets out₀ 0 (sheetAt cols rows cursors₀))
+  stand-end h =
+      let e = walk-end (t .wrote) (ap (λ (cs : List Column). sheetAt cs rows cursors) (drop-of-length-le cols {i = c} h)) in
+      (e .0 ∙ zero-add (length (sheetAt cols rows cursors₀)), e .1)
+
+  module _ (b : Bytes rows) (col : Column) (next : drop c cols ≡ col ∷ drop (c + 1) cols) where
+    here : AllFields (col ∷ drop (c + 1) cols) rows cursors
+    here = subst (λ (cs : List Column). AllFields cs rows cursors) next (t .fields)
+
+    abbrev column : List ℕ
+    column = clearedColumn (layout col) (length cursors) (map (slotAt col rows) cursors)
+
+    left : sheetAt (drop c cols) rows cursors ≡ column ++ sheetAt (drop (c + 1) cols) rows (map (nextAt col rows) cursors)
+    left = ap (λ (cs : List Column). sheetAt cs rows cursors) next ∙ sheet-next col rows b (drop (c + 1) cols) cursors here
+
+    -- a field of column c can be read at each cursor, and there is room for the column
+    pub stand-here : Readable col rows cursors
+    stand-here r l = here r l .0
+
+    pub stand-room : length (sheetAt cols rows cursors₀) ≤ length out₀ → at + length column ≤ length out
+    stand-room fits = walk-room (t .wrote) column (sheetAt (drop (c + 1) cols) rows (map (nextAt col rows) cursors)) left (omega arith)
+
+    -- which is written, and the cursors moved
+    pub stand-more : c < length cols → Standing cols rows cursors₀ out₀ (map (nextAt col rows) cursors) (sets out at column) (at + length column) (c + 1)
+    stand-more h = record {
+      within = omega arith;
+      many = length-map cursors (nextAt col rows) ∙ t .many;
+      fields = columns-next col rows b (drop (c + 1) cols) cursors here;
+      wrote = walk-more (t .wrote) column (sheetAt (drop (c + 1) cols) rows (map (nextAt col rows) cursors)) left;
+    }
+
+-- a column of those in use
+pub column-at : (columns : List Column) (count c : ℕ) → c < count → count ≤ length columns
+    → drop c (take count columns) ≡ getD columns c noColumn ∷ drop (c + 1) (take count columns)
+column-at columns count c h l =
+    drop-cons (take count columns) c noColumn (omega (arith, length-take-le count columns l))
+    ∙ ap₂ {C = List Column} (λ (x : Column) (n : ℕ). x ∷ drop n (take count columns)) (getD-take count columns c noColumn h) (sym (add-one c))
