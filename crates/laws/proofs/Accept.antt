@@ -1,16 +1,19 @@
--- What encode and decode accept: the checks of the entries, taken apart and put together. Assumes nothing.
+-- What encode and decode accept: the checks of the entries, taken apart and put together, and what the entries answer and
+-- write then. Assumes nothing.
 use Prim.Native.Nat.{ℕ, suc, _≤_}
 use mathlib.Core.Path.{_≡_, refl}
 use mathlib.Core.List.{List}
 use lib.ListN.{length}
+use Rattle.format.specs.declared.Answer.the-variants.{Done}
 use Rattle.format.specs.declared.Check.the-variants.{Pass}
 use Rattle.format.specs.declared.Column.{Column}
 use Rattle.format.specs.Limits.{maxRows, maxTotal}
+use Rattle.format.specs.Lists.{endsFrom, joined, over}
 use Rattle.format.specs.Columns.{listFault, columns}
-use Rattle.format.specs.Sheet.{sheetFault}
+use Rattle.format.specs.Sheet.{sheetFault, sheetSlots, nulls}
 use Rattle.format.specs.Read.{rowsFault}
-use Rattle.format.specs.Entries.{rowCountFault, sheetTotal, measureCheck, encodeCheck, offsetsFault, cutRows, decodedSheet, decodeCheck}
-use Rattle.laws.proofs.Checks.{enough, pass-enough, both-pass, pass-both}
+use Rattle.format.specs.Entries.{rowCountFault, sheetRows, sheetTotal, measureCheck, encodeCheck, encodeAnswer, encodeRows, encodeOffsets, offsetsFault, cutRows, rowsSlots, decodedSheet, decodeCheck, decodeAnswer, decodeSheet}
+use Rattle.laws.proofs.Checks.{enough, pass-enough, both-pass, pass-both, answer-done}
 use Rattle.laws.proofs.Cuts.{Cuts, offsets-passed, cuts-pass}
 
 -- an accepted sheet: encode, with room enough, does not refuse it
@@ -75,3 +78,40 @@ decode-pass list n bytes offsets room l r fits =
     (pass-both (offsetsFault n bytes offsets) _ (cuts-pass n bytes offsets (r .cuts))
     (pass-both (rowsFault 0 (columns list) (cutRows n bytes offsets)) _ (r .passes)
     (pass-enough room (length (decodedSheet n (columns list) (cutRows n bytes offsets))) _ _ fits refl))))
+
+-- ---- what the entries answer and write where they refuse nothing
+module _ (list : List ℕ) (n : ℕ) (sheet rows offsets : List ℕ) (e : encodeCheck list n sheet (length rows) (length offsets) ≡ Pass) where
+  pub encode-answers : encodeAnswer list n sheet (length rows) (length offsets)
+      ≡ Done (sheetTotal n (columns list) sheet) (nulls (sheetSlots n (columns list) sheet))
+  unfolding encodeAnswer
+  encode-answers = rw e
+
+  pub encode-rows : encodeRows list n sheet rows (length offsets) ≡ over (joined (sheetRows n (columns list) sheet)) rows
+  unfolding encodeRows
+  encode-rows = rw e
+
+  pub encode-offsets : encodeOffsets list n sheet (length rows) offsets ≡ over (endsFrom 0 (sheetRows n (columns list) sheet)) offsets
+  unfolding encodeOffsets
+  encode-offsets = rw e
+
+module _ (list : List ℕ) (n : ℕ) (bytes offsets sheet : List ℕ) (e : decodeCheck list n bytes offsets (length sheet) ≡ Pass) where
+  pub decode-answers : decodeAnswer list n bytes offsets (length sheet)
+      ≡ Done (length (decodedSheet n (columns list) (cutRows n bytes offsets))) (nulls (rowsSlots (columns list) (cutRows n bytes offsets)))
+  unfolding decodeAnswer
+  decode-answers = rw e
+
+  pub decode-writes : decodeSheet list n bytes offsets sheet ≡ over (decodedSheet n (columns list) (cutRows n bytes offsets)) sheet
+  unfolding decodeSheet
+  decode-writes = rw e
+
+-- ---- answers that are no refusal
+pub encode-done : (list : List ℕ) (n : ℕ) (sheet : List ℕ) (rowRoom offsetRoom a b : ℕ) → encodeAnswer list n sheet rowRoom offsetRoom ≡ Done a b
+    → (encodeCheck list n sheet rowRoom offsetRoom ≡ Pass) × (sheetTotal n (columns list) sheet ≡ a) × (nulls (sheetSlots n (columns list) sheet) ≡ b)
+unfolding encodeAnswer
+encode-done list n sheet rowRoom offsetRoom a b e = answer-done (encodeCheck list n sheet rowRoom offsetRoom) _ _ a b e
+
+pub decode-done : (list : List ℕ) (n : ℕ) (bytes offsets : List ℕ) (room a b : ℕ) → decodeAnswer list n bytes offsets room ≡ Done a b
+    → (decodeCheck list n bytes offsets room ≡ Pass)
+    × (length (decodedSheet n (columns list) (cutRows n bytes offsets)) ≡ a) × (nulls (rowsSlots (columns list) (cutRows n bytes offsets)) ≡ b)
+unfolding decodeAnswer
+decode-done list n bytes offsets room a b e = answer-done (decodeCheck list n bytes offsets room) _ _ a b e

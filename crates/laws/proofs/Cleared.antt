@@ -1,22 +1,22 @@
 -- The cleared sheet of slots that fit: it passes, it has these slots, and how long it is. Assumes nothing.
 use Prim.Native.Nat.{ℕ, zero, suc, _+_, _-_, _*_, _/_, _%_, _^_, _<_, _≤_}
 use mathlib.Core.Path.{_≡_, refl, ap, ap₂, sym, _∙_, subst}
-use mathlib.Core.Bool.{Bool, not}
+use mathlib.Core.Bool.{Bool}
 use mathlib.Core.Option.{none, some}
 use mathlib.Core.List.{List, [], _∷_, _++_, map, append-assoc}
-use native.Mathlib.Nat.{pow-suc, add-zero, zero-add}
+use native.Mathlib.Nat.{pow-suc, zero-add}
 use native.Mathlib.Omega.{arith}
-use lib.Dec.{ltb, eqb, ltb→lt}
+use lib.Dec.{eqb, ltb→lt}
 use lib.ListN.{length, getD, take, drop, length-append, length-map, length-replicate, List·getD-map}
-use lib.Seq.{take-at, drop-at, drop-append-seam}
-use borrow.Author.Tests.{le-ltb, eq-eqb}
+use lib.Seq.{drop-at}
+use borrow.Author.Tests.{eq-eqb}
 use Rattle.format.specs.declared.Check.the-variants.{Pass}
 use Rattle.format.specs.declared.Column.{Column}
 use Rattle.format.specs.Limits.{maxRows, maxSlot}
-use Rattle.format.specs.Lists.{each, endsFrom, joined, low, lowBytes, sum}
+use Rattle.format.specs.Lists.{endsFrom, joined, low, lowBytes, sum}
 use Rattle.format.specs.Kinds.{Fixed, bool, plain, number, integer, float, parts, Shape, fixed, variable, Slot, width, columnShape}
 use Rattle.format.specs.Fits.{SlotFits, AllSlots, SheetFits}
-use Rattle.format.specs.Sheet.{Layout, bits, ended, wide, layoutFor, layout, packed, bit, bitsFault, end, endsFault, valuesFault, valuesBytes, boolByte, valueAt, slotIf, columnFault, columnBytes, slotAt, columnSlots, sheetFaultFrom, sheetFault, sheetSlots}
+use Rattle.format.specs.Sheet.{Layout, bits, ended, wide, layoutFor, layout, packed, bit, end, endsFault, valuesFault, valuesBytes, boolByte, valueAt, slotIf, columnFault, columnBytes, slotAt, columnSlots, sheetFaultFrom, sheetFault, sheetSlots}
 use Rattle.format.specs.Cleared.{pack, valid, isTrue, fixedSlot, variableSlot, clearedValues, clearedColumn, clearedSheet}
 use Rattle.bits.proofs.Bits.{length-pack, bit-before, bits-pass}
 use Rattle.laws.proofs.Lists.{Every, each-is, length-joined, long-at, endAt, length-ends, end-first, end-next, end-last, end-most, cut-at}
@@ -81,7 +81,8 @@ wide-read k n c ss t e h = record {
   long = len;
   back = λ i l.
       ap (slotIf (valid (getD ss i none)))
-      (long-at (width k) xs t i (fixedSlot (width k) none) (all-wide k ss h) (omega (arith, length-map ss (fixedSlot (width k)))) ∙ List·getD-map (fixedSlot (width k)) ss i none)
+      (long-at (width k) xs t i (fixedSlot (width k) none) (all-wide k ss h) (omega (arith, length-map ss (fixedSlot (width k))))
+      ∙ List·getD-map (fixedSlot (width k)) ss i none)
       ∙ fixed-back (width k) (getD ss i none);
 }
   where
@@ -246,7 +247,8 @@ module _ (sh : Shape) (n c : ℕ) (ss : List Slot) (t : List ℕ) (few : n ≤ m
       ap₂ (λ (b : Bool) (z : List ℕ). slotIf b (valueAt ly n z i)) (valid-at i l) rest ∙ r .back i l))
 
 -- ---- sheets
-passes-from : (n c at : ℕ) (cols : List Column) (sss : List (List Slot)) → n ≤ maxRows → SheetFits n cols sss → sheetFaultFrom n c at cols (clearedSheet n cols sss) ≡ Pass
+passes-from : (n c at : ℕ) (cols : List Column) (sss : List (List Slot)) → n ≤ maxRows → SheetFits n cols sss
+    → sheetFaultFrom n c at cols (clearedSheet n cols sss) ≡ Pass
 passes-from n c at [] [] few h = refl
 passes-from n c at [] (ss ∷ sss) few h = absurd h
 passes-from n c at (col ∷ cols) [] few h = absurd h
@@ -256,11 +258,13 @@ passes-from n c at (col ∷ cols) (ss ∷ sss) few h =
     pass-both (columnFault (layout col) n c (clearedColumn (layout col) n ss ++ t)) _ (column-passes (columnShape col) n c ss t few (h .0) (h .1))
     (ap (sheetFaultFrom n (suc c) (at + k) cols) (column-past (columnShape col) n c ss t few (h .0) (h .1)) ∙ passes-from n (suc c) (at + k) cols sss few (h .2))
 
-pub cleared-passes : (n : ℕ) (cols : List Column) (sss : List (List Slot)) → n ≤ maxRows → SheetFits n cols sss → sheetFault n cols (clearedSheet n cols sss) ≡ Pass
+pub cleared-passes : (n : ℕ) (cols : List Column) (sss : List (List Slot)) → n ≤ maxRows → SheetFits n cols sss
+    → sheetFault n cols (clearedSheet n cols sss) ≡ Pass
 unfolding sheetFault
 cleared-passes n cols sss few h = passes-from n 0 0 cols sss few h
 
-pub cleared-slots : (n : ℕ) (cols : List Column) (sss : List (List Slot)) → n ≤ maxRows → SheetFits n cols sss → sheetSlots n cols (clearedSheet n cols sss) ≡ sss
+pub cleared-slots : (n : ℕ) (cols : List Column) (sss : List (List Slot)) → n ≤ maxRows → SheetFits n cols sss
+    → sheetSlots n cols (clearedSheet n cols sss) ≡ sss
 cleared-slots n [] [] few h = refl
 cleared-slots n [] (ss ∷ sss) few h = absurd h
 cleared-slots n (col ∷ cols) [] few h = absurd h

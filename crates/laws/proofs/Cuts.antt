@@ -12,7 +12,7 @@ use borrow.Author.Tests.{eq-eqb, eqb-true, not-false}
 use Rattle.format.specs.declared.Check.the-variants.{Pass}
 use Rattle.format.specs.Limits.{maxTotal}
 use Rattle.format.specs.Lists.{Bytes, each, endsFrom, joined}
-use Rattle.format.specs.Entries.{offsetRoomFault, totalFault, fallFault, offsetsFault, rowBytes, cutRows}
+use Rattle.format.specs.Entries.{offsetRoomFault, fallFault, offsetsFault, rowBytes, cutRows}
 use Rattle.laws.proofs.Bytes.{bytes-take, bytes-drop}
 use Rattle.laws.proofs.Lists.{Every, every-each, each-is, endAt, length-ends, end-first, end-next, end-last, cut-at}
 use Rattle.laws.proofs.Checks.{failIf-pass, enough, pass-enough, both-pass, pass-both}
@@ -33,10 +33,12 @@ falls-from offsets i (suc k) e (suc j) l =
     subst (λ (m : ℕ). getD offsets m 0 ≤ getD offsets (suc m) 0) (let q : suc i + j ≡ i + suc j = omega arith in q)
     (falls-from offsets (suc i) k (enough (getD offsets (suc i) 0) (getD offsets i 0) _ _ e .1) j (omega arith))
 
-rising-pass : (offsets : List ℕ) (i k : ℕ) → ((j : ℕ) → i ≤ j → j < i + k → getD offsets j 0 ≤ getD offsets (suc j) 0) → fallFault offsets i k ≡ Pass
+rising-pass : (offsets : List ℕ) (i k : ℕ) → ((j : ℕ) → i ≤ j → j < i + k → getD offsets j 0 ≤ getD offsets (suc j) 0)
+    → fallFault offsets i k ≡ Pass
 rising-pass offsets i zero h = refl
 rising-pass offsets i (suc k) h =
-    pass-enough (getD offsets (suc i) 0) (getD offsets i 0) _ _ (h i (omega arith) (omega arith)) (rising-pass offsets (suc i) k (λ j a b. h j (omega arith) (omega arith)))
+    pass-enough (getD offsets (suc i) 0) (getD offsets i 0) _ _ (h i (omega arith) (omega arith))
+    (rising-pass offsets (suc i) k (λ j a b. h j (omega arith) (omega arith)))
 
 pub offsets-passed : (n : ℕ) (bytes offsets : List ℕ) → offsetsFault n bytes offsets ≡ Pass → Cuts n bytes offsets
 offsets-passed n bytes offsets e =
@@ -130,7 +132,9 @@ module _ (n : ℕ) (bytes offsets : List ℕ) (c : Cuts n bytes offsets) where
   cut-length i l =
       let a = c .rising i l in
       let b = below-last (n - suc i) (suc i) (omega arith) in
-      omega (arith, c .inside, length-drop (getD offsets i 0) bytes, length-take-le (getD offsets (suc i) 0 - getD offsets i 0) (drop (getD offsets i 0) bytes) (omega (arith, c .inside, length-drop (getD offsets i 0) bytes)))
+      let d = length-drop (getD offsets i 0) bytes in
+      let room : getD offsets (suc i) 0 - getD offsets i 0 ≤ length (drop (getD offsets i 0) bytes) = omega (arith, c .inside) in
+      omega (arith, length-take-le (getD offsets (suc i) 0 - getD offsets i 0) (drop (getD offsets i 0) bytes) room)
 
   ends-from : (i k : ℕ) → i + k ≡ n → endsFrom (getD offsets i 0) (each i k (rowBytes bytes offsets)) ≡ take (suc k) (drop i offsets)
   ends-from i zero e = sym (ap (take 1) (drop-cons offsets i 0 (omega (arith, c .there))))

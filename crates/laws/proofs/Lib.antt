@@ -32,4 +32,7 @@ pub mod Room
 pub mod Cuts
 pub mod Unique
 pub mod Accept
+pub mod RowsBack
 pub mod Trips
+pub mod SheetOrder
+pub mod OutBytes

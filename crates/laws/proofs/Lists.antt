@@ -1,12 +1,14 @@
--- Lists by index, joined parts, and the ends of parts. Assumes nothing.
+-- Lists by index, joined parts, the ends of parts, and sums. Assumes nothing.
 use Prim.Native.Nat.{ℕ, zero, suc, _+_, _-_, _*_, _<_, _≤_}
-use mathlib.Core.Path.{_≡_, refl, ap, ap₂, sym, _∙_, subst}
+use mathlib.Core.Path.{_≡_, refl, ap, ap₂, sym, _∙_}
 use mathlib.Core.List.{List, [], _∷_, _++_, map, append-assoc}
-use native.Mathlib.Nat.{zero-add}
+use native.Mathlib.Nat.{sub-zero, zero-add}
+use native.Mathlib.Numerals.{add-one}
 use native.Mathlib.Omega.{arith}
 use lib.ListN.{length, getD, take, drop, length-append}
 use lib.Seq.{take-at, drop-at, drop-append-add}
 use Rattle.format.specs.Lists.{each, endsFrom, joined, sum}
+use Rattle.laws.proofs.Append.{each-step, each-none}
 
 -- ---- every element is such as P says
 abbrev pub Every : {A : Type 0} → (A → Type 0) → List A → Type 0
@@ -55,6 +57,10 @@ each-list (x ∷ xs) d = ap (λ l. x ∷ l) (each-next 0 (length xs) (λ i. getD
 -- a list is f at 0, 1, .. if each of its elements is
 pub each-is : {A : Type 0} (xs : List A) (d : A) (n : ℕ) (f : ℕ → A) → length xs ≡ n → ((i : ℕ) → i < n → f i ≡ getD xs i d) → each 0 n f ≡ xs
 each-is xs d n f e h = each-same 0 n f (λ i. getD xs i d) (λ j a b. h j (omega arith)) ∙ ap (λ m. each 0 m (λ i. getD xs i d)) (sym e) ∙ each-list xs d
+
+-- a list mapped is f of its elements
+pub map-is : {A B : Type 0} (f : A → B) (xs : List A) (d : A) → map f xs ≡ each 0 (length xs) (λ i. f (getD xs i d))
+map-is f xs d = ap (map f) (sym (each-list xs d)) ∙ map-each f 0 (length xs) (λ i. getD xs i d)
 
 -- ---- parts of one length
 pub length-joined : (w : ℕ) (xs : List (List ℕ)) → Every (λ x. length x ≡ w) xs → length (joined xs) ≡ length xs * w
@@ -113,7 +119,8 @@ cut-from p (x ∷ xs) t zero k e h =
     (ap (drop k) (append-assoc p (x ++ joined xs) t) ∙ drop-at p ((x ++ joined xs) ++ t) k e ∙ append-assoc x (joined xs) t)
     ∙ take-at x (joined xs ++ t) (length x) refl
 cut-from p (x ∷ xs) t (suc i) k e h =
-    ap (λ (y : List ℕ). take (endAt (k + length x) xs (suc i) - endAt (k + length x) xs i) (drop (endAt (k + length x) xs i) (y ++ t))) (sym (append-assoc p x (joined xs)))
+    let from : ℕ → ℕ = endAt (k + length x) xs in
+    ap (λ (y : List ℕ). take (from (suc i) - from i) (drop (from i) (y ++ t))) (sym (append-assoc p x (joined xs)))
     ∙ cut-from (p ++ x) xs t i (k + length x) (length-append p x ∙ omega arith) (omega arith)
 
 -- part i lies between ends i and i + 1
@@ -121,7 +128,26 @@ pub cut-at : (xs : List (List ℕ)) (t : List ℕ) (i : ℕ) → i < length xs
     → take (endAt 0 xs (suc i) - endAt 0 xs i) (drop (endAt 0 xs i) (joined xs ++ t)) ≡ getD xs i []
 cut-at xs t i h = cut-from [] xs t i 0 refl h
 
--- ---- sums
-pub sum-append : (xs ys : List ℕ) → sum (xs ++ ys) ≡ sum xs + sum ys
-sum-append [] ys = sym (zero-add (sum ys))
-sum-append (x ∷ xs) ys = omega (arith, sum-append xs ys)
+-- ---- adding up f at 0, 1, .., n - 1
+
+-- t is the sum of the first i of n
+abbrev pub Adding : (ℕ → ℕ) → ℕ → ℕ → ℕ → Type 0
+Adding f n i t = (i ≤ n) × (t + sum (each i (n - i) f) ≡ sum (each 0 n f))
+
+pub adding-begin : (f : ℕ → ℕ) (n : ℕ) → Adding f n 0 0
+adding-begin f n = (omega arith, zero-add (sum (each 0 (n - 0) f)) ∙ ap (λ (k : ℕ). sum (each 0 k f)) (sub-zero n))
+
+pub adding-more : (f : ℕ → ℕ) (n i t : ℕ) → Adding f n i t → i < n → Adding f n (i + 1) (t + f i)
+adding-more f n i t h l = (omega arith, rw (add-one i) (omega (arith, h .1, ap sum (each-step f n i l))))
+
+-- what is added next stays within the sum
+pub adding-most : (f : ℕ → ℕ) (n i t : ℕ) → Adding f n i t → i < n → t + f i ≤ sum (each 0 n f)
+adding-most f n i t h l = omega (arith, h .1, ap sum (each-step f n i l))
+
+pub adding-end : (f : ℕ → ℕ) (n i t : ℕ) → Adding f n i t → n ≤ i → t ≡ sum (each 0 n f)
+adding-end f n i t h l = omega (arith, h .1, ap sum (each-none f n i l))
+
+-- no one of k is over b, so they are not over k times b
+pub sum-most : (f : ℕ → ℕ) (b i k : ℕ) → ((j : ℕ) → i ≤ j → j < i + k → f j ≤ b) → sum (each i k f) ≤ k * b
+sum-most f b i zero h = omega arith
+sum-most f b i (suc k) h = omega (arith, h i (omega arith) (omega arith), sum-most f b (suc i) k (λ j x y. h j (omega arith) (omega arith)))

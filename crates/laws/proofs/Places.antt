@@ -1,6 +1,6 @@
 -- Where the columns of a sheet stand, and a slot from its column's place. Assumes nothing.
 use Prim.Native.Nat.{ℕ, zero, suc, _+_, _<_, _≤_}
-use mathlib.Core.Path.{_≡_, refl, ap, sym, subst, _∙_}
+use mathlib.Core.Path.{_≡_, refl, ap, _∙_}
 use mathlib.Core.Option.{none}
 use mathlib.Core.List.{List, [], _∷_}
 use native.Mathlib.Nat.{add-zero, add-suc, suc-add, zero-add}
@@ -9,7 +9,6 @@ use lib.ListN.{length, getD, drop, length-drop}
 use lib.Seq.{drop-drop}
 use Rattle.format.specs.declared.Check.the-variants.{Pass}
 use Rattle.format.specs.declared.Column.{Column}
-use Rattle.format.specs.Lists.{Bytes, each}
 use Rattle.format.specs.Kinds.{Slot}
 use Rattle.format.specs.Sheet.{Layout, layout, columnFault, columnBytes, slotAt, columnSlots, sheetFaultFrom, sheetFault, sheetSlots}
 use Rattle.laws.proofs.Lists.{each-at}
@@ -77,8 +76,8 @@ first-stands n c at col cols s l e =
       rw past-column at (p .1),
     )
 
-stands-from : (n k at : ℕ) (cols : List Column) (s : List ℕ) (c : ℕ) (d : Column) → at ≤ length s → sheetFaultFrom n k at cols (drop at s) ≡ Pass → c < length cols
-    → Stands (getD cols c d) n (k + c) (placeFrom n at cols s c) s
+stands-from : (n k at : ℕ) (cols : List Column) (s : List ℕ) (c : ℕ) (d : Column) → at ≤ length s
+    → sheetFaultFrom n k at cols (drop at s) ≡ Pass → c < length cols → Stands (getD cols c d) n (k + c) (placeFrom n at cols s c) s
 stands-from n k at [] s c d l e h = absurd (omega arith)
 stands-from n k at (col ∷ cols) s zero d l e h = rw add-zero (first-stands n k at col cols s l e .0)
 stands-from n k at (col ∷ cols) s (suc c) d l e h =
@@ -90,7 +89,8 @@ pub column-stands : (n : ℕ) (cols : List Column) (s : List ℕ) (c : ℕ) (d :
 unfolding sheetFault
 column-stands n cols s c d e l = rw zero-add at (stands-from n 0 0 cols s c d (omega arith) e l)
 
-last-from : (n c at : ℕ) (cols : List Column) (s : List ℕ) → at ≤ length s → sheetFaultFrom n c at cols (drop at s) ≡ Pass → placeFrom n at cols s (length cols) ≡ length s
+last-from : (n c at : ℕ) (cols : List Column) (s : List ℕ) → at ≤ length s → sheetFaultFrom n c at cols (drop at s) ≡ Pass
+    → placeFrom n at cols s (length cols) ≡ length s
 last-from n c at [] s l e = omega (arith, enough 0 (length (drop at s)) _ _ e .0, length-drop at s)
 last-from n c at (col ∷ cols) s l e =
     let p = first-stands n c at col cols s l e in

@@ -1,15 +1,17 @@
--- How long the cleared sheet of some rows is: what decode's room check adds up, row by row. Assumes nothing.
+-- The cleared sheet of some rows, by what each row adds: how long it is, and its nulls. Decode adds these up row by row.
+-- Assumes nothing.
 use Prim.Native.Nat.{ℕ, suc, _+_, _*_, _≤_}
 use mathlib.Core.Path.{_≡_, refl, ap, sym, _∙_}
-use mathlib.Core.List.{List, [], _∷_, _++_, map, tail}
+use mathlib.Core.Option.{none, some}
+use mathlib.Core.List.{List, [], _∷_, map, tail}
 use native.Mathlib.Omega.{arith}
 use lib.ListN.{length, length-append, length-map}
 use Rattle.format.specs.declared.Column.{Column}
 use Rattle.format.specs.Limits.{maxRows}
 use Rattle.format.specs.Lists.{sum}
 use Rattle.format.specs.Kinds.{Slot, columnShape}
-use Rattle.format.specs.Fits.{RowFits, SheetFits}
-use Rattle.format.specs.Sheet.{Layout, bits, ended, wide, layout, packed, turned}
+use Rattle.format.specs.Fits.{RowFits}
+use Rattle.format.specs.Sheet.{Layout, bits, ended, wide, layout, packed, nullsIn, nulls, turned}
 use Rattle.format.specs.Cleared.{clearedColumn, clearedSheet}
 use Rattle.laws.proofs.Lists.{Every}
 use Rattle.laws.proofs.Turned.{slotsAt, first-fits, tails-fit, turned-tails}
@@ -65,3 +67,23 @@ cleared-length n (col ∷ cols) yss few e h =
       cleared-length n cols (map tail yss) few (length-map yss tail ∙ e) (tails-fit col cols yss h),
       rows-added col cols yss h,
     )
+
+-- ---- the nulls of the first column and of the others are those of the rows
+rows-nulls : (col : Column) (cols : List Column) (yss : List (List Slot)) → Every (RowFits (col ∷ cols)) yss
+    → nullsIn (slotsAt yss 0) + sum (map nullsIn (map tail yss)) ≡ sum (map nullsIn yss)
+rows-nulls col cols [] h = refl
+rows-nulls col cols ([] ∷ yss) h = absurd (h .0)
+rows-nulls col cols ((none ∷ ys) ∷ yss) h = omega (arith, rows-nulls col cols yss (h .1))
+rows-nulls col cols ((some v ∷ ys) ∷ yss) h = omega (arith, rows-nulls col cols yss (h .1))
+
+empty-rows : (yss : List (List Slot)) → Every (RowFits []) yss → sum (map nullsIn yss) ≡ 0
+empty-rows [] h = refl
+empty-rows ([] ∷ yss) h = omega (arith, empty-rows yss (h .1))
+empty-rows ((y ∷ ys) ∷ yss) h = absurd (h .0)
+
+pub turned-nulls : (cols : List Column) (yss : List (List Slot)) → Every (RowFits cols) yss → nulls (turned (length cols) yss) ≡ sum (map nullsIn yss)
+turned-nulls [] yss h = sym (empty-rows yss h)
+turned-nulls (col ∷ cols) yss h =
+    ap nulls (turned-tails (length cols) yss)
+    ∙ ap (λ (k : ℕ). nullsIn (slotsAt yss 0) + k) (turned-nulls cols (map tail yss) (tails-fit col cols yss h))
+    ∙ rows-nulls col cols yss h

@@ -1,23 +1,27 @@
 -- The total row bytes, added up column by column: what a measuring walk over columns and rows finds. Assumes nothing.
-use Prim.Native.Nat.{ℕ, zero, suc, _+_}
+use Prim.Native.Nat.{ℕ, zero, suc, _+_, _*_, _/_, _≤_}
 use mathlib.Core.Path.{_≡_, refl, ap, ap₂, sym, subst, _∙_}
-use mathlib.Core.Option.{none}
+use mathlib.Core.Bool.{Bool, true, false, cond}
+use mathlib.Core.Option.{none, some}
 use mathlib.Core.List.{List, [], _∷_, _++_, map}
 use native.Mathlib.Omega.{arith}
+use lib.Dec.{leb}
+use borrow.Author.Tests.{leb-true}
 use lib.ListN.{length, getD, drop, length-append}
 use Rattle.format.specs.declared.Check.the-variants.{Pass}
 use Rattle.format.specs.declared.Column.{Column}
+use Rattle.format.specs.Limits.{maxWidth, maxSlot}
 use Rattle.format.specs.Lists.{Bytes, each, joined, sum}
-use Rattle.format.specs.Kinds.{Slot, columnShape}
-use Rattle.format.specs.Field.{field, fieldLength}
-use Rattle.format.specs.Fits.{AllSlots, SheetFits}
+use Rattle.format.specs.Kinds.{Shape, fixed, variable, Slot, shapeBytes, valueBytes, columnShape}
+use Rattle.format.specs.Field.{field, paddedLength, fieldLength}
+use Rattle.format.specs.Fits.{SlotFits, AllSlots, SheetFits}
 use Rattle.format.specs.Row.{row}
-use Rattle.format.specs.Sheet.{layout, columnBytes, slotAt, columnSlots, sheetFault, sheetSlots, nullsIn, nulls, turned}
+use Rattle.format.specs.Sheet.{layout, columnFault, columnBytes, slotAt, columnSlots, sheetFault, sheetSlots, nullsIn, nulls}
 use Rattle.format.specs.Entries.{sheetTotal}
 use Rattle.laws.proofs.Fields.{length-field}
-use Rattle.laws.proofs.Lists.{each-at, each-next, each-same}
+use Rattle.laws.proofs.Lists.{each-at, each-next, each-same, sum-most}
 use Rattle.laws.proofs.Places.{placeFrom, place, past-column}
-use Rattle.laws.proofs.Sheets.{sheet-fits}
+use Rattle.laws.proofs.Sheets.{slot-fits, sheet-fits}
 use Rattle.laws.proofs.Turned.{slotsAt, slot-in}
 
 -- the bytes that the fields of n rows take in a column that stands in front of s
@@ -53,7 +57,8 @@ total-from n at (col ∷ cols) s d h =
     one-more col cols (columnSlots (layout col) n (drop at s)) (sheetSlots n cols (drop (columnBytes (layout col) n (drop at s)) (drop at s))) (h .1) 0 n
     ∙ ap₂ _+_ first
     (ap (sheetTotal n cols) (past-column (layout col) n at s)
-    ∙ total-from n (at + columnBytes (layout col) n (drop at s)) cols s d (subst (λ (z : List ℕ). SheetFits n cols (sheetSlots n cols z)) (past-column (layout col) n at s) (h .2))
+    ∙ total-from n (at + columnBytes (layout col) n (drop at s)) cols s d
+    (subst (λ (z : List ℕ). SheetFits n cols (sheetSlots n cols z)) (past-column (layout col) n at s) (h .2))
     ∙ ap sum (sym (each-next 0 (length cols) (λ c. columnTotal (getD (col ∷ cols) c d) n (drop (placeFrom n at (col ∷ cols) s c) s)))))
   where
     first : sum (each 0 n (λ r. fieldLength (columnShape col) (getD (columnSlots (layout col) n (drop at s)) r none))) ≡ columnTotal col n (drop at s)
@@ -77,3 +82,24 @@ nulls-from n at (col ∷ cols) s d =
 pub nulls-is : (n : ℕ) (cols : List Column) (s : List ℕ) (d : Column)
     → nulls (sheetSlots n cols s) ≡ sum (each 0 (length cols) (λ c. nullsIn (columnSlots (layout (getD cols c d)) n (drop (place n cols s c) s))))
 nulls-is n cols s d = nulls-from n 0 cols s d
+
+-- ---- no field is longer than that of the longest value, so a column's total is small
+abbrev pub maxField : ℕ
+maxField = paddedLength maxSlot
+
+padded-most : (n : ℕ) → n ≤ maxSlot → paddedLength n ≤ maxField
+padded-most n l = go (leb n 32) refl
+  where
+    go : (b : Bool) → leb n 32 ≡ b → cond b (1 + 9 * ((n + 7) / 8)) (4 + 33 * ((n + 31) / 32)) ≤ maxField
+    go true e = omega (arith, leb-true n 32 e)
+    go false e = omega arith
+
+field-most : (sh : Shape) (s : Slot) → shapeBytes sh ≤ maxWidth → SlotFits maxSlot sh s → fieldLength sh s ≤ maxField
+field-most (fixed k) s w h = omega arith
+field-most variable none w h = omega arith
+field-most variable (some v) w h = padded-most (length v) (h .1)
+
+pub total-most : (col : Column) (n c : ℕ) (s : List ℕ) → Bytes s → columnFault (layout col) n c s ≡ Pass → valueBytes (col .kind) ≤ maxWidth
+    → columnTotal col n s ≤ n * maxField
+total-most col n c s b e w = sum-most (λ r. fieldLength (columnShape col) (slotAt (layout col) n s r)) maxField 0 n (λ r x y.
+    field-most (columnShape col) (slotAt (layout col) n s r) w (slot-fits (columnShape col) n c s b e r (omega arith)))

@@ -1,17 +1,17 @@
 -- Slots column by column and row by row: turned twice they are the same, and they fit both ways. Assumes nothing.
 use Prim.Native.Nat.{ℕ, zero, suc, _<_}
-use mathlib.Core.Path.{_≡_, refl, ap, ap₂, sym, subst, _∙_}
+use mathlib.Core.Path.{_≡_, refl, ap, sym, subst, _∙_}
 use mathlib.Core.Option.{none}
 use mathlib.Core.List.{List, [], _∷_, map, tail}
 use native.Mathlib.Omega.{arith}
 use lib.ListN.{length, getD, length-map, List·getD-map}
 use Rattle.format.specs.declared.Column.{Column}
 use Rattle.format.specs.Limits.{maxSlot}
-use Rattle.format.specs.Lists.{each}
 use Rattle.format.specs.Kinds.{Shape, Slot, columnShape}
 use Rattle.format.specs.Fits.{SlotFits, RowFits, AllSlots, SheetFits}
+use Rattle.format.specs.Row.{row}
 use Rattle.format.specs.Sheet.{turned}
-use Rattle.laws.proofs.Lists.{Every, every-at, every-each, each-is, each-same, each-next, map-each}
+use Rattle.laws.proofs.Lists.{Every, every-at, every-each, each-at, each-is, each-same, each-next, length-each, map-each}
 
 -- slot i of each list
 abbrev pub slotsAt : List (List Slot) → ℕ → List Slot
@@ -25,7 +25,17 @@ turned-turned m n sss e h = each-is sss [] m (slotsAt (turned n sss)) e list
     list : (j : ℕ) → j < m → slotsAt (turned n sss) j ≡ getD sss j []
     list j l =
         map-each (λ (ss : List Slot). getD ss j none) 0 n (slotsAt sss)
-        ∙ each-is (getD sss j []) none n _ (every-at (λ ss. length ss ≡ n) sss [] j h (omega arith)) (λ i k. List·getD-map (λ (ss : List Slot). getD ss i none) sss j [])
+        ∙ each-is (getD sss j []) none n _ (every-at (λ ss. length ss ≡ n) sss [] j h (omega arith))
+        (λ i k. List·getD-map (λ (ss : List Slot). getD ss i none) sss j [])
+
+-- ---- the rows of n slots to a column
+
+pub rows-many : (n : ℕ) (cols : List Column) (sss : List (List Slot)) → length (map (row cols) (turned n sss)) ≡ n
+rows-many n cols sss = length-map (turned n sss) (row cols) ∙ length-each 0 n (slotsAt sss)
+
+-- row r
+pub row-at : (n : ℕ) (cols : List Column) (sss : List (List Slot)) (r : ℕ) → r < n → getD (map (row cols) (turned n sss)) r [] ≡ row cols (slotsAt sss r)
+row-at n cols sss r l = ap (λ (z : List (List ℕ)). getD z r []) (map-each (row cols) 0 n (slotsAt sss)) ∙ each-at n (λ i. row cols (slotsAt sss i)) [] r l
 
 -- ---- rows of columns that fit
 

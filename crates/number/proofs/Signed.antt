@@ -1,23 +1,23 @@
 -- Signed numbers and their patterns, over the width w: the two readings, the mask of an arithmetic shift, the top bit.
 -- Assumes nothing.
-use Prim.Native.Nat.{ℕ, zero, suc, _+_, _-_, _*_, _/_, _%_, _^_, _≤_, _<_, zero-le}
+use Prim.Native.Nat.{ℕ, suc, _+_, _-_, _*_, _%_, _^_, _≤_, _<_, zero-le}
 use mathlib.Core.Path.{_≡_, refl, sym, ap, ap₂, _∙_}
 use mathlib.Core.Bool.{Bool, true, false, cond}
-use mathlib.Core.List.{List, reverse, reverse-reverse}
+use mathlib.Core.List.{reverse}
 use native.Mathlib.Nat.{div-eq-of-lt, one-mul}
 use native.Mathlib.Omega.{arith}
 use lib.Dec.{T, ltb}
 use lib.IntN.{ℤ, pos, negsuc, natAbs}
 use lib.Signed.{leZ, nonNeg, shrZ}
 use lib.Bits.{bitAnd, bitXor, xor-zero-r, and-mask, xor-add-and, xor-disjoint, xor-block, and-comm, and-shifted}
-use lib.Pow.{pow-pos, low}
+use lib.Pow.{pow-pos, low as low-part}
 use mir.Syntax.{Width, w8, w16, w32, w64, w128}
 use mir.Val.{Fits, SFits, bits, hbits, bytes, ofZ, toZ, sel}
-use mir.Facts.{toZ-ofZ, ofZ-toZ, fits-ofZ, toZ-pos, fits-xor, fits-and-r, sfits-toZ}
+use mir.Facts.{toZ-ofZ, ofZ-toZ, fits-ofZ, toZ-pos, fits-xor, fits-and-r}
 use borrow.Author.Tests.{lt-ltb, le-ltb, ltb-true, ltb-false, le-leb}
 use Rattle.format.specs.Lists.{lowBytes}
-use Rattle.format.specs.Key.{topFlipped, restInverted, signedKey, signedUnkey, floatKey, floatUnkey}
-use Rattle.number.proofs.Keys.{flipTop, invertRest, top-flipped, rest-inverted}
+use Rattle.format.specs.Key.{topFlipped, restInverted}
+use Rattle.number.proofs.Keys.{invertRest, top-flipped, rest-inverted}
 
 -- what computes at each width holds of every width
 every : (Q : Width → Type 0) → Q w8 → Q w16 → Q w32 → Q w64 → Q w128 → (w : Width) → Q w
@@ -35,6 +35,7 @@ below w32 = 3
 below w64 = 7
 below w128 = 15
 
+-- all patterns are twice the half; the half is that of the top byte, with the bytes below it
 double : (w : Width) → 2 ^ bits w ≡ 2 ^ hbits w + 2 ^ hbits w
 double = every (λ w. 2 ^ bits w ≡ 2 ^ hbits w + 2 ^ hbits w) refl refl refl refl refl
 
@@ -49,43 +50,61 @@ range = every (λ w. 2 ^ bits w ≡ 256 ^ (below w + 1)) refl refl refl refl ref
 
 -- ---- from a pattern to the signed number
 
--- the pattern x, as the inverse of its inverse
+-- the inverse of the inverse
 pub not-not : (w : Width) (x : ℕ) → Fits w x → (2 ^ bits w - 1) - ((2 ^ bits w - 1) - x) ≡ x
 not-not w x f = let h = f .fits in omega arith
 
--- ---- from a signed number to its pattern
+-- ---- from a signed number z to its pattern: what the test `0 <= z` says, and the casts under it
 
-split-sign : (w : Width) (x : ℕ) (t : Bool) → leZ (pos 0) (sel t (pos x) (negsuc (2 ^ bits w - suc x))) ≡ t
-split-sign w x true = le-leb 0 x zero-le
-split-sign w x false = refl
+-- the sign of a pattern is its half
+sign-is : (w : Width) (x : ℕ) (t : Bool) → leZ (pos 0) (sel t (pos x) (negsuc (2 ^ bits w - suc x))) ≡ t
+sign-is w x true = le-leb 0 x zero-le
+sign-is w x false = refl
 
--- what the test `0 <= s` says of the pattern x of s
-pub low-half : (w : Width) (x : ℕ) → leZ (pos 0) (toZ w x) ≡ true → x < 2 ^ hbits w
-low-half w x t = ltb-true x (2 ^ hbits w) (sym (split-sign w x (ltb x (2 ^ hbits w))) ∙ t)
-
-pub high-half : (w : Width) (x : ℕ) → Fits w x → leZ (pos 0) (toZ w x) ≡ false → (2 ^ bits w - 1) - x < 2 ^ hbits w
-high-half w x f t =
-    let h = ltb-false x (2 ^ hbits w) (sym (split-sign w x (ltb x (2 ^ hbits w))) ∙ t) in
-    let g = f .fits in
-    let p = pow-pos (hbits w) in
-    omega (arith, double w)
-
--- below the half the cast to unsigned is allowed, and gives the pattern
-pub plain : (w : Width) (x : ℕ) → x < 2 ^ hbits w → T (nonNeg (toZ w x)) × Fits w (natAbs (toZ w x))
+-- below the half a cast to unsigned is allowed, and gives the pattern
+plain : (w : Width) (x : ℕ) → x < 2 ^ hbits w → T (nonNeg (toZ w x)) × Fits w (natAbs (toZ w x))
 plain w x h = rw (toZ-pos w h) (tt, record { fits = omega (arith, double w) })
 
-pub plain-is : (w : Width) (x : ℕ) → x < 2 ^ hbits w → natAbs (toZ w x) ≡ x
+plain-is : (w : Width) (x : ℕ) → x < 2 ^ hbits w → natAbs (toZ w x) ≡ x
 plain-is w x h = rw (toZ-pos w h)
 
--- the pattern above the half, as all ones less what its inverse gives
-pub over : (w : Width) (x : ℕ) → x < 2 ^ hbits w → natAbs (toZ w x) ≤ 2 ^ bits w - 1
-over w x h = rw (plain-is w x h) (omega (arith, double w))
+module _ (w : Width) {z : ℤ} (f : SFits w z) where
+  abbrev x : ℕ
+  x = ofZ w z
 
-pub over-is : (w : Width) (x : ℕ) → Fits w x → leZ (pos 0) (toZ w x) ≡ false → (2 ^ bits w - 1) - natAbs (toZ w ((2 ^ bits w - 1) - x)) ≡ x
-over-is w x f t = ap (λ (y : ℕ). (2 ^ bits w - 1) - y) (plain-is w ((2 ^ bits w - 1) - x) (high-half w x f t)) ∙ not-not w x f
+  -- the inverted pattern
+  abbrev y : ℕ
+  y = (2 ^ bits w - 1) - x
+
+  module _ (t : leZ (pos 0) (toZ w x) ≡ true) where
+    low : x < 2 ^ hbits w
+    low = ltb-true x (2 ^ hbits w) (sym (sign-is w x (ltb x (2 ^ hbits w))) ∙ t)
+
+    pub low-cast : T (nonNeg (toZ w x)) × Fits w (natAbs (toZ w x))
+    low-cast = plain w x low
+
+    pub low-is : natAbs (toZ w x) ≡ x
+    low-is = plain-is w x low
+
+  module _ (t : leZ (pos 0) (toZ w x) ≡ false) where
+    high : y < 2 ^ hbits w
+    high =
+        let h = ltb-false x (2 ^ hbits w) (sym (sign-is w x (ltb x (2 ^ hbits w))) ∙ t) in
+        let g = fits-ofZ f .fits in
+        omega (arith, double w, pow-pos (hbits w))
+
+    pub high-cast : T (nonNeg (toZ w y)) × Fits w (natAbs (toZ w y))
+    high-cast = plain w y high
+
+    pub high-below : natAbs (toZ w y) ≤ 2 ^ bits w - 1
+    high-below = rw (plain-is w y high) (omega (arith, double w))
+
+    pub high-is : (2 ^ bits w - 1) - natAbs (toZ w y) ≡ x
+    high-is = rw (plain-is w y high) (not-not w x (fits-ofZ f))
 
 -- ---- the top bit
 
+-- the exclusive or with the half, by which half x is in
 top-by : (w : Width) (x : ℕ) → Fits w x → (t : Bool) → ltb x (2 ^ hbits w) ≡ t
     → bitXor x (2 ^ hbits w) ≡ cond t (x + 2 ^ hbits w) (x - 2 ^ hbits w)
 top-by w x f true e =
@@ -104,6 +123,7 @@ top-by w x f false e =
 pub half-fits : (w : Width) → Fits w (2 ^ hbits w)
 half-fits w = record { fits = omega (arith, double w, pow-pos (hbits w)) }
 
+-- the exclusive or with the half flips the top bit of the top byte
 pub flips : (w : Width) (x : ℕ) → Fits w x
     → reverse (lowBytes (bytes w) (bitXor x (2 ^ hbits w))) ≡ topFlipped (reverse (lowBytes (bytes w) x))
 flips w x f =
@@ -116,12 +136,13 @@ rest : (w : Width) (n : ℕ) → n < 2 ^ hbits w → bitAnd (2 ^ bits w - suc n)
 rest w n h =
     let d = double w in
     let e : 2 ^ bits w - suc n ≡ 1 * 2 ^ hbits w + (2 ^ hbits w - suc n) = omega arith in
-    and-mask (2 ^ bits w - suc n) (hbits w) ∙ ap (λ (x : ℕ). x % 2 ^ hbits w) e ∙ low 1 (hbits w) (omega arith)
+    and-mask (2 ^ bits w - suc n) (hbits w) ∙ ap (λ (x : ℕ). x % 2 ^ hbits w) e ∙ low-part 1 (hbits w) (omega arith)
 
--- the mask of the shift
+-- the mask that the shift gives: none or all of the bits below the top one
 abbrev mask : Width → ℤ → ℕ
 mask w z = bitAnd (ofZ w (shrZ z (2 ^ hbits w))) (2 ^ hbits w - 1)
 
+-- the exclusive or with the mask, by the sign of z
 masked : (w : Width) (z : ℤ) → SFits w z → bitXor (ofZ w z) (mask w z) ≡ invertRest (2 ^ hbits w) (ofZ w z)
 masked w (pos n) f =
     let h : n < 2 ^ hbits w = f .sfits in
@@ -133,9 +154,10 @@ masked w (negsuc n) f =
     rw (div-eq-of-lt h, rest w 0 (pow-pos (hbits w)), le-ltb (2 ^ bits w - suc n) P (omega arith))
     (omega (arith, xor-add-and (2 ^ bits w - suc n) (P - 1), rest w n h))
 
+-- the fold inverts the bits below the sign where it is set
 pub folds : (w : Width) (z : ℤ) → SFits w z
     → reverse (lowBytes (bytes w) (ofZ w (toZ w (bitXor (ofZ w z) (mask w (toZ w (ofZ w z))))))) ≡ restInverted (reverse (lowBytes (bytes w) (ofZ w z)))
 folds w z f =
-    let g : Fits w (bitXor (ofZ w z) (mask w z)) =
-    fits-xor (fits-ofZ f) (fits-and-r (ofZ w (shrZ z (2 ^ hbits w))) (record { fits = omega (arith, double w, pow-pos (hbits w)) })) in
+    let m : Fits w (2 ^ hbits w - 1) = record { fits = omega (arith, double w, pow-pos (hbits w)) } in
+    let g : Fits w (bitXor (ofZ w z) (mask w z)) = fits-xor (fits-ofZ f) (fits-and-r (ofZ w (shrZ z (2 ^ hbits w))) m) in
     rw (toZ-ofZ f, ofZ-toZ g, masked w z f, top-half w, whole w) (rest-inverted (below w) (ofZ w z) (rw (range w) at (fits-ofZ f .fits)))

@@ -1,8 +1,8 @@
 -- A number and its bytes, low byte first, over the count of bytes: there and back, and by halves. Assumes nothing.
-use Prim.Native.Nat.{ℕ, zero, suc, _+_, _-_, _*_, _/_, _%_, _^_, _≤_, _<_}
-use mathlib.Core.Path.{_≡_, refl, sym, ap, ap₂, _∙_, subst}
+use Prim.Native.Nat.{ℕ, zero, suc, _+_, _*_, _/_, _%_, _^_, _≤_, _<_}
+use mathlib.Core.Path.{_≡_, refl, sym, ap, ap₂, _∙_}
 use mathlib.Core.List.{List, [], _∷_, _++_, reverse, reverse-append}
-use native.Mathlib.Nat.{one-le-pow, mod-lt, mod-add-div, div-add-mod', div-lt-iff-lt-mul, pow-suc, pow-succ', add-zero, add-suc, suc-add, mul-comm}
+use native.Mathlib.Nat.{one-le-pow, mod-lt, mod-add-div, div-add-mod', div-lt-iff-lt-mul, pow-suc, pow-succ', add-zero, mul-comm}
 use native.Mathlib.Omega.{arith}
 use lib.Dec.{lit<}
 use lib.Pow.{pow-add}
@@ -10,6 +10,8 @@ use lib.Arith.{digits-div, digits-mod, lt-one}
 use lib.ListN.{length, getD, take, drop, set, length-append, length-drop}
 use lib.Seq.{sets, drop-cons, drop-drop, take-add, length-take-le}
 use Rattle.format.specs.Lists.{Bytes, low, lowBytes}
+
+-- ---- the bytes of a number
 
 pub powers : (n : ℕ) → 0 < 256 ^ n
 powers n = one-le-pow n 256 (lit< tt)
@@ -53,11 +55,12 @@ pub low-append : (a b : List ℕ) → low (a ++ b) ≡ low a + 256 ^ length a * 
 low-append [] b = omega arith
 low-append (x ∷ a) b = rw (low-append a b) (rw (pow-succ' 256 (length a)) (omega arith))
 
-sets-append : (a b l : List ℕ) (i : ℕ) → sets l i (a ++ b) ≡ sets (sets l i a) (i + length a) b
+pub sets-append : (a b l : List ℕ) (i : ℕ) → sets l i (a ++ b) ≡ sets (sets l i a) (i + length a) b
 sets-append [] b l i = ap (λ (k : ℕ). sets l k b) (sym (add-zero i))
 sets-append (x ∷ a) b l i = sets-append a b (set l i x) (suc i) ∙ ap (λ (k : ℕ). sets (sets (set l i x) (suc i) a) k b) (omega arith)
 
 module _ (m n : ℕ) where
+  -- two halves joined
   pub join : (lo hi : ℕ) → lo < 256 ^ m → hi < 256 ^ n → lowBytes (m + n) (lo + 256 ^ m * hi) ≡ lowBytes m lo ++ lowBytes n hi
   join lo hi p q =
       spelled (m + n) (lo + 256 ^ m * hi) (lowBytes m lo ++ lowBytes n hi)
@@ -66,6 +69,7 @@ module _ (m n : ℕ) where
       (sym (low-append (lowBytes m lo) (lowBytes n hi)
       ∙ rw (length-lowBytes m lo) (ap₂ (λ (y z : ℕ). y + 256 ^ m * z) (low-lowBytes m lo p) (low-lowBytes n hi q))))
 
+  -- and taken apart
   pub halves : (x : ℕ) → x < 256 ^ (m + n) → lowBytes (m + n) x ≡ lowBytes m (x % 256 ^ m) ++ lowBytes n (x / 256 ^ m)
   halves x h =
       ap (lowBytes (m + n)) (sym (mod-add-div x (256 ^ m)))
@@ -73,11 +77,11 @@ module _ (m n : ℕ) where
       (div-lt-iff-lt-mul (powers m) .1 (rw (pow-add 256 m n, mul-comm (256 ^ m) (256 ^ n)) at h))
 
   -- read by halves
-  pub read : (l : List ℕ) (at lo hi : ℕ) → at + m ≤ length l → lo ≡ low (take m (drop at l)) → hi ≡ low (take n (drop (at + m) l))
-      → lo + 256 ^ m * hi ≡ low (take (m + n) (drop at l))
-  read l at lo hi h p q =
+  pub read : (l : List ℕ) (at x lo hi : ℕ) → at + m ≤ length l → x ≡ lo + 256 ^ m * hi
+      → lo ≡ low (take m (drop at l)) → hi ≡ low (take n (drop (at + m) l)) → x ≡ low (take (m + n) (drop at l))
+  read l at x lo hi h e p q =
       let k : length (take m (drop at l)) ≡ m = length-take-le m (drop at l) (rw (length-drop at l) (omega arith)) in
-      sym (ap low (take-add m n (drop at l)) ∙ low-append (take m (drop at l)) (take n (drop m (drop at l)))
+      e ∙ sym (ap low (take-add m n (drop at l)) ∙ low-append (take m (drop at l)) (take n (drop m (drop at l)))
       ∙ rw (k, drop-drop, ← p, ← q))
 
   -- stored by halves
@@ -88,14 +92,38 @@ module _ (m n : ℕ) where
       ∙ sym (ap (sets l at) (halves x h) ∙ sets-append (lowBytes m (x % 256 ^ m)) (lowBytes n (x / 256 ^ m)) l at
       ∙ rw (length-lowBytes m (x % 256 ^ m)))
 
+-- the bytes turned round: each half is, and they change places
+pub swapped : (m x y lo hi : ℕ) → x < 256 ^ (m + m) → lo < 256 ^ m → hi < 256 ^ m → y ≡ lo + 256 ^ m * hi
+    → lowBytes m lo ≡ reverse (lowBytes m (x / 256 ^ m)) → lowBytes m hi ≡ reverse (lowBytes m (x % 256 ^ m))
+    → lowBytes (m + m) y ≡ reverse (lowBytes (m + m) x)
+swapped m x y lo hi h p q e f g =
+    ap (lowBytes (m + m)) e ∙ join m m lo hi p q ∙ ap₂ (λ (a b : List ℕ). a ++ b) f g
+    ∙ sym (ap reverse (halves m m x h) ∙ reverse-append (lowBytes m (x % 256 ^ m)) (lowBytes m (x / 256 ^ m)))
+
+-- ---- bytes of a slice
+
 -- one byte, as what is read
 pub byte : (l : List ℕ) (at : ℕ) → at < length l → getD l at 0 ≡ low (take 1 (drop at l))
 byte l at h = rw (drop-cons l at 0 h) (omega arith)
 
--- the bytes turned round: each half is, and they change places
-pub swapped : (m x lo hi : ℕ) → x < 256 ^ (m + m) → lo < 256 ^ m → hi < 256 ^ m
-    → lowBytes m lo ≡ reverse (lowBytes m (x / 256 ^ m)) → lowBytes m hi ≡ reverse (lowBytes m (x % 256 ^ m))
-    → lowBytes (m + m) (lo + 256 ^ m * hi) ≡ reverse (lowBytes (m + m) x)
-swapped m x lo hi h p q e f =
-    join m m lo hi p q ∙ ap₂ (λ (a b : List ℕ). a ++ b) e f
-    ∙ sym (ap reverse (halves m m x h) ∙ reverse-append (lowBytes m (x % 256 ^ m)) (lowBytes m (x / 256 ^ m)))
+-- what a slice's proof knows of each element
+pub bytes-of : (b : List ℕ) → ((i : ℕ) → getD b i 0 < 256) → Bytes b
+bytes-of [] h = tt
+bytes-of (x ∷ b) h = (h 0, bytes-of b (λ i. h (suc i)))
+
+pub bytes-take : (n : ℕ) (b : List ℕ) → Bytes b → Bytes (take n b)
+bytes-take zero b h = tt
+bytes-take (suc n) [] h = tt
+bytes-take (suc n) (x ∷ b) h = (h .0, bytes-take n b (h .1))
+
+pub bytes-drop : (n : ℕ) (b : List ℕ) → Bytes b → Bytes (drop n b)
+bytes-drop zero b h = h
+bytes-drop (suc n) [] h = tt
+bytes-drop (suc n) (x ∷ b) h = bytes-drop n b (h .1)
+
+-- the bytes of a number that was read are those that stand at its place
+pub read-back : (n : ℕ) (l : List ℕ) (at x : ℕ) → ((i : ℕ) → getD l i 0 < 256) → at + n ≤ length l → x ≡ low (take n (drop at l))
+    → lowBytes n x ≡ take n (drop at l)
+read-back n l at x b h e =
+    spelled n x (take n (drop at l)) (bytes-take n (drop at l) (bytes-drop at l (bytes-of l b)))
+    (length-take-le n (drop at l) (rw (length-drop at l) (omega arith))) e

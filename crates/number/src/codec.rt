@@ -10,44 +10,32 @@ ghost use mir.Val.{ofZ};
 ghost use Rattle.format.specs.Lists.{lowBytes};
 ghost use Rattle.format.specs.Key.{unsignedKey, signedKey, signedUnkey, floatKey, floatUnkey};
 ghost use Rattle.format.specs.Field.{directed};
-use crate::sign::fold16;
-use crate::sign::fold32;
-use crate::sign::fold64;
-use crate::sign::pattern8;
-use crate::sign::pattern16;
-use crate::sign::pattern32;
-use crate::sign::pattern64;
-use crate::sign::signed8;
-use crate::sign::signed16;
-use crate::sign::signed32;
-use crate::sign::signed64;
-use crate::word::join16;
-use crate::word::join32;
-use crate::word::join64;
+use crate::sign;
+use crate::word;
 
-// The bytes turned round: the halves are, and change places. The optimiser makes one byte swap of it.
+// The bytes turned round: each half is, and they change places. The optimiser makes one byte swap of it.
 fn swap16(x: u16) -> u16
     ensures { λ r. ⌜ lowBytes 2 r ≡ reverse (lowBytes 2 x) ⌝ }
 {
-    join16((x / 256) as u8, (x % 256) as u8)
+    word::join16((x / 256) as u8, (x % 256) as u8)
 }
 
 fn swap32(x: u32) -> u32
     ensures { λ r. ⌜ lowBytes 4 r ≡ reverse (lowBytes 4 x) ⌝ }
 {
-    join32(swap16((x / 65536) as u16), swap16((x % 65536) as u16))
+    word::join32(swap16((x / 65536) as u16), swap16((x % 65536) as u16))
 }
 
 fn swap64(x: u64) -> u64
     ensures { λ r. ⌜ lowBytes 8 r ≡ reverse (lowBytes 8 x) ⌝ }
 {
-    join64(
+    word::join64(
         swap32((x / 4294967296) as u32),
         swap32((x % 4294967296) as u32),
     )
 }
 
-// Unsigned: high byte first.
+// Unsigned numbers, and back: high byte first.
 pub fn encode_u8(x: u8) -> u8
     ensures { λ r. ⌜ lowBytes 1 r ≡ unsignedKey (lowBytes 1 x) ⌝ }
 {
@@ -96,93 +84,93 @@ pub fn decode_u64(x: u64) -> u64
     swap64(x)
 }
 
-// Signed: the same, top bit flipped.
+// Signed numbers, and back: the same, top bit flipped.
 pub fn encode_i8(s: i8) -> u8
     ensures { λ r. ⌜ lowBytes 1 r ≡ signedKey (lowBytes 1 (ofZ w8 s)) ⌝ }
 {
-    encode_u8(pattern8(s) ^ 128)
+    encode_u8(sign::pattern8(s) ^ 128)
 }
 
 pub fn encode_i16(s: i16) -> u16
     ensures { λ r. ⌜ lowBytes 2 r ≡ signedKey (lowBytes 2 (ofZ w16 s)) ⌝ }
 {
-    encode_u16(pattern16(s) ^ 32768)
+    encode_u16(sign::pattern16(s) ^ 32768)
 }
 
 pub fn encode_i32(s: i32) -> u32
     ensures { λ r. ⌜ lowBytes 4 r ≡ signedKey (lowBytes 4 (ofZ w32 s)) ⌝ }
 {
-    encode_u32(pattern32(s) ^ 2147483648)
+    encode_u32(sign::pattern32(s) ^ 2147483648)
 }
 
 pub fn encode_i64(s: i64) -> u64
     ensures { λ r. ⌜ lowBytes 8 r ≡ signedKey (lowBytes 8 (ofZ w64 s)) ⌝ }
 {
-    encode_u64(pattern64(s) ^ 9223372036854775808)
+    encode_u64(sign::pattern64(s) ^ 9223372036854775808)
 }
 
 pub fn decode_i8(x: u8) -> i8
     ensures { λ r. ⌜ lowBytes 1 (ofZ w8 r) ≡ signedUnkey (lowBytes 1 x) ⌝ }
 {
-    signed8(decode_u8(x) ^ 128)
+    sign::signed8(decode_u8(x) ^ 128)
 }
 
 pub fn decode_i16(x: u16) -> i16
     ensures { λ r. ⌜ lowBytes 2 (ofZ w16 r) ≡ signedUnkey (lowBytes 2 x) ⌝ }
 {
-    signed16(decode_u16(x) ^ 32768)
+    sign::signed16(decode_u16(x) ^ 32768)
 }
 
 pub fn decode_i32(x: u32) -> i32
     ensures { λ r. ⌜ lowBytes 4 (ofZ w32 r) ≡ signedUnkey (lowBytes 4 x) ⌝ }
 {
-    signed32(decode_u32(x) ^ 2147483648)
+    sign::signed32(decode_u32(x) ^ 2147483648)
 }
 
 pub fn decode_i64(x: u64) -> i64
     ensures { λ r. ⌜ lowBytes 8 (ofZ w64 r) ≡ signedUnkey (lowBytes 8 x) ⌝ }
 {
-    signed64(decode_u64(x) ^ 9223372036854775808)
+    sign::signed64(decode_u64(x) ^ 9223372036854775808)
 }
 
-// Floats, as their bits: folded, then as signed.
+// Floats as their bits, and back: folded, then as signed.
 pub fn encode_f16(x: u16) -> u16
     ensures { λ r. ⌜ lowBytes 2 r ≡ floatKey (lowBytes 2 x) ⌝ }
 {
-    encode_i16(fold16(signed16(x)))
+    encode_i16(sign::fold16(sign::signed16(x)))
 }
 
 pub fn encode_f32(x: u32) -> u32
     ensures { λ r. ⌜ lowBytes 4 r ≡ floatKey (lowBytes 4 x) ⌝ }
 {
-    encode_i32(fold32(signed32(x)))
+    encode_i32(sign::fold32(sign::signed32(x)))
 }
 
 pub fn encode_f64(x: u64) -> u64
     ensures { λ r. ⌜ lowBytes 8 r ≡ floatKey (lowBytes 8 x) ⌝ }
 {
-    encode_i64(fold64(signed64(x)))
+    encode_i64(sign::fold64(sign::signed64(x)))
 }
 
 pub fn decode_f16(x: u16) -> u16
     ensures { λ r. ⌜ lowBytes 2 r ≡ floatUnkey (lowBytes 2 x) ⌝ }
 {
-    pattern16(fold16(decode_i16(x)))
+    sign::pattern16(sign::fold16(decode_i16(x)))
 }
 
 pub fn decode_f32(x: u32) -> u32
     ensures { λ r. ⌜ lowBytes 4 r ≡ floatUnkey (lowBytes 4 x) ⌝ }
 {
-    pattern32(fold32(decode_i32(x)))
+    sign::pattern32(sign::fold32(decode_i32(x)))
 }
 
 pub fn decode_f64(x: u64) -> u64
     ensures { λ r. ⌜ lowBytes 8 r ≡ floatUnkey (lowBytes 8 x) ⌝ }
 {
-    pattern64(fold64(decode_i64(x)))
+    sign::pattern64(sign::fold64(decode_i64(x)))
 }
 
-// Descending inverts every byte; it undoes itself.
+// Descending inverts every byte, of a number's word as of its bytes; a second time undoes it.
 pub fn directed8(descending: bool, x: u8) -> u8
     ensures { λ r. ⌜ lowBytes 1 r ≡ directed descending (lowBytes 1 x) ⌝ }
 {

@@ -1,5 +1,5 @@
 -- `number::codec::decode_f16` meets its contract: the law of the width. Assumes nothing.
-use borrow.Author.Needs.{needs, sfits-of}
+use borrow.Author.Needs.{needs}
 use mir.Syntax.{w16}
 use Rattle.number.proofs.Codecs.{decode-f}
 use Rattle.number.proofs.codec.decode_f16.Statement.{statement}
@@ -8,8 +8,8 @@ use Rattle.number.proofs.codec.decode_f16.Tie as tie
 pub decode-f16-spec : {M : Type 1} → statement M
 decode-f16-spec =
     tie.close
-    (tie.spec
-    (λ c κs. search needs)
-    (λ c κs. search needs)
-    (λ c κs. search needs)
-    (λ c. let first = c .before .before .decode-i16 in decode-f w16 (c .before .before .before .args .x) _ (first .result) (c .before .fold16 .result) (sfits-of (first .ok)) (sfits-of (c .before .fold16 .ok)) (first .ensures) (c .before .fold16 .ensures) (c .pattern16 .ensures)))
+    (tie.spec (λ c κs. search needs) (λ c κs. search needs) (λ c κs. search needs)
+    (λ c.
+    let first = c .before .before .decode-i16 in
+    let fold = c .before .fold16 in
+    decode-f w16 (c .before .before .before .args .x) _ (first .result) (fold .result) (first .ok) (fold .ok) (first .ensures) (fold .ensures) (c .pattern16 .ensures)))

@@ -1,5 +1,5 @@
 -- `number::codec::decode_f32` meets its contract: the law of the width. Assumes nothing.
-use borrow.Author.Needs.{needs, sfits-of}
+use borrow.Author.Needs.{needs}
 use mir.Syntax.{w32}
 use Rattle.number.proofs.Codecs.{decode-f}
 use Rattle.number.proofs.codec.decode_f32.Statement.{statement}
@@ -8,8 +8,8 @@ use Rattle.number.proofs.codec.decode_f32.Tie as tie
 pub decode-f32-spec : {M : Type 1} → statement M
 decode-f32-spec =
     tie.close
-    (tie.spec
-    (λ c κs. search needs)
-    (λ c κs. search needs)
-    (λ c κs. search needs)
-    (λ c. let first = c .before .before .decode-i32 in decode-f w32 (c .before .before .before .args .x) _ (first .result) (c .before .fold32 .result) (sfits-of (first .ok)) (sfits-of (c .before .fold32 .ok)) (first .ensures) (c .before .fold32 .ensures) (c .pattern32 .ensures)))
+    (tie.spec (λ c κs. search needs) (λ c κs. search needs) (λ c κs. search needs)
+    (λ c.
+    let first = c .before .before .decode-i32 in
+    let fold = c .before .fold32 in
+    decode-f w32 (c .before .before .before .args .x) _ (first .result) (fold .result) (first .ok) (fold .ok) (first .ensures) (fold .ensures) (c .pattern32 .ensures)))

@@ -1,5 +1,5 @@
 -- `number::codec::decode_f64` meets its contract: the law of the width. Assumes nothing.
-use borrow.Author.Needs.{needs, sfits-of}
+use borrow.Author.Needs.{needs}
 use mir.Syntax.{w64}
 use Rattle.number.proofs.Codecs.{decode-f}
 use Rattle.number.proofs.codec.decode_f64.Statement.{statement}
@@ -8,8 +8,8 @@ use Rattle.number.proofs.codec.decode_f64.Tie as tie
 pub decode-f64-spec : {M : Type 1} → statement M
 decode-f64-spec =
     tie.close
-    (tie.spec
-    (λ c κs. search needs)
-    (λ c κs. search needs)
-    (λ c κs. search needs)
-    (λ c. let first = c .before .before .decode-i64 in decode-f w64 (c .before .before .before .args .x) _ (first .result) (c .before .fold64 .result) (sfits-of (first .ok)) (sfits-of (c .before .fold64 .ok)) (first .ensures) (c .before .fold64 .ensures) (c .pattern64 .ensures)))
+    (tie.spec (λ c κs. search needs) (λ c κs. search needs) (λ c κs. search needs)
+    (λ c.
+    let first = c .before .before .decode-i64 in
+    let fold = c .before .fold64 in
+    decode-f w64 (c .before .before .before .args .x) _ (first .result) (fold .result) (first .ok) (fold .ok) (first .ensures) (fold .ensures) (c .pattern64 .ensures)))

@@ -8,7 +8,5 @@ use Rattle.number.proofs.codec.decode_i16.Tie as tie
 pub decode-i16-spec : {M : Type 1} → statement M
 decode-i16-spec =
     tie.close
-    (tie.spec
-    (λ c κs. search needs)
-    (λ c κs. search needs)
+    (tie.spec (λ c κs. search needs) (λ c κs. search needs)
     (λ c. decode-i w16 (c .before .before .args .x) _ _ (c .before .decode-u16 .ok) (c .before .decode-u16 .ensures) (c .signed16 .ensures)))

@@ -8,7 +8,5 @@ use Rattle.number.proofs.codec.decode_i32.Tie as tie
 pub decode-i32-spec : {M : Type 1} → statement M
 decode-i32-spec =
     tie.close
-    (tie.spec
-    (λ c κs. search needs)
-    (λ c κs. search needs)
+    (tie.spec (λ c κs. search needs) (λ c κs. search needs)
     (λ c. decode-i w32 (c .before .before .args .x) _ _ (c .before .decode-u32 .ok) (c .before .decode-u32 .ensures) (c .signed32 .ensures)))

@@ -8,7 +8,5 @@ use Rattle.number.proofs.codec.decode_i8.Tie as tie
 pub decode-i8-spec : {M : Type 1} → statement M
 decode-i8-spec =
     tie.close
-    (tie.spec
-    (λ c κs. search needs)
-    (λ c κs. search needs)
+    (tie.spec (λ c κs. search needs) (λ c κs. search needs)
     (λ c. decode-i w8 (c .before .before .args .x) _ _ (c .before .decode-u8 .ok) (c .before .decode-u8 .ensures) (c .signed8 .ensures)))

@@ -7,7 +7,6 @@ use Rattle.number.proofs.codec.directed32.Tie as tie
 pub directed32-spec : {M : Type 1} → statement M
 directed32-spec =
     tie.close
-    (tie.spec
-    (λ c. search needs)
+    (tie.spec (λ c. search needs)
     (λ c. rw (c .if1 .taken) (invert-all 4 (c .before .args .x) (c .before .fits .x .fits)))
     (λ c. rw (c .if1 .left)))

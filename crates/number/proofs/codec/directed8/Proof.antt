@@ -7,7 +7,6 @@ use Rattle.number.proofs.codec.directed8.Tie as tie
 pub directed8-spec : {M : Type 1} → statement M
 directed8-spec =
     tie.close
-    (tie.spec
-    (λ c. search needs)
+    (tie.spec (λ c. search needs)
     (λ c. rw (c .if1 .taken) (invert-all 1 (c .before .args .x) (c .before .fits .x .fits)))
     (λ c. rw (c .if1 .left)))

@@ -1,5 +1,5 @@
 -- `number::codec::encode_f64` meets its contract: the law of the width. Assumes nothing.
-use borrow.Author.Needs.{needs, sfits-of}
+use borrow.Author.Needs.{needs}
 use mir.Syntax.{w64}
 use Rattle.number.proofs.Codecs.{encode-f}
 use Rattle.number.proofs.codec.encode_f64.Statement.{statement}
@@ -8,8 +8,8 @@ use Rattle.number.proofs.codec.encode_f64.Tie as tie
 pub encode-f64-spec : {M : Type 1} → statement M
 encode-f64-spec =
     tie.close
-    (tie.spec
-    (λ c κs. search needs)
-    (λ c κs. search needs)
-    (λ c κs. search needs)
-    (λ c. let start = c .before .before .before in encode-f w64 (start .args .x) _ _ (c .before .fold64 .result) (start .fits .x) (sfits-of (c .before .fold64 .ok)) (c .before .before .signed64 .ensures) (c .before .fold64 .ensures) (c .encode-i64 .ensures)))
+    (tie.spec (λ c κs. search needs) (λ c κs. search needs) (λ c κs. search needs)
+    (λ c.
+    let start = c .before .before .before in
+    let fold = c .before .fold64 in
+    encode-f w64 (start .args .x) _ _ (fold .result) (start .fits .x) (fold .ok) (c .before .before .signed64 .ensures) (fold .ensures) (c .encode-i64 .ensures)))

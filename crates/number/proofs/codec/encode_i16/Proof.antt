@@ -8,7 +8,5 @@ use Rattle.number.proofs.codec.encode_i16.Tie as tie
 pub encode-i16-spec : {M : Type 1} → statement M
 encode-i16-spec =
     tie.close
-    (tie.spec
-    (λ c κs. search needs)
-    (λ c κs. search needs)
+    (tie.spec (λ c κs. search needs) (λ c κs. search needs)
     (λ c. encode-i w16 (c .before .before .args .s) _ _ (c .before .before .fits .s) (c .before .pattern16 .ensures) (c .encode-u16 .ensures)))

@@ -1,8 +1,7 @@
 -- `number::codec::swap16` meets its contract: the bytes are the halves. Assumes nothing.
-use mathlib.Core.Path.{refl, ap, _∙_}
+use mathlib.Core.Path.{refl}
 use borrow.Author.Needs.{needs}
 use native.Mathlib.Omega.{arith}
-use Rattle.format.specs.Lists.{lowBytes}
 use Rattle.number.proofs.Words.{swapped}
 use Rattle.number.proofs.codec.swap16.Statement.{statement}
 use Rattle.number.proofs.codec.swap16.Tie as tie
@@ -10,8 +9,5 @@ use Rattle.number.proofs.codec.swap16.Tie as tie
 pub swap16-spec : {M : Type 1} → statement M
 swap16-spec =
     tie.close
-    (tie.spec
-    (λ c. search needs)
-    (λ c. search needs)
-    (λ c κs. search needs)
-    (λ c. ap (lowBytes 2) (c .join16 .ensures) ∙ swapped 1 (c .before .args .x) _ _ (c .before .fits .x .fits) (omega arith) (omega arith) refl refl))
+    (tie.spec (λ c. search needs) (λ c. search needs) (λ c κs. search needs)
+    (λ c. swapped 1 (c .before .args .x) _ _ _ (c .before .fits .x .fits) (omega arith) (omega arith) (c .join16 .ensures) refl refl))

@@ -1,8 +1,6 @@
 -- `number::codec::swap64` meets its contract: by halves. Assumes nothing.
-use mathlib.Core.Path.{ap, _∙_}
 use borrow.Author.Needs.{needs}
 use native.Mathlib.Omega.{arith}
-use Rattle.format.specs.Lists.{lowBytes}
 use Rattle.number.proofs.Words.{swapped}
 use Rattle.number.proofs.codec.swap64.Statement.{statement}
 use Rattle.number.proofs.codec.swap64.Tie as tie
@@ -10,10 +8,7 @@ use Rattle.number.proofs.codec.swap64.Tie as tie
 pub swap64-spec : {M : Type 1} → statement M
 swap64-spec =
     tie.close
-    (tie.spec
-    (λ c. search needs)
-    (λ c κs. search needs)
-    (λ c. search needs)
-    (λ c κs. search needs)
-    (λ c κs. search needs)
-    (λ c. let first = c .before .before in ap (lowBytes 8) (c .join64 .ensures) ∙ swapped 4 (first .before .args .x) _ _ (first .before .fits .x .fits) (omega arith) (omega arith) (first .swap32 .ensures) (c .before .swap322 .ensures)))
+    (tie.spec (λ c. search needs) (λ c κs. search needs) (λ c. search needs) (λ c κs. search needs) (λ c κs. search needs)
+    (λ c.
+    let first = c .before .before in
+    swapped 4 (first .before .args .x) _ _ _ (first .before .fits .x .fits) (omega arith) (omega arith) (c .join64 .ensures) (first .swap32 .ensures) (c .before .swap322 .ensures)))

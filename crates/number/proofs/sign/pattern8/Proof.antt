@@ -1,8 +1,6 @@
 -- `number::sign::pattern8` meets its contract: by the sign. Assumes nothing.
 use mir.Syntax.{w8}
-use mir.Val.{ofZ}
-use mir.Facts.{fits-ofZ}
-use Rattle.number.proofs.Signed.{low-half, high-half, plain, plain-is, over, over-is}
+use Rattle.number.proofs.Signed.{low-cast, low-is, high-cast, high-below, high-is}
 use Rattle.number.proofs.sign.pattern8.Statement.{statement}
 use Rattle.number.proofs.sign.pattern8.Tie as tie
 
@@ -10,8 +8,8 @@ pub pattern8-spec : {M : Type 1} → statement M
 pattern8-spec =
     tie.close
     (tie.spec
-    (λ c. plain w8 (ofZ w8 (c .before .args .s)) (low-half w8 _ (c .if1 .taken)))
-    (λ c. plain w8 _ (high-half w8 _ (fits-ofZ (c .before .fits .s)) (c .if1 .left)))
-    (λ c. over w8 _ (high-half w8 _ (fits-ofZ (c .before .fits .s)) (c .if1 .left)))
-    (λ c. plain-is w8 _ (low-half w8 _ (c .if1 .taken)))
-    (λ c. over-is w8 _ (fits-ofZ (c .before .fits .s)) (c .if1 .left)))
+    (λ c. low-cast w8 (c .before .fits .s) (c .if1 .taken))
+    (λ c. high-cast w8 (c .before .fits .s) (c .if1 .left))
+    (λ c. high-below w8 (c .before .fits .s) (c .if1 .left))
+    (λ c. low-is w8 (c .before .fits .s) (c .if1 .taken))
+    (λ c. high-is w8 (c .before .fits .s) (c .if1 .left)))

@@ -10,9 +10,5 @@ use Rattle.number.proofs.sign.signed16.Tie as tie
 pub signed16-spec : {M : Type 1} → statement M
 signed16-spec =
     tie.close
-    (tie.spec
-    (λ c. search needs)
-    (λ c. search needs)
-    (λ c. search needs)
-    (λ c. search needs)
+    (tie.spec (λ c. search needs) (λ c. search needs) (λ c. search needs) (λ c. search needs)
     (λ c. ap (toZ w16) (not-not w16 _ (c .before .fits .x))))

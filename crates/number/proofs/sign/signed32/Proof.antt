@@ -10,9 +10,5 @@ use Rattle.number.proofs.sign.signed32.Tie as tie
 pub signed32-spec : {M : Type 1} → statement M
 signed32-spec =
     tie.close
-    (tie.spec
-    (λ c. search needs)
-    (λ c. search needs)
-    (λ c. search needs)
-    (λ c. search needs)
+    (tie.spec (λ c. search needs) (λ c. search needs) (λ c. search needs) (λ c. search needs)
     (λ c. ap (toZ w32) (not-not w32 _ (c .before .fits .x))))

@@ -10,9 +10,5 @@ use Rattle.number.proofs.sign.signed64.Tie as tie
 pub signed64-spec : {M : Type 1} → statement M
 signed64-spec =
     tie.close
-    (tie.spec
-    (λ c. search needs)
-    (λ c. search needs)
-    (λ c. search needs)
-    (λ c. search needs)
+    (tie.spec (λ c. search needs) (λ c. search needs) (λ c. search needs) (λ c. search needs)
     (λ c. ap (toZ w64) (not-not w64 _ (c .before .fits .x))))

@@ -10,9 +10,5 @@ use Rattle.number.proofs.sign.signed8.Tie as tie
 pub signed8-spec : {M : Type 1} → statement M
 signed8-spec =
     tie.close
-    (tie.spec
-    (λ c. search needs)
-    (λ c. search needs)
-    (λ c. search needs)
-    (λ c. search needs)
+    (tie.spec (λ c. search needs) (λ c. search needs) (λ c. search needs) (λ c. search needs)
     (λ c. ap (toZ w8) (not-not w8 _ (c .before .fits .x))))

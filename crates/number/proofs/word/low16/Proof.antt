@@ -1,5 +1,4 @@
 -- `number::word::low16` meets its contract: the two bytes are the halves. Assumes nothing.
-use mathlib.Core.Path.{_∙_}
 use borrow.Author.Needs.{needs}
 use native.Mathlib.Omega.{arith}
 use Rattle.number.proofs.Words.{read, byte}
@@ -8,8 +7,9 @@ use Rattle.number.proofs.word.low16.Tie as tie
 
 returns : tie.Need-returns
 returns c =
-    let A = c .before .before .before .before .args in
-    c .join16 .ensures ∙ read 1 1 (A .s .now) (A .at) _ _ (omega arith) (byte (A .s .now) (A .at) (omega arith)) (byte (A .s .now) _ (omega arith))
+    let start = c .before .before .before .before in
+    let s = start .args .s .now in
+    read 1 1 s (start .args .at) _ _ _ (omega arith) (c .join16 .ensures) (byte s (start .args .at) (omega arith)) (byte s _ (omega arith))
 
 pub low16-spec : {M : Type 1} → statement M
 low16-spec =

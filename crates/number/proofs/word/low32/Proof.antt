@@ -1,5 +1,4 @@
 -- `number::word::low32` meets its contract: what the two calls read are the halves. Assumes nothing.
-use mathlib.Core.Path.{_∙_}
 use borrow.Author.Needs.{needs}
 use native.Mathlib.Omega.{arith}
 use Rattle.number.proofs.Words.{read}
@@ -8,8 +7,8 @@ use Rattle.number.proofs.word.low32.Tie as tie
 
 returns : tie.Need-returns
 returns c =
-    let A = c .before .before .before .before .args in
-    c .join32 .ensures ∙ read 2 2 (A .s .now) (A .at) _ _ (omega arith) (c .before .before .low16 .ensures) (c .before .low162 .ensures)
+    let start = c .before .before .before .before in
+    read 2 2 (start .args .s .now) (start .args .at) _ _ _ (omega arith) (c .join32 .ensures) (c .before .before .low16 .ensures) (c .before .low162 .ensures)
 
 pub low32-spec : {M : Type 1} → statement M
 low32-spec =

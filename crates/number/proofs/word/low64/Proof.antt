@@ -1,5 +1,4 @@
 -- `number::word::low64` meets its contract: what the two calls read are the halves. Assumes nothing.
-use mathlib.Core.Path.{_∙_}
 use borrow.Author.Needs.{needs}
 use native.Mathlib.Omega.{arith}
 use Rattle.number.proofs.Words.{read}
@@ -8,8 +7,8 @@ use Rattle.number.proofs.word.low64.Tie as tie
 
 returns : tie.Need-returns
 returns c =
-    let A = c .before .before .before .before .args in
-    c .join64 .ensures ∙ read 4 4 (A .s .now) (A .at) _ _ (omega arith) (c .before .before .low32 .ensures) (c .before .low322 .ensures)
+    let start = c .before .before .before .before in
+    read 4 4 (start .args .s .now) (start .args .at) _ _ _ (omega arith) (c .join64 .ensures) (c .before .before .low32 .ensures) (c .before .low322 .ensures)
 
 pub low64-spec : {M : Type 1} → statement M
 low64-spec =

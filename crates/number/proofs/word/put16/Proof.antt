@@ -9,11 +9,7 @@ use Rattle.number.proofs.word.put16.Tie as tie
 pub put16-spec : {M : Type 1} → statement M
 put16-spec =
     tie.close
-    (tie.spec
-    (λ c. search needs)
-    (λ c. search needs)
-    (λ c. search needs)
-    (λ c. search needs)
+    (tie.spec (λ c. search needs) (λ c. search needs) (λ c. search needs) (λ c. search needs)
     (λ c. simp length-set (omega arith))
     (λ c. simp length-set)
     (λ c. rw add-one))
