@@ -9,9 +9,9 @@ ghost use Rattle.format.specs.Lists.{endsFrom, joined, lowBytes};
 ghost use Rattle.format.specs.Cleared.{variableSlot};
 ghost use Rattle.format.specs.Read.{readVariable, slotRead};
 ghost use Rattle.sheet_writer.specs.Cursors.{ended, Readable, slotAt, nextAt};
-use crate::standin::{decode_blocks, read};
 use format::{FieldRead, SortOptions};
 use number::put32;
+use variable::{decode_blocks, read};
 
 // How many bytes the value in front of a row has; null has none.
 fn value_length(row: &[u8], options: SortOptions) -> usize
