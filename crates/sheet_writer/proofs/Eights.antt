@@ -30,11 +30,11 @@ module _ (f : ℕ → Bool) (xs : List ℕ) (k : ℕ) (h : k < length xs) where
   -- one more
   pub byte-more : byteOf (map f (take k xs)) + cond (f (getD xs k 0)) (2 ^ k) 0 ≡ byteOf (map f (take (k + 1) xs))
   byte-more = sym (
-    ap (λ (l : List ℕ). byteOf (map f l)) (ap (λ (m : ℕ). take m xs) (add-one k) ∙ take-suc xs k 0 h)
-    ∙ ap byteOf (map-append f (take k xs) (getD xs k 0 ∷ []))
-    ∙ byte-last (map f (take k xs)) (f (getD xs k 0))
-    ∙ ap (λ (m : ℕ). byteOf (map f (take k xs)) + cond (f (getD xs k 0)) (2 ^ m) 0) count
-  )
+      ap (λ (l : List ℕ). byteOf (map f l)) (ap (λ (m : ℕ). take m xs) (add-one k) ∙ take-suc xs k 0 h)
+      ∙ ap byteOf (map-append f (take k xs) (getD xs k 0 ∷ []))
+      ∙ byte-last (map f (take k xs)) (f (getD xs k 0))
+      ∙ ap (λ (m : ℕ). byteOf (map f (take k xs)) + cond (f (getD xs k 0)) (2 ^ m) 0) count
+      )
 
 -- ---- all bytes
 

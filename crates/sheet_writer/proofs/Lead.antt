@@ -51,7 +51,7 @@ lead-is (fixed k) o (some v) t = sym (ap not (not-null o 1 (omega arith) (omega 
 lead-is variable o (some v) t =
     let l : Led (directed (o .descending) (variableBytes v)) = led-variable (o .descending) v in
     sym (ap not (
-      ap (λ (f : List ℕ). eqb (getD (f ++ t) 0 0) (nullByte o)) (l .splits) ∙ not-null o (l .lead) (l .above) (l .below)
+    ap (λ (f : List ℕ). eqb (getD (f ++ t) 0 0) (nullByte o)) (l .splits) ∙ not-null o (l .lead) (l .above) (l .below)
     ))
 
 -- there is one

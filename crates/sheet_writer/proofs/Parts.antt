@@ -75,7 +75,7 @@ module _ (col : Column) (rows cursors : List ℕ) where
 
     pub ended-values : values
         ≡ joined (map (lowBytes 4) (endsFrom 0 (map variableSlot (map (slotAt (ended (col .options)) rows) cursors))))
-          ++ joined (map variableSlot (map (slotAt (ended (col .options)) rows) cursors))
+        ++ joined (map variableSlot (map (slotAt (ended (col .options)) rows) cursors))
     ended-values = ap (λ (c : Column). clearedValues (layout c) (length cursors) (map (slotAt c rows) cursors)) ended-is
 
     pub ended-readable : Readable col rows cursors → Readable (ended (col .options)) rows cursors

@@ -109,7 +109,7 @@ module _ (cols : List Column) (rows offsets : List ℕ) (b : Bytes rows) where
 
   rows-stand : (i k : ℕ) → rowsFault i cols (each i k (rowBytes rows offsets)) ≡ Pass
       → Every (λ p. Fields cols (drop p rows)) (each i k (λ r. getD offsets r 0))
-        × (map (slotsFrom cols rows) (each i k (λ r. getD offsets r 0)) ≡ map (rowSlots cols) (each i k (rowBytes rows offsets)))
+      × (map (slotsFrom cols rows) (each i k (λ r. getD offsets r 0)) ≡ map (rowSlots cols) (each i k (rowBytes rows offsets)))
   rows-stand i zero e = (tt, refl)
   rows-stand i (suc k) e =
       let p = both-pass (rowFault i 0 cols (rowBytes rows offsets i)) _ e in

@@ -1,30 +1,38 @@
 // A column from its parts, the columns of a sheet, and the cursors that the walk starts from.
 ghost use mathlib.Core.Path.{_≡_};
-ghost use mathlib.Core.List.{map};
 ghost use Prim.Native.Nat.{_+_, _≤_};
 ghost use lib.ListN.{length, take};
 ghost use lib.Seq.{sets};
 ghost use Rattle.format.specs.declared.Check.the-variants.{Pass};
 ghost use Rattle.format.specs.Limits.{maxRows};
 ghost use Rattle.format.specs.Schemas.{Limited, colsOf};
-ghost use Rattle.format.specs.Sheet.{layout};
-ghost use Rattle.format.specs.Cleared.{clearedColumn};
 ghost use Rattle.format.specs.Read.{rowsFault};
 ghost use Rattle.format.specs.Entries.{offsetsFault, cutRows, decodedSheet};
-ghost use Rattle.sheet_writer.specs.Cursors.{AllFields, Readable, slotAt, nextAt, sheetAt};
-use crate::ended::{move_data, write_ends};
-use crate::flags::{pack, Flag};
-use crate::values::{advance, move_values};
-use format::{Column, Kind, Schema};
+ghost use Rattle.sheet_writer.specs.Cursors.{AllFields, Readable, columnAt, nextsAt, sheetAt};
+use crate::ended::move_data;
+use crate::ended::write_ends;
+use crate::flags::Flag;
+use crate::flags::pack;
+use crate::values::advance;
+use crate::values::move_values;
+use format::Column;
+use format::Kind;
+use format::Schema;
 
 // A column: validity, then the values by their layout.
-fn write_column(rows: &[u8], cursors: &mut [usize], column: Column, sheet: &mut [u8], at: usize) -> usize
+fn write_column(
+    rows: &[u8],
+    cursors: &mut [usize],
+    column: Column,
+    sheet: &mut [u8],
+    at: usize,
+) -> usize
     requires { ⌜ length (now cursors) ≤ maxRows ⌝ }
     requires { ⌜ Readable column (now rows) (now cursors) ⌝ }
-    requires { ⌜ at + length (clearedColumn (layout column) (length (now cursors)) (map (slotAt column (now rows)) (now cursors))) ≤ length (now sheet) ⌝ }
-    ensures { λ r. ⌜ r ≡ at + length (clearedColumn (layout column) (length (now (cursors .entry))) (map (slotAt column (now (rows .entry))) (now (cursors .entry)))) ⌝ }
-    ensures { λ _. ⌜ now (sheet .exit) ≡ sets (now (sheet .entry)) at (clearedColumn (layout column) (length (now (cursors .entry))) (map (slotAt column (now (rows .entry))) (now (cursors .entry)))) ⌝ }
-    ensures { λ _. ⌜ now (cursors .exit) ≡ map (nextAt column (now (rows .entry))) (now (cursors .entry)) ⌝ }
+    requires { ⌜ at + length (columnAt column (now rows) (now cursors)) ≤ length (now sheet) ⌝ }
+    ensures { λ r. ⌜ r ≡ at + length (columnAt column (now (rows .entry)) (now (cursors .entry))) ⌝ }
+    ensures { λ _. ⌜ now (sheet .exit) ≡ sets (now (sheet .entry)) at (columnAt column (now (rows .entry)) (now (cursors .entry))) ⌝ }
+    ensures { λ _. ⌜ now (cursors .exit) ≡ nextsAt column (now (rows .entry)) (now (cursors .entry)) ⌝ }
 {
     let kind = column.kind;
     let options = column.options;
@@ -79,7 +87,13 @@ fn start(offsets: &[u64], cursors: &mut [usize])
 }
 
 // The cleared sheet of n rows that passed the checks, written in front of the lent sheet; how many bytes it has.
-pub fn write_sheet(schema: Schema, n: usize, rows: &[u8], offsets: &[u64], sheet: &mut [u8]) -> usize
+pub fn write_sheet(
+    schema: Schema,
+    n: usize,
+    rows: &[u8],
+    offsets: &[u64],
+    sheet: &mut [u8],
+) -> usize
     requires { ⌜ n ≤ maxRows ⌝ }
     requires { ⌜ Limited schema ⌝ }
     requires { ⌜ offsetsFault n (now rows) (now offsets) ≡ Pass ⌝ }

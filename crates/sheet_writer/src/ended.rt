@@ -1,17 +1,17 @@
 // Variable bytes: the ends of the values, then their bytes.
 ghost use mathlib.Core.Path.{_≡_};
-ghost use mathlib.Core.List.{map};
 ghost use Prim.Native.Nat.{_+_, _≤_};
 ghost use lib.ListN.{length};
 ghost use lib.Seq.{sets};
 ghost use Rattle.format.specs.Limits.{maxRows, maxSlot};
-ghost use Rattle.format.specs.Lists.{endsFrom, joined, lowBytes};
 ghost use Rattle.format.specs.Cleared.{variableSlot};
 ghost use Rattle.format.specs.Read.{readVariable, slotRead};
-ghost use Rattle.sheet_writer.specs.Cursors.{ended, Readable, slotAt, nextAt};
-use format::{FieldRead, SortOptions};
+ghost use Rattle.sheet_writer.specs.Cursors.{Readable, nextsAt, ended, endsAt, dataAt};
+use format::FieldRead;
+use format::SortOptions;
 use number::put32;
-use variable::{decode_blocks, read};
+use variable::decode_blocks;
+use variable::read;
 
 // How many bytes the value in front of a row has; null has none.
 fn value_length(row: &[u8], options: SortOptions) -> usize
@@ -27,12 +27,18 @@ fn value_length(row: &[u8], options: SortOptions) -> usize
 }
 
 // The ends: 0, and after each value the count of the bytes so far, four bytes each, low byte first.
-pub fn write_ends(rows: &[u8], cursors: &[usize], options: SortOptions, sheet: &mut [u8], at: usize) -> usize
+pub fn write_ends(
+    rows: &[u8],
+    cursors: &[usize],
+    options: SortOptions,
+    sheet: &mut [u8],
+    at: usize,
+) -> usize
     requires { ⌜ length (now cursors) ≤ maxRows ⌝ }
     requires { ⌜ Readable (ended options) (now rows) (now cursors) ⌝ }
-    requires { ⌜ at + length (joined (map (lowBytes 4) (endsFrom 0 (map variableSlot (map (slotAt (ended options) (now rows)) (now cursors)))))) ≤ length (now sheet) ⌝ }
-    ensures { λ r. ⌜ r ≡ at + length (joined (map (lowBytes 4) (endsFrom 0 (map variableSlot (map (slotAt (ended options) (now (rows .entry))) (now (cursors .entry))))))) ⌝ }
-    ensures { λ _. ⌜ now (sheet .exit) ≡ sets (now (sheet .entry)) at (joined (map (lowBytes 4) (endsFrom 0 (map variableSlot (map (slotAt (ended options) (now (rows .entry))) (now (cursors .entry))))))) ⌝ }
+    requires { ⌜ at + length (endsAt options (now rows) (now cursors)) ≤ length (now sheet) ⌝ }
+    ensures { λ r. ⌜ r ≡ at + length (endsAt options (now (rows .entry)) (now (cursors .entry))) ⌝ }
+    ensures { λ _. ⌜ now (sheet .exit) ≡ sets (now (sheet .entry)) at (endsAt options (now (rows .entry)) (now (cursors .entry))) ⌝ }
 {
     let mut place = at;
     let mut total: usize = 0;
@@ -49,12 +55,18 @@ pub fn write_ends(rows: &[u8], cursors: &[usize], options: SortOptions, sheet: &
 }
 
 // The bytes, each value copied, and its cursor moved past the field.
-pub fn move_data(rows: &[u8], cursors: &mut [usize], options: SortOptions, sheet: &mut [u8], at: usize) -> usize
+pub fn move_data(
+    rows: &[u8],
+    cursors: &mut [usize],
+    options: SortOptions,
+    sheet: &mut [u8],
+    at: usize,
+) -> usize
     requires { ⌜ Readable (ended options) (now rows) (now cursors) ⌝ }
-    requires { ⌜ at + length (joined (map variableSlot (map (slotAt (ended options) (now rows)) (now cursors)))) ≤ length (now sheet) ⌝ }
-    ensures { λ r. ⌜ r ≡ at + length (joined (map variableSlot (map (slotAt (ended options) (now (rows .entry))) (now (cursors .entry))))) ⌝ }
-    ensures { λ _. ⌜ now (sheet .exit) ≡ sets (now (sheet .entry)) at (joined (map variableSlot (map (slotAt (ended options) (now (rows .entry))) (now (cursors .entry))))) ⌝ }
-    ensures { λ _. ⌜ now (cursors .exit) ≡ map (nextAt (ended options) (now (rows .entry))) (now (cursors .entry)) ⌝ }
+    requires { ⌜ at + length (dataAt options (now rows) (now cursors)) ≤ length (now sheet) ⌝ }
+    ensures { λ r. ⌜ r ≡ at + length (dataAt options (now (rows .entry)) (now (cursors .entry))) ⌝ }
+    ensures { λ _. ⌜ now (sheet .exit) ≡ sets (now (sheet .entry)) at (dataAt options (now (rows .entry)) (now (cursors .entry))) ⌝ }
+    ensures { λ _. ⌜ now (cursors .exit) ≡ nextsAt (ended options) (now (rows .entry)) (now (cursors .entry)) ⌝ }
 {
     let mut place = at;
     let mut r = 0;

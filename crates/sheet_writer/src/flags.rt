@@ -6,12 +6,13 @@ ghost use lib.ListN.{length};
 ghost use lib.Seq.{sets};
 ghost use Rattle.format.specs.Kinds.{columnShape};
 ghost use Rattle.format.specs.Sheet.{packed};
-ghost use Rattle.format.specs.Cleared.{byteOf, pack as packedBytes};
+ghost use Rattle.format.specs.Cleared.{byteOf};
 ghost use Rattle.format.specs.Read.{Good, readField, slotRead};
-ghost use Rattle.sheet_writer.specs.Cursors.{Readable, Flagged, flagOf, flagAt, inByte};
+ghost use Rattle.sheet_writer.specs.Cursors.{Readable, Flagged, flagOf, flagAt, flagsAt, inByte};
 use crate::standin::decode_boolean;
 use bits::put_bit;
-use format::{null_sentinel, Column};
+use format::Column;
+use format::null_sentinel;
 
 // Which flag of a slot is meant: that it is valid, or that its bool is set.
 pub enum Flag {
@@ -61,12 +62,19 @@ fn in_byte(left: usize) -> usize
 }
 
 // The flags of all rows, each byte stored once.
-pub fn pack(rows: &[u8], cursors: &[usize], column: Column, which: Flag, sheet: &mut [u8], at: usize) -> usize
+pub fn pack(
+    rows: &[u8],
+    cursors: &[usize],
+    column: Column,
+    which: Flag,
+    sheet: &mut [u8],
+    at: usize,
+) -> usize
     requires { ⌜ Readable column (now rows) (now cursors) ⌝ }
     requires { ⌜ Flagged which column ⌝ }
     requires { ⌜ at + packed (length (now cursors)) ≤ length (now sheet) ⌝ }
     ensures { λ r. ⌜ r ≡ at + packed (length (now (cursors .entry))) ⌝ }
-    ensures { λ _. ⌜ now (sheet .exit) ≡ sets (now (sheet .entry)) at (packedBytes (packed (length (now (cursors .entry)))) (map (flagAt which column (now (rows .entry))) (now (cursors .entry)))) ⌝ }
+    ensures { λ _. ⌜ now (sheet .exit) ≡ sets (now (sheet .entry)) at (flagsAt which column (now (rows .entry)) (now (cursors .entry))) ⌝ }
 {
     let n = cursors.len();
     let mut place = at;

@@ -4,22 +4,26 @@ ghost use mathlib.Core.List.{map};
 ghost use Prim.Native.Nat.{ℕ, _+_, _^_, _<_, _≤_};
 ghost use lib.ListN.{length, getD};
 ghost use lib.Seq.{sets};
-ghost use Rattle.format.specs.Lists.{joined};
-ghost use Rattle.format.specs.Kinds.{valueBytes};
-ghost use Rattle.format.specs.Cleared.{fixedSlot};
-ghost use Rattle.sheet_writer.specs.Cursors.{Readable, slotAt, nextAt};
+ghost use Rattle.sheet_writer.specs.Cursors.{Readable, nextsAt, valuesAt};
 ghost use Rattle.sheet_writer.specs.Standin.{WideKind};
 use crate::standin::decode;
-use format::{width, Column};
+use format::Column;
+use format::width;
 
 // Each value decoded, and its cursor moved past the field.
-pub fn move_values(rows: &[u8], cursors: &mut [usize], column: Column, sheet: &mut [u8], at: usize) -> usize
+pub fn move_values(
+    rows: &[u8],
+    cursors: &mut [usize],
+    column: Column,
+    sheet: &mut [u8],
+    at: usize,
+) -> usize
     requires { ⌜ WideKind (column .kind) ⌝ }
     requires { ⌜ Readable column (now rows) (now cursors) ⌝ }
-    requires { ⌜ at + length (joined (map (fixedSlot (valueBytes (column .kind))) (map (slotAt column (now rows)) (now cursors)))) ≤ length (now sheet) ⌝ }
-    ensures { λ r. ⌜ r ≡ at + length (joined (map (fixedSlot (valueBytes (column .kind))) (map (slotAt column (now (rows .entry))) (now (cursors .entry))))) ⌝ }
-    ensures { λ _. ⌜ now (sheet .exit) ≡ sets (now (sheet .entry)) at (joined (map (fixedSlot (valueBytes (column .kind))) (map (slotAt column (now (rows .entry))) (now (cursors .entry))))) ⌝ }
-    ensures { λ _. ⌜ now (cursors .exit) ≡ map (nextAt column (now (rows .entry))) (now (cursors .entry)) ⌝ }
+    requires { ⌜ at + length (valuesAt column (now rows) (now cursors)) ≤ length (now sheet) ⌝ }
+    ensures { λ r. ⌜ r ≡ at + length (valuesAt column (now (rows .entry)) (now (cursors .entry))) ⌝ }
+    ensures { λ _. ⌜ now (sheet .exit) ≡ sets (now (sheet .entry)) at (valuesAt column (now (rows .entry)) (now (cursors .entry))) ⌝ }
+    ensures { λ _. ⌜ now (cursors .exit) ≡ nextsAt column (now (rows .entry)) (now (cursors .entry)) ⌝ }
 {
     let kind = column.kind;
     let options = column.options;

@@ -31,8 +31,12 @@ module _ (s : tie.Start) where
 
   flags-fit : s .args .at + packed (length (s .args .cursors .now)) ≤ length (s .args .sheet .now)
   flags-fit =
-      omega (arith, flags-long Valid, walk-room (walk-start all (s .args .sheet .now) (s .args .at)) (flags (s .args .column) (s .args .rows .now) (s .args .cursors .now) Valid)
-      (values (s .args .column) (s .args .rows .now) (s .args .cursors .now)) (column-is (s .args .column) (s .args .rows .now) (s .args .cursors .now)) (s .pre .1 .1))
+      omega (
+        arith,
+        flags-long Valid,
+        walk-room (walk-start all (s .args .sheet .now) (s .args .at)) (flags (s .args .column) (s .args .rows .now) (s .args .cursors .now) Valid)
+            (values (s .args .column) (s .args .rows .now) (s .args .cursors .now)) (column-is (s .args .column) (s .args .rows .now) (s .args .cursors .now)) (s .pre .1 .1),
+      )
 
 pack-requires : tie.Need-pack-requires
 pack-requires c κs = let s = c .before .before .before .before .before .before in (s .pre .1 .0, (tt, flags-fit s))
@@ -71,9 +75,10 @@ module _ (c : tie.After-enum-told) where
 
 pack-requires-2 : tie.Need-pack-requires-2
 pack-requires-2 c κs =
-    let u = c .before .before in
-    (start (t u) .pre .1 .0,
-    (ap shape (u .enum-told .given .1), omega (arith, flags-long (start (t u)) True, walk-room (flagged (t u)) (trues u) [] (trues-left u) (start (t u) .pre .1 .1))))
+    let u = c .before .before in (
+      start (t u) .pre .1 .0,
+      (ap shape (u .enum-told .given .1), omega (arith, flags-long (start (t u)) True, walk-room (flagged (t u)) (trues u) [] (trues-left u) (start (t u) .pre .1 .1))),
+    )
 
 advance-requires : tie.Need-advance-requires
 advance-requires c κs =
@@ -116,9 +121,10 @@ module _ (c : tie.After-enum-told2) where
 write-ends-requires : tie.Need-write-ends-requires
 write-ends-requires c κs =
     let u = c .before .before in
-    let a = start (v u) .args in
-    (start (v u) .pre .0,
-    (ended-readable (a .column) (a .rows .now) (a .cursors .now) (u .enum-told2 .given .1) (start (v u) .pre .1 .0), walk-room (flagged (v u)) (ends u) (bytes u) (ends-left u) (start (v u) .pre .1 .1)))
+    let a = start (v u) .args in (
+      start (v u) .pre .0,
+      (ended-readable (a .column) (a .rows .now) (a .cursors .now) (u .enum-told2 .given .1) (start (v u) .pre .1 .0), walk-room (flagged (v u)) (ends u) (bytes u) (ends-left u) (start (v u) .pre .1 .1)),
+    )
 
 -- the ends are written
 counted : (c : tie.After-write-ends) → let u = c .before .before .before in
@@ -129,9 +135,10 @@ move-data-requires : tie.Need-move-data-requires
 move-data-requires c κs =
     let w = c .before .before .before .before in
     let u = w .before .before .before in
-    let a = start (v u) .args in
-    (ended-readable (a .column) (a .rows .now) (a .cursors .now) (u .enum-told2 .given .1) (start (v u) .pre .1 .0),
-    walk-room (counted w) (bytes u) [] (sym (append-nil (bytes u))) (start (v u) .pre .1 .1))
+    let a = start (v u) .args in (
+      ended-readable (a .column) (a .rows .now) (a .cursors .now) (u .enum-told2 .given .1) (start (v u) .pre .1 .0),
+      walk-room (counted w) (bytes u) [] (sym (append-nil (bytes u))) (start (v u) .pre .1 .1),
+    )
 
 same-length-3 : tie.Need-same-length-3
 same-length-3 c = search needs
@@ -162,9 +169,10 @@ module _ (c : tie.At-match-keys3) where
 
 move-values-requires : tie.Need-move-values-requires
 move-values-requires c κs =
-    let u = c .before .before in
-    (wide-arm (start (w u) .args .column .kind) (u .match .keys3),
-    (start (w u) .pre .1 .0, walk-room (flagged (w u)) (slots u) [] (slots-left u) (start (w u) .pre .1 .1)))
+    let u = c .before .before in (
+      wide-arm (start (w u) .args .column .kind) (u .match .keys3),
+      (start (w u) .pre .1 .0, walk-room (flagged (w u)) (slots u) [] (slots-left u) (start (w u) .pre .1 .1)),
+    )
 
 same-length-5 : tie.Need-same-length-5
 same-length-5 c = search needs

@@ -66,12 +66,17 @@ slice-aggregate-write-columns c = let t = c .before .before in sym (ap length (f
 write-columns-requires : tie.Need-write-columns-requires
 write-columns-requires c κs =
     let t = c .before .before .before in
-    let p = s t .pre in
-    (p .1 .0,
-    (subst (λ (m : ℕ). m ≤ maxRows) (slice-aggregate-write-columns (c .before)) (p .0),
-    (subst (AllFields (colsOf (s t .args .schema)) (s t .args .rows .now)) (sym (front t))
-    (start-fields (colsOf (s t .args .schema)) (s t .args .rows .now) (s t .args .offsets .now) (row-bytes t) (s t .args .n) (there (s t)) (p .1 .1 .1 .0)),
-    subst (λ (l : List ℕ). length l ≤ length (s t .args .sheet .now)) (sym (sheet-is t)) (p .1 .1 .1 .1))))
+    let p = s t .pre in (
+      p .1 .0,
+      (
+        subst (λ (m : ℕ). m ≤ maxRows) (slice-aggregate-write-columns (c .before)) (p .0),
+        (
+          subst (AllFields (colsOf (s t .args .schema)) (s t .args .rows .now)) (sym (front t))
+              (start-fields (colsOf (s t .args .schema)) (s t .args .rows .now) (s t .args .offsets .now) (row-bytes t) (s t .args .n) (there (s t)) (p .1 .1 .1 .0)),
+          subst (λ (l : List ℕ). length l ≤ length (s t .args .sheet .now)) (sym (sheet-is t)) (p .1 .1 .1 .1),
+        ),
+      ),
+    )
 
 same-length : tie.Need-same-length
 same-length c = search needs

@@ -55,9 +55,10 @@ pack-byte-requires c κs =
     let s = c .before .before .before .before .before .before .before in
     let a = s .args in
     let base = c .before .before .before .loop .base in
-    let size = c .before .in-byte .result in
-    (omega (arith, small (c .before) .1, length-take (base + size - base) (drop base (a .cursors .now))),
-    (readable-part (a .column) (a .rows .now) (a .cursors .now) base (base + size - base) (s .pre .0), s .pre .1 .0))
+    let size = c .before .in-byte .result in (
+      omega (arith, small (c .before) .1, length-take (base + size - base) (drop base (a .cursors .now))),
+      (readable-part (a .column) (a .rows .now) (a .cursors .now) base (base + size - base) (s .pre .0), s .pre .1 .0),
+    )
 
 slice-write-sheet : tie.Need-slice-write-sheet Inv-loop μ-loop
 slice-write-sheet c =

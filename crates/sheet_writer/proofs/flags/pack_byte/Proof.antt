@@ -77,10 +77,12 @@ loop-again c =
     let l = c .before .before .before .before .before .loop in
     let f = flagAt (s .args .which) (s .args .column) (s .args .rows .now) in
     let p = getD (s .args .cursors .now) (l .k) 0 in
-    let e : c .before .read-flag .result ≡ f p = rw (part-to-end (s .args .rows .now) p) at (c .before .read-flag .ensures) in
-    (omega arith, c .put-bit .ensures
-    ∙ ap₂ (λ (b : ℕ) (on : Bool). b + cond on (2 ^ l .k) 0) (l .inv .1) e
-    ∙ byte-more f (s .args .cursors .now) (l .k) (c .before .before .before .before .loop-test .taken))
+    let e : c .before .read-flag .result ≡ f p = rw (part-to-end (s .args .rows .now) p) at (c .before .read-flag .ensures) in (
+      omega arith,
+      c .put-bit .ensures
+          ∙ ap₂ (λ (b : ℕ) (on : Bool). b + cond on (2 ^ l .k) 0) (l .inv .1) e
+          ∙ byte-more f (s .args .cursors .now) (l .k) (c .before .before .before .before .loop-test .taken),
+    )
 
 returns : tie.Need-returns Inv-loop μ-loop
 returns c =
