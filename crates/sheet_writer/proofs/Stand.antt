@@ -28,8 +28,8 @@ use Rattle.laws.proofs.ReadField.{field-read, left-end}
 use Rattle.laws.proofs.ReadRow.{passed-row}
 use Rattle.laws.proofs.Checks.{both-pass}
 use Rattle.laws.proofs.Lists.{Every, every-at, each-is}
-use Rattle.laws.proofs.Turned.{slotsAt, turned-tails}
-use Rattle.sheet_writer.specs.Cursors.{fieldAt, slotAt, nextAt, Readable, Fields, AllFields, sheetAt}
+use Rattle.laws.proofs.Turned.{slotsAt as slotsIn, turned-tails}
+use Rattle.sheet_writer.specs.Cursors.{fieldAt, slotAt, nextAt, Readable, slotsAt, nextsAt, columnAt, Fields, AllFields, sheetAt}
 use Rattle.sheet_writer.proofs.Maps.{at-map, map-same}
 
 -- the slots of the columns to come, from a cursor on
@@ -46,17 +46,17 @@ module _ (col : Column) (rows : List ℕ) (b : Bytes rows) where
       ∙ sym (left-end (columnShape col) (col .options) (drop p rows) (bytes-drop p rows b) g)
 
   module _ (cols : List Column) (cursors : List ℕ) (h : AllFields (col ∷ cols) rows cursors) where
-    pub columns-next : AllFields cols rows (map (nextAt col rows) cursors)
+    pub columns-next : AllFields cols rows (nextsAt col rows cursors)
     columns-next r l =
         let k : r < length cursors = omega (arith, length-map cursors (nextAt col rows)) in
         subst (Fields cols)
         (sym (ap (λ (p : ℕ). drop p rows) (at-map (nextAt col rows) cursors r 0 0 k) ∙ next-left (getD cursors r 0) (h r k .0)))
         (h r k .1)
 
-    firsts : slotsAt (map (slotsFrom (col ∷ cols) rows) cursors) 0 ≡ map (slotAt col rows) cursors
+    firsts : slotsIn (map (slotsFrom (col ∷ cols) rows) cursors) 0 ≡ slotsAt col rows cursors
     firsts = map-map (λ (ss : List Slot). getD ss 0 none) (slotsFrom (col ∷ cols) rows) cursors
 
-    others : map tail (map (slotsFrom (col ∷ cols) rows) cursors) ≡ map (slotsFrom cols rows) (map (nextAt col rows) cursors)
+    others : map tail (map (slotsFrom (col ∷ cols) rows) cursors) ≡ map (slotsFrom cols rows) (nextsAt col rows cursors)
     others =
         map-map tail (slotsFrom (col ∷ cols) rows) cursors
         ∙ map-same (λ p. rowSlots cols (leftAfter (fieldAt col rows p))) (λ p. slotsFrom cols rows (nextAt col rows p)) 0 cursors
@@ -65,15 +65,15 @@ module _ (col : Column) (rows : List ℕ) (b : Bytes rows) where
 
     -- the column, and the sheet of the others
     pub sheet-next : sheetAt (col ∷ cols) rows cursors
-        ≡ clearedColumn (layout col) (length cursors) (map (slotAt col rows) cursors) ++ sheetAt cols rows (map (nextAt col rows) cursors)
+        ≡ columnAt col rows cursors ++ sheetAt cols rows (nextsAt col rows cursors)
     sheet-next =
         ap (clearedSheet (length cursors) (col ∷ cols)) (turned-tails (length cols) (map (slotsFrom (col ∷ cols) rows) cursors))
         ∙ ap₂ {C = List ℕ}
         (λ (ss : List Slot) (yss : List (List Slot)). clearedColumn (layout col) (length cursors) ss ++ clearedSheet (length cursors) cols (turned (length cols) yss))
         firsts others
         ∙ ap (λ (n : ℕ).
-        clearedColumn (layout col) (length cursors) (map (slotAt col rows) cursors)
-        ++ clearedSheet n cols (turned (length cols) (map (slotsFrom cols rows) (map (nextAt col rows) cursors))))
+        columnAt col rows cursors
+        ++ clearedSheet n cols (turned (length cols) (map (slotsFrom cols rows) (nextsAt col rows cursors))))
         (sym (length-map cursors (nextAt col rows)))
 
 -- ---- the start
@@ -157,7 +157,7 @@ pub record Standing (cols : List Column) (rows cursors₀ out₀ cursors out : L
 pub stand-first : (cols : List Column) (rows cursors out : List ℕ) → AllFields cols rows cursors → Standing cols rows cursors out cursors out 0 0
 stand-first cols rows cursors out h = record { within = omega arith; many = refl; fields = h; wrote = walk-start (sheetAt cols rows cursors) out 0 }
 
-module _ (cols : List Column) (rows cursors₀ out₀ cursors out : List ℕ) (at c : ℕ) (t : Standing cols rows cursors₀ out₀ cursors out at c) where
+module _ {cols : List Column} {rows cursors₀ out₀ cursors out : List ℕ} {at c : ℕ} (t : Standing cols rows cursors₀ out₀ cursors out at c) where
   -- no column is left
   pub stand-end : length cols ≤ c → (at ≡ length (sheetAt cols rows cursors₀)) × (out ≡ sets out₀ 0 (sheetAt cols rows cursors₀))
   stand-end h =
@@ -168,26 +168,24 @@ module _ (cols : List Column) (rows cursors₀ out₀ cursors out : List ℕ) (a
     here : AllFields (col ∷ drop (c + 1) cols) rows cursors
     here = subst (λ (cs : List Column). AllFields cs rows cursors) next (t .fields)
 
-    abbrev column : List ℕ
-    column = clearedColumn (layout col) (length cursors) (map (slotAt col rows) cursors)
-
-    left : sheetAt (drop c cols) rows cursors ≡ column ++ sheetAt (drop (c + 1) cols) rows (map (nextAt col rows) cursors)
+    left : sheetAt (drop c cols) rows cursors ≡ columnAt col rows cursors ++ sheetAt (drop (c + 1) cols) rows (nextsAt col rows cursors)
     left = ap (λ (cs : List Column). sheetAt cs rows cursors) next ∙ sheet-next col rows b (drop (c + 1) cols) cursors here
 
     -- a field of column c can be read at each cursor, and there is room for the column
     pub stand-here : Readable col rows cursors
     stand-here r l = here r l .0
 
-    pub stand-room : length (sheetAt cols rows cursors₀) ≤ length out₀ → at + length column ≤ length out
-    stand-room fits = walk-room (t .wrote) column (sheetAt (drop (c + 1) cols) rows (map (nextAt col rows) cursors)) left (omega arith)
+    pub stand-room : length (sheetAt cols rows cursors₀) ≤ length out₀ → at + length (columnAt col rows cursors) ≤ length out
+    stand-room fits = walk-room (t .wrote) (columnAt col rows cursors) (sheetAt (drop (c + 1) cols) rows (nextsAt col rows cursors)) left (omega arith)
 
     -- which is written, and the cursors moved
-    pub stand-more : c < length cols → Standing cols rows cursors₀ out₀ (map (nextAt col rows) cursors) (sets out at column) (at + length column) (c + 1)
+    pub stand-more : c < length cols
+        → Standing cols rows cursors₀ out₀ (nextsAt col rows cursors) (sets out at (columnAt col rows cursors)) (at + length (columnAt col rows cursors)) (c + 1)
     stand-more h = record {
       within = omega arith;
       many = length-map cursors (nextAt col rows) ∙ t .many;
       fields = columns-next col rows b (drop (c + 1) cols) cursors here;
-      wrote = walk-more (t .wrote) column (sheetAt (drop (c + 1) cols) rows (map (nextAt col rows) cursors)) left;
+      wrote = walk-more (t .wrote) (columnAt col rows cursors) (sheetAt (drop (c + 1) cols) rows (nextsAt col rows cursors)) left;
     }
 
 -- a column of those in use

@@ -40,13 +40,13 @@ loop-again : tie.Need-loop-again Inv-loop μ-loop
 loop-again c =
     let a = c .before .before .before .args in
     let l = c .before .before .loop in
-    fill-more _ _ _ _ (l .inv) _ (c .before .loop-test .taken) (sym (getD-take (length (a .cursors .now)) (a .offsets .now) (l .r) 0 (omega arith)))
+    fill-more (l .inv) (c .before .loop-test .taken) _ (sym (getD-take (length (a .cursors .now)) (a .offsets .now) (l .r) 0 (omega arith)))
 
 same-length : tie.Need-same-length Inv-loop μ-loop
 same-length c = c .before .loop .inv .long
 
 returns : tie.Need-returns Inv-loop μ-loop
-returns c = fill-end _ _ _ _ (c .before .loop .inv) (c .loop-test .left)
+returns c = fill-end (c .before .loop .inv) (c .loop-test .left)
 
 pub start-spec : {M : Type 1} → statement M
 start-spec =

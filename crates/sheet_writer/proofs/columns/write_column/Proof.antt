@@ -3,57 +3,64 @@
 use borrow.Author.Needs.{needs}
 use Prim.Native.Nat.{ℕ, _+_, _≤_}
 use mathlib.Core.Path.{_≡_, refl, sym, ap, _∙_}
-use mathlib.Core.List.{List, [], _++_, map, append-nil}
+use mathlib.Core.List.{List, [], _++_, append-nil}
 use native.Mathlib.Omega.{arith}
 use lib.ListN.{length}
-use Rattle.format.specs.Lists.{Bytes, endsFrom, joined, lowBytes}
-use Rattle.format.specs.Kinds.{shape, valueBytes}
-use Rattle.format.specs.Sheet.{layout, packed}
-use Rattle.format.specs.Cleared.{clearedColumn, fixedSlot, variableSlot}
-use Rattle.bits.proofs.Bits.{length-pack}
+use Rattle.format.specs.Lists.{Bytes}
+use Rattle.format.specs.Kinds.{shape}
+use Rattle.format.specs.Sheet.{packed}
 use Rattle.laws.proofs.Append.{Walk, walk-start, walk-room, walk-end}
 use Rattle.laws.proofs.Bytes.{bytes-of}
-use Rattle.sheet_writer.specs.declared.flags.Flag.{Flag}
 use Rattle.sheet_writer.specs.declared.flags.Flag.the-variants.{Valid, True}
-use Rattle.sheet_writer.specs.Cursors.{ended, slotAt, flagAt}
+use Rattle.sheet_writer.specs.Cursors.{columnAt, flagsAt, valuesAt, endsAt, dataAt}
 use Rattle.sheet_writer.proofs.Arms.{wide-arm}
-use Rattle.sheet_writer.proofs.Parts.{walk-told, flags, values, column-is, bool-values, bool-there, bool-next, wide-values, ended-values, ended-readable, ended-next}
+use Rattle.sheet_writer.proofs.Parts.{walk-told, restAt, flags-long, column-is, bool-rest, bool-there, bool-next, wide-rest, ended-rest, ended-readable, ended-next}
 use Rattle.sheet_writer.proofs.columns.write_column.Statement.{statement}
 use Rattle.sheet_writer.proofs.columns.write_column.Tie as tie
 
--- the column, and as many bytes as its flags take
+-- ---- validity
+
 module _ (s : tie.Start) where
+  abbrev rows : List ℕ
+  rows = s .args .rows .now
+
+  abbrev cursors : List ℕ
+  cursors = s .args .cursors .now
+
+  -- the column, what comes after its validity, and the walk that writes it
   abbrev all : List ℕ
-  all = clearedColumn (layout (s .args .column)) (length (s .args .cursors .now)) (map (slotAt (s .args .column) (s .args .rows .now)) (s .args .cursors .now))
+  all = columnAt (s .args .column) rows cursors
 
-  flags-long : (which : Flag) → length (flags (s .args .column) (s .args .rows .now) (s .args .cursors .now) which) ≡ packed (length (s .args .cursors .now))
-  flags-long which = length-pack (packed (length (s .args .cursors .now))) (map (flagAt which (s .args .column) (s .args .rows .now)) (s .args .cursors .now))
+  abbrev rest : List ℕ
+  rest = restAt (s .args .column) rows cursors
 
-  flags-fit : s .args .at + packed (length (s .args .cursors .now)) ≤ length (s .args .sheet .now)
+  abbrev Wrote : List ℕ → List ℕ → ℕ → Type 0
+  Wrote left out at = Walk all left (s .args .sheet .now) (s .args .at) out at
+
+  begun : Wrote all (s .args .sheet .now) (s .args .at)
+  begun = walk-start all (s .args .sheet .now) (s .args .at)
+
+  flags-fit : s .args .at + packed (length cursors) ≤ length (s .args .sheet .now)
   flags-fit =
-      omega (
-        arith,
-        flags-long Valid,
-        walk-room (walk-start all (s .args .sheet .now) (s .args .at)) (flags (s .args .column) (s .args .rows .now) (s .args .cursors .now) Valid)
-            (values (s .args .column) (s .args .rows .now) (s .args .cursors .now)) (column-is (s .args .column) (s .args .rows .now) (s .args .cursors .now)) (s .pre .1 .1),
-      )
+      let w = walk-room begun (flagsAt Valid (s .args .column) rows cursors) rest (column-is (s .args .column) rows cursors) (s .pre .1 .1) in
+      omega (arith, flags-long (s .args .column) rows cursors Valid)
 
 pack-requires : tie.Need-pack-requires
 pack-requires c κs = let s = c .before .before .before .before .before .before in (s .pre .1 .0, (tt, flags-fit s))
 
--- validity is written
 module _ (c : tie.After-slice-known3) where
-  abbrev start : tie.Start
-  start = c .before .before .before .before .before .before .before .before .before
+  abbrev s : tie.Start
+  s = c .before .before .before .before .before .before .before .before .before
 
-  abbrev rest : List ℕ
-  rest = values (start .args .column) (start .args .rows .now) (start .args .cursors .now)
-
-  flagged : Walk (all start) rest (start .args .sheet .now) (start .args .at) (c .before .before .pack .last .1 .1 .1 .1 .0) (c .before .before .pack .result)
+  -- it is written
+  flagged : Wrote s (rest s) (c .before .before .pack .last .1 .1 .1 .1 .0) (c .before .before .pack .result)
   flagged =
-      walk-told (walk-start (all start) (start .args .sheet .now) (start .args .at)) (flags (start .args .column) (start .args .rows .now) (start .args .cursors .now) Valid) rest
-      (column-is (start .args .column) (start .args .rows .now) (start .args .cursors .now)) _ _
-      (c .before .before .pack .ensures .0 ∙ ap (λ (n : ℕ). start .args .at + n) (sym (flags-long start Valid))) (c .before .before .pack .ensures .1)
+      walk-told (begun s) (flagsAt Valid (s .args .column) (rows s) (cursors s)) (rest s) (column-is (s .args .column) (rows s) (cursors s)) _ _
+      (c .before .before .pack .ensures .0 ∙ ap (λ (n : ℕ). s .args .at + n) (sym (flags-long (s .args .column) (rows s) (cursors s) Valid)))
+      (c .before .before .pack .ensures .1)
+
+  row-bytes : Bytes (rows s)
+  row-bytes = bytes-of (rows s) (λ i. c .before .before .before .before .before .before .before .before .shared-slice-known .given i .fits)
 
 -- ---- bools
 
@@ -61,30 +68,27 @@ enum-told : tie.Need-enum-told
 enum-told c = search needs
 
 module _ (c : tie.After-enum-told) where
-  abbrev t : tie.After-slice-known3
-  t = c .before .before
+  abbrev b : tie.After-slice-known3
+  b = c .before .before
 
   abbrev trues : List ℕ
-  trues = flags (start t .args .column) (start t .args .rows .now) (start t .args .cursors .now) True
+  trues = flagsAt True (s b .args .column) (rows (s b)) (cursors (s b))
 
-  trues-left : rest t ≡ trues ++ []
-  trues-left = bool-values (start t .args .column) (start t .args .rows .now) (start t .args .cursors .now) (c .enum-told .given .1) ∙ sym (append-nil trues)
-
-  row-bytes : Bytes (start t .args .rows .now)
-  row-bytes = bytes-of (start t .args .rows .now) (λ i. t .before .before .before .before .before .before .before .before .shared-slice-known .given i .fits)
+  trues-left : rest (s b) ≡ trues ++ []
+  trues-left = bool-rest (s b .args .column) (rows (s b)) (cursors (s b)) (c .enum-told .given .1) ∙ sym (append-nil trues)
 
 pack-requires-2 : tie.Need-pack-requires-2
 pack-requires-2 c κs =
-    let u = c .before .before in (
-      start (t u) .pre .1 .0,
-      (ap shape (u .enum-told .given .1), omega (arith, flags-long (start (t u)) True, walk-room (flagged (t u)) (trues u) [] (trues-left u) (start (t u) .pre .1 .1))),
-    )
+    let u = c .before .before in
+    let t = s (b u) in
+    let w = walk-room (flagged (b u)) (trues u) [] (trues-left u) (t .pre .1 .1) in
+    (t .pre .1 .0, (ap shape (u .enum-told .given .1), omega (arith, flags-long (t .args .column) (rows t) (cursors t) True)))
 
 advance-requires : tie.Need-advance-requires
 advance-requires c κs =
     let u = c .before .before .before .before .before .before in
-    let a = start (t u) .args in
-    λ r l. omega (arith, bool-there (a .column) (a .rows .now) (a .cursors .now) (u .enum-told .given .1) (row-bytes u) (start (t u) .pre .1 .0) r l, start (t u) .good)
+    let t = s (b u) in
+    λ r l. omega (arith, bool-there (t .args .column) (rows t) (cursors t) (u .enum-told .given .1) (row-bytes (b u)) (t .pre .1 .0) r l, t .good)
 
 same-length : tie.Need-same-length
 same-length c = search needs
@@ -95,10 +99,11 @@ same-length-2 c = search needs
 returns : tie.Need-returns
 returns c =
     let u = c .before .before .before .before .before .before .before .before .before in
-    let a = start (t u) .args in
+    let t = s (b u) in
     let k = c .before .before .before .before .before .before .pack2 in
-    let e = walk-end (walk-told (flagged (t u)) (trues u) [] (trues-left u) _ _ (k .ensures .0 ∙ ap (λ (n : ℕ). t u .before .before .pack .result + n) (sym (flags-long (start (t u)) True))) (k .ensures .1)) refl in
-    (e .0, (e .1, c .before .before .advance .ensures ∙ bool-next (a .column) (a .rows .now) (a .cursors .now) (u .enum-told .given .1) (row-bytes u) (start (t u) .pre .1 .0)))
+    let place = k .ensures .0 ∙ ap (λ (n : ℕ). b u .before .before .pack .result + n) (sym (flags-long (t .args .column) (rows t) (cursors t) True)) in
+    let e = walk-end (walk-told (flagged (b u)) (trues u) [] (trues-left u) _ _ place (k .ensures .1)) refl in
+    (e .0, (e .1, c .before .before .advance .ensures ∙ bool-next (t .args .column) (rows t) (cursors t) (u .enum-told .given .1) (row-bytes (b u)) (t .pre .1 .0)))
 
 -- ---- variable bytes
 
@@ -110,35 +115,38 @@ module _ (c : tie.After-enum-told2) where
   v = c .before .before
 
   abbrev ends : List ℕ
-  ends = joined (map (lowBytes 4) (endsFrom 0 (map variableSlot (map (slotAt (ended (start v .args .column .options)) (start v .args .rows .now)) (start v .args .cursors .now)))))
+  ends = endsAt (s v .args .column .options) (rows (s v)) (cursors (s v))
 
   abbrev bytes : List ℕ
-  bytes = joined (map variableSlot (map (slotAt (ended (start v .args .column .options)) (start v .args .rows .now)) (start v .args .cursors .now)))
+  bytes = dataAt (s v .args .column .options) (rows (s v)) (cursors (s v))
 
-  ends-left : rest v ≡ ends ++ bytes
-  ends-left = ended-values (start v .args .column) (start v .args .rows .now) (start v .args .cursors .now) (c .enum-told2 .given .1)
+  ends-left : rest (s v) ≡ ends ++ bytes
+  ends-left = ended-rest (s v .args .column) (rows (s v)) (cursors (s v)) (c .enum-told2 .given .1)
 
 write-ends-requires : tie.Need-write-ends-requires
 write-ends-requires c κs =
     let u = c .before .before in
-    let a = start (v u) .args in (
-      start (v u) .pre .0,
-      (ended-readable (a .column) (a .rows .now) (a .cursors .now) (u .enum-told2 .given .1) (start (v u) .pre .1 .0), walk-room (flagged (v u)) (ends u) (bytes u) (ends-left u) (start (v u) .pre .1 .1)),
-    )
+    let t = s (v u) in
+    (t .pre .0,
+    (ended-readable (t .args .column) (rows t) (cursors t) (u .enum-told2 .given .1) (t .pre .1 .0), walk-room (flagged (v u)) (ends u) (bytes u) (ends-left u) (t .pre .1 .1)))
 
--- the ends are written
-counted : (c : tie.After-write-ends) → let u = c .before .before .before in
-    Walk (all (start (v u))) (bytes u) (start (v u) .args .sheet .now) (start (v u) .args .at) (c .write-ends .last .1 .1 .1 .0) (c .write-ends .result)
-counted c = let u = c .before .before .before in walk-told (flagged (v u)) (ends u) (bytes u) (ends-left u) _ _ (c .write-ends .ensures .0) (c .write-ends .ensures .1)
+module _ (c : tie.After-write-ends) where
+  abbrev w : tie.After-enum-told2
+  w = c .before .before .before
+
+  -- the ends are written
+  counted : Wrote (s (v w)) (bytes w) (c .write-ends .last .1 .1 .1 .0) (c .write-ends .result)
+  counted = walk-told (flagged (v w)) (ends w) (bytes w) (ends-left w) _ _ (c .write-ends .ensures .0) (c .write-ends .ensures .1)
+
+  bytes-left : bytes w ≡ bytes w ++ []
+  bytes-left = sym (append-nil (bytes w))
 
 move-data-requires : tie.Need-move-data-requires
 move-data-requires c κs =
-    let w = c .before .before .before .before in
-    let u = w .before .before .before in
-    let a = start (v u) .args in (
-      ended-readable (a .column) (a .rows .now) (a .cursors .now) (u .enum-told2 .given .1) (start (v u) .pre .1 .0),
-      walk-room (counted w) (bytes u) [] (sym (append-nil (bytes u))) (start (v u) .pre .1 .1),
-    )
+    let k = c .before .before .before .before in
+    let u = w k in
+    let t = s (v u) in
+    (ended-readable (t .args .column) (rows t) (cursors t) (u .enum-told2 .given .1) (t .pre .1 .0), walk-room (counted k) (bytes u) [] (bytes-left k) (t .pre .1 .1))
 
 same-length-3 : tie.Need-same-length-3
 same-length-3 c = search needs
@@ -148,31 +156,30 @@ same-length-4 c = search needs
 
 returns-2 : tie.Need-returns-2
 returns-2 c =
-    let w = c .before .before .before .before .before .before .before .before .before in
-    let u = w .before .before .before in
-    let a = start (v u) .args in
-    let k = c .before .before .before .before .move-data in
-    let e = walk-end (walk-told (counted w) (bytes u) [] (sym (append-nil (bytes u))) _ _ (k .ensures .0) (k .ensures .1 .0)) refl in
-    (e .0, (e .1, k .ensures .1 .1 ∙ ended-next (a .column) (a .rows .now) (a .cursors .now) (u .enum-told2 .given .1)))
+    let k = c .before .before .before .before .before .before .before .before .before in
+    let u = w k in
+    let t = s (v u) in
+    let d = c .before .before .before .before .move-data .ensures in
+    let e = walk-end (walk-told (counted k) (bytes u) [] (bytes-left k) _ _ (d .0) (d .1 .0)) refl in
+    (e .0, (e .1, d .1 .1 ∙ ended-next (t .args .column) (rows t) (cursors t) (u .enum-told2 .given .1)))
 
 -- ---- values of one width
 
 module _ (c : tie.At-match-keys3) where
-  abbrev w : tie.After-slice-known3
-  w = c .before
+  abbrev f : tie.After-slice-known3
+  f = c .before
 
   abbrev slots : List ℕ
-  slots = joined (map (fixedSlot (valueBytes (start w .args .column .kind))) (map (slotAt (start w .args .column) (start w .args .rows .now)) (start w .args .cursors .now)))
+  slots = valuesAt (s f .args .column) (rows (s f)) (cursors (s f))
 
-  slots-left : rest w ≡ slots ++ []
-  slots-left = wide-values (start w .args .column) (start w .args .rows .now) (start w .args .cursors .now) (wide-arm (start w .args .column .kind) (c .match .keys3)) ∙ sym (append-nil slots)
+  slots-left : rest (s f) ≡ slots ++ []
+  slots-left = wide-rest (s f .args .column) (rows (s f)) (cursors (s f)) (wide-arm (s f .args .column .kind) (c .match .keys3)) ∙ sym (append-nil slots)
 
 move-values-requires : tie.Need-move-values-requires
 move-values-requires c κs =
-    let u = c .before .before in (
-      wide-arm (start (w u) .args .column .kind) (u .match .keys3),
-      (start (w u) .pre .1 .0, walk-room (flagged (w u)) (slots u) [] (slots-left u) (start (w u) .pre .1 .1)),
-    )
+    let u = c .before .before in
+    let t = s (f u) in
+    (wide-arm (t .args .column .kind) (u .match .keys3), (t .pre .1 .0, walk-room (flagged (f u)) (slots u) [] (slots-left u) (t .pre .1 .1)))
 
 same-length-5 : tie.Need-same-length-5
 same-length-5 c = search needs
@@ -183,9 +190,9 @@ same-length-6 c = search needs
 returns-3 : tie.Need-returns-3
 returns-3 c =
     let u = c .before .before .before .before .before .before .before in
-    let k = c .before .before .before .before .move-values in
-    let e = walk-end (walk-told (flagged (w u)) (slots u) [] (slots-left u) _ _ (k .ensures .0) (k .ensures .1 .0)) refl in
-    (e .0, (e .1, k .ensures .1 .1))
+    let d = c .before .before .before .before .move-values .ensures in
+    let e = walk-end (walk-told (flagged (f u)) (slots u) [] (slots-left u) _ _ (d .0) (d .1 .0)) refl in
+    (e .0, (e .1, d .1 .1))
 
 pub write-column-spec : {M : Type 1} → statement M
 write-column-spec =

@@ -61,13 +61,9 @@ array-copy-out-column c = omega (arith, s c .pre .0 .few)
 
 write-column-requires : tie.Need-write-column-requires Inv-loop μ-loop
 write-column-requires c κs =
-    let t = c .before .before .before in (
-      omega (arith, l t .loop .inv .many, s t .pre .1 .0),
-      (
-        stand-here (cols t) (s t .args .rows .now) (s t .args .cursors .now) (s t .args .sheet .now) (l t .loop .cursors) (l t .loop .sheet) (l t .loop .at) (l t .loop .c) (l t .loop .inv) (row-bytes t) (col t) (rest t),
-        stand-room (cols t) (s t .args .rows .now) (s t .args .cursors .now) (s t .args .sheet .now) (l t .loop .cursors) (l t .loop .sheet) (l t .loop .at) (l t .loop .c) (l t .loop .inv) (row-bytes t) (col t) (rest t) (s t .pre .1 .1 .1),
-      ),
-    )
+    let t = c .before .before .before in
+    (omega (arith, l t .loop .inv .many, s t .pre .1 .0),
+    (stand-here (l t .loop .inv) (row-bytes t) (col t) (rest t), stand-room (l t .loop .inv) (row-bytes t) (col t) (rest t) (s t .pre .1 .1 .1)))
 
 add-c : tie.Need-add-c Inv-loop μ-loop
 add-c c = omega arith
@@ -79,9 +75,7 @@ loop-again : tie.Need-loop-again Inv-loop μ-loop
 loop-again c =
     let t = c .before .before .before .before .before .before .before .before in
     let k = c .before .before .before .before .write-column .ensures in
-    rw (k .0, k .1 .0, k .1 .1)
-    (stand-more (cols t) (s t .args .rows .now) (s t .args .cursors .now) (s t .args .sheet .now) (l t .loop .cursors) (l t .loop .sheet) (l t .loop .at) (l t .loop .c) (l t .loop .inv) (row-bytes t) (col t) (rest t)
-    (omega (arith, full (s t))))
+    rw (k .0, k .1 .0, k .1 .1) (stand-more (l t .loop .inv) (row-bytes t) (col t) (rest t) (omega (arith, full (s t))))
 
 same-length : tie.Need-same-length Inv-loop μ-loop
 same-length c = c .before .loop .inv .many
@@ -90,10 +84,7 @@ same-length-2 : tie.Need-same-length-2 Inv-loop μ-loop
 same-length-2 c = c .before .loop .inv .wrote .same
 
 returns : tie.Need-returns Inv-loop μ-loop
-returns c =
-    let a = c .before .before .before .before .before .before .args in
-    let k = c .before .loop in
-    stand-end (take (a .schema .count) (a .schema .columns)) (a .rows .now) (a .cursors .now) (a .sheet .now) (k .cursors) (k .sheet) (k .at) (k .c) (k .inv) (omega (arith, full (c .before .before .before .before .before .before), c .loop-test .left))
+returns c = stand-end (c .before .loop .inv) (omega (arith, full (c .before .before .before .before .before .before), c .loop-test .left))
 
 pub write-columns-spec : {M : Type 1} → statement M
 write-columns-spec =

@@ -1,20 +1,20 @@
 -- `sheet_writer::ended::move_data` meets its contract. The invariant: the values of the rows passed are written, and their
 -- cursors moved. Assumes nothing.
 use Prim.Native.Nat.{ℕ, _+_, _-_, _<_, _≤_}
-use mathlib.Core.Path.{_≡_, sym, ap, _∙_}
+use mathlib.Core.Path.{sym, ap}
 use native.Mathlib.Omega.{arith}
 use borrow.Rule.Slice.PartAt.{part-to-end}
 use lib.ListN.{length, getD, length-drop}
 use Rattle.format.specs.Cleared.{variableSlot}
 use Rattle.format.specs.Read.{Good}
-use Rattle.sheet_writer.specs.Cursors.{ended, fieldAt, slotAt, nextAt}
+use Rattle.sheet_writer.specs.Cursors.{fieldAt, slotAt, ended}
 use Rattle.sheet_writer.proofs.Lead.{inside}
-use Rattle.sheet_writer.proofs.Moving.{Moving, move-start, move-such, move-room, move-more, move-end}
+use Rattle.sheet_writer.proofs.Moving.{Moving, move-start, move-readable, move-room, move-more, move-end}
 use Rattle.sheet_writer.proofs.ended.move_data.Statement.{statement}
 use Rattle.sheet_writer.proofs.ended.move_data.Tie as tie
 
 abbrev Inv-loop : tie.InvT-loop
-Inv-loop rows cursors₀ options sheet₀ at place₀ r₀ cursors sheet place r = Moving (slotAt (ended options) rows) variableSlot (nextAt (ended options) rows) cursors₀ sheet₀ at cursors sheet place r
+Inv-loop rows cursors₀ options sheet₀ at place₀ r₀ cursors sheet place r = Moving (ended options) rows variableSlot cursors₀ sheet₀ at cursors sheet place r
 
 abbrev μ-loop : tie.MeasureT-loop
 μ-loop rows cursors₀ options sheet₀ at place₀ r₀ cursors sheet place r = length cursors₀ - r
@@ -40,18 +40,13 @@ module _ (c : tie.In-loop Inv-loop μ-loop) where
   p = getD (l .loop .cursors) (l .loop .r) 0
 
   readable : Good (fieldAt (ended (s .args .options)) (s .args .rows .now) p)
-  readable =
-      move-such (slotAt (ended (s .args .options)) (s .args .rows .now)) variableSlot (nextAt (ended (s .args .options)) (s .args .rows .now)) (s .args .cursors .now)
-      (s .args .sheet .now) (s .args .at) (l .loop .cursors) (l .loop .sheet) (l .loop .place) (l .loop .r) (l .loop .inv)
-      (λ q. Good (fieldAt (ended (s .args .options)) (s .args .rows .now) q)) (s .pre .0) (c .loop-test .taken)
+  readable = move-readable (l .loop .inv) (c .loop-test .taken) (s .pre .0)
 
   within : p < length (s .args .rows .now)
   within = inside (ended (s .args .options)) (s .args .rows .now) p readable
 
   room : l .loop .place + length (variableSlot (slotAt (ended (s .args .options)) (s .args .rows .now) p)) ≤ length (l .loop .sheet)
-  room =
-      move-room (slotAt (ended (s .args .options)) (s .args .rows .now)) variableSlot (nextAt (ended (s .args .options)) (s .args .rows .now)) (s .args .cursors .now)
-      (s .args .sheet .now) (s .args .at) (l .loop .cursors) (l .loop .sheet) (l .loop .place) (l .loop .r) (l .loop .inv) (c .loop-test .taken) (s .pre .1)
+  room = move-room (l .loop .inv) (c .loop-test .taken) (s .pre .1)
 
 sub-decode-blocks : tie.Need-sub-decode-blocks Inv-loop μ-loop
 sub-decode-blocks c = omega (arith, within (c .before))
@@ -97,9 +92,7 @@ loop-again c =
     let d = c .before .before .before .before .decode-blocks in
     let e = rw (part-to-end (s t .args .rows .now) (p t)) at (d .ensures) in
     rw (e .1 .1)
-    (move-more (slotAt (ended (s t .args .options)) (s t .args .rows .now)) variableSlot (nextAt (ended (s t .args .options)) (s t .args .rows .now)) (s t .args .cursors .now)
-    (s t .args .sheet .now) (s t .args .at) (l t .loop .cursors) (l t .loop .sheet) (l t .loop .place) (l t .loop .r) (l t .loop .inv)
-    (d .result .value) (p t + d .result .field) (t .loop-test .taken) (sym (e .1 .0)) (ap (λ (n : ℕ). p t + n) (e .0)))
+    (move-more (l t .loop .inv) (t .loop-test .taken) (d .result .value) (p t + d .result .field) (sym (e .1 .0)) (ap (λ (n : ℕ). p t + n) (e .0)))
 
 same-length : tie.Need-same-length Inv-loop μ-loop
 same-length c = c .before .loop .inv .moved .long
@@ -108,12 +101,7 @@ same-length-2 : tie.Need-same-length-2 Inv-loop μ-loop
 same-length-2 c = c .before .loop .inv .wrote .1 .same
 
 returns : tie.Need-returns Inv-loop μ-loop
-returns c =
-    let a = c .before .before .before .before .before .args in
-    let k = c .before .loop in
-    let e = move-end (slotAt (ended (a .options)) (a .rows .now)) variableSlot (nextAt (ended (a .options)) (a .rows .now)) (a .cursors .now)
-    (a .sheet .now) (a .at) (k .cursors) (k .sheet) (k .place) (k .r) (k .inv) (c .loop-test .left) in
-    (e .0, (e .1, e .2))
+returns c = move-end (c .before .loop .inv) (c .loop-test .left)
 
 pub move-data-spec : {M : Type 1} → statement M
 move-data-spec =

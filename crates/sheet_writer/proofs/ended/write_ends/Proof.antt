@@ -25,11 +25,7 @@ loop-holds c =
 
 -- there is room for the next end
 room : (c : tie.At-loop Inv-loop μ-loop) → c .loop .place + 4 ≤ length (c .loop .sheet)
-room c =
-    let s = c .before .before .before .before in
-    let a = s .args in
-    let l = c .loop in
-    run-room (slotAt (ended (a .options)) (a .rows .now)) (a .cursors .now) (a .sheet .now) (a .at) (l .sheet) (l .place) (l .total) (l .r) (l .inv) (s .pre .1 .1)
+room c = run-room (c .loop .inv) (c .before .before .before .before .pre .1 .1)
 
 cast-put32 : tie.Need-cast-put32 Inv-loop μ-loop
 cast-put32 c = omega arith
@@ -66,7 +62,8 @@ value-length-requires c κs = search needs
 
 add-total : tie.Need-add-total Inv-loop μ-loop
 add-total c =
-    omega (arith, c .before .before .before .before .before .before .before .before .loop .inv .small, c .before .before .before .before .before .before .before .before .loop .inv .within, c .before .before .before .before .before .before .before .before .before .before .before .before .pre .0, c .value-length .ensures .1)
+    let l = c .before .before .before .before .before .before .before .before in
+    omega (arith, l .loop .inv .small, l .loop .inv .within, l .before .before .before .before .pre .0, c .value-length .ensures .1)
 
 add-place : tie.Need-add-place Inv-loop μ-loop
 add-place c = let l = c .before .before .before .before .before .before .before .before in omega (arith, room l, l .loop .inv .wrote .same, l .before .before .before .before .good)
@@ -79,13 +76,12 @@ loop-less c = omega arith
 
 loop-again : tie.Need-loop-again Inv-loop μ-loop
 loop-again c =
-    let s = c .before .before .before .before .before .before .before .before .before .before .before .before in
-    let a = s .args in
-    let l = c .before .before .before .before .before .before .before .before .loop in
+    let l = c .before .before .before .before .before .before .before .before in
+    let a = l .before .before .before .before .args in
+    let k = c .value-length in
     rw (c .before .before .before .before .before .put32 .ensures)
-    (run-more (slotAt (ended (a .options)) (a .rows .now)) (a .cursors .now) (a .sheet .now) (a .at) (l .sheet) (l .place) (l .total) (l .r) (l .inv)
-    (c .value-length .result) (c .before .before .before .before .before .before .before .loop-test .taken)
-    (rw (part-to-end (a .rows .now) (getD (a .cursors .now) (l .r) 0)) at (c .value-length .ensures .0)) (c .value-length .ensures .1))
+    (run-more (l .loop .inv) (k .result) (c .before .before .before .before .before .before .before .loop-test .taken)
+    (rw (part-to-end (a .rows .now) (getD (a .cursors .now) (l .loop .r) 0)) at (k .ensures .0)) (k .ensures .1))
 
 cast-put32-2 : tie.Need-cast-put32-2 Inv-loop μ-loop
 cast-put32-2 c = omega arith
@@ -101,10 +97,7 @@ same-length c = c .before .before .put322 .kept .0 ∙ c .before .before .before
 
 returns : tie.Need-returns Inv-loop μ-loop
 returns c =
-    let s = c .before .before .before .before .before .before .before .before .before in
-    let a = s .args in
-    let l = c .before .before .before .before .before .loop in
-    let e = run-end (slotAt (ended (a .options)) (a .rows .now)) (a .cursors .now) (a .sheet .now) (a .at) (l .sheet) (l .place) (l .total) (l .r) (l .inv) (c .before .before .before .before .loop-test .left) in
+    let e = run-end (c .before .before .before .before .before .loop .inv) (c .before .before .before .before .loop-test .left) in
     (e .0, c .before .before .put322 .ensures ∙ e .1)
 
 pub write-ends-spec : {M : Type 1} → statement M

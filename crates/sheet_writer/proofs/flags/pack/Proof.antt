@@ -24,16 +24,12 @@ sub-in-byte c = omega arith
 in-byte-requires : tie.Need-in-byte-requires Inv-loop μ-loop
 in-byte-requires c κs = search needs
 
--- the next byte's rows are there, eight at most
+-- the next byte has some rows, eight at most, which are there
 small : (c : tie.After-in-byte Inv-loop μ-loop)
     → let base = c .before .before .loop .base in
     let size = c .in-byte .result in
     (0 < size) × (size ≤ 8) × (base + size ≤ length (c .before .before .before .before .before .before .args .cursors .now))
-small c =
-    let s = c .before .before .before .before .before .before in
-    let l = c .before .before .loop in
-    size-small (flagAt (s .args .which) (s .args .column) (s .args .rows .now)) (s .args .cursors .now) (s .args .sheet .now) (s .args .at) (l .sheet) (l .place) (l .base) (l .inv)
-    (c .in-byte .result) (c .before .loop-test .taken) (c .in-byte .ensures)
+small c = size-small (c .before .before .loop .inv) (c .before .loop-test .taken) (c .in-byte .result) (c .in-byte .ensures)
 
 add-end : tie.Need-add-end Inv-loop μ-loop
 add-end c = omega (arith, small c .2)
@@ -62,10 +58,8 @@ pack-byte-requires c κs =
 
 slice-write-sheet : tie.Need-slice-write-sheet Inv-loop μ-loop
 slice-write-sheet c =
-    let s = c .before .before .before .before .before .before .before .before in
-    let l = c .before .before .before .before .loop in
-    pack-room (flagAt (s .args .which) (s .args .column) (s .args .rows .now)) (s .args .cursors .now) (s .args .sheet .now) (s .args .at) (l .sheet) (l .place) (l .base) (l .inv)
-    (c .before .before .in-byte .result) (c .before .before .before .loop-test .taken) (c .before .before .in-byte .ensures) (s .pre .1 .1)
+    let k = c .before .before .in-byte in
+    pack-room (c .before .before .before .before .loop .inv) (c .before .before .before .loop-test .taken) (k .result) (k .ensures) (c .before .before .before .before .before .before .before .before .pre .1 .1)
 
 add-place : tie.Need-add-place Inv-loop μ-loop
 add-place c = omega (arith, slice-write-sheet c)
@@ -75,20 +69,14 @@ loop-less c = omega (arith, small (c .before .before) .0, small (c .before .befo
 
 loop-again : tie.Need-loop-again Inv-loop μ-loop
 loop-again c =
-    let s = c .before .before .before .before .before .before .before .before in
-    let l = c .before .before .before .before .loop in
-    pack-more (flagAt (s .args .which) (s .args .column) (s .args .rows .now)) (s .args .cursors .now) (s .args .sheet .now) (s .args .at) (l .sheet) (l .place) (l .base) (l .inv)
-    (c .before .before .in-byte .result) (c .before .before .before .loop-test .taken) (c .before .before .in-byte .ensures) (c .pack-byte .result) (c .pack-byte .ensures)
+    let k = c .before .before .in-byte in
+    pack-more (c .before .before .before .before .loop .inv) (c .before .before .before .loop-test .taken) (k .result) (k .ensures) (c .pack-byte .result) (c .pack-byte .ensures)
 
 same-length : tie.Need-same-length Inv-loop μ-loop
 same-length c = c .before .loop .inv .wrote .same
 
 returns : tie.Need-returns Inv-loop μ-loop
-returns c =
-    let s = c .before .before .before .before .before in
-    let l = c .before .loop in
-    pack-end (flagAt (s .args .which) (s .args .column) (s .args .rows .now)) (s .args .cursors .now) (s .args .sheet .now) (s .args .at) (l .sheet) (l .place) (l .base) (l .inv)
-    (c .loop-test .left)
+returns c = pack-end (c .before .loop .inv) (c .loop-test .left)
 
 pub pack-spec : {M : Type 1} → statement M
 pack-spec =

@@ -28,7 +28,7 @@ slice-read-cursors c = omega arith
 add-cursors : tie.Need-add-cursors Inv-loop μ-loop
 add-cursors c =
     let l = c .before .before .loop in
-    omega (arith, fill-at _ _ _ _ (l .inv) (c .before .loop-test .taken), c .before .before .before .pre (l .r) (omega arith))
+    omega (arith, fill-at (l .inv) (c .before .loop-test .taken), c .before .before .before .pre (l .r) (omega arith))
 
 slice-write-cursors : tie.Need-slice-write-cursors Inv-loop μ-loop
 slice-write-cursors c = omega arith
@@ -44,14 +44,14 @@ loop-again c =
     let a = c .before .before .before .args in
     let l = c .before .before .loop in
     let h = c .before .loop-test .taken in
-    fill-more _ _ _ _ (l .inv) _ h
-    (ap (λ p. p + a .by) (fill-at _ _ _ _ (l .inv) h) ∙ sym (at-map (λ p. p + a .by) (a .cursors .now) (l .r) 0 0 (omega arith)))
+    fill-more (l .inv) h _
+    (ap (λ p. p + a .by) (fill-at (l .inv) h) ∙ sym (at-map (λ p. p + a .by) (a .cursors .now) (l .r) 0 0 (omega arith)))
 
 same-length : tie.Need-same-length Inv-loop μ-loop
 same-length c = c .before .loop .inv .long
 
 returns : tie.Need-returns Inv-loop μ-loop
-returns c = fill-end _ _ _ _ (c .before .loop .inv) (c .loop-test .left)
+returns c = fill-end (c .before .loop .inv) (c .loop-test .left)
 
 pub advance-spec : {M : Type 1} → statement M
 advance-spec =

@@ -2,25 +2,23 @@
 -- their cursors moved. Assumes nothing.
 use borrow.Author.Needs.{needs}
 use Prim.Native.Nat.{ℕ, _+_, _-_, _<_, _≤_}
-use mathlib.Core.Path.{_≡_, sym, ap, _∙_}
+use mathlib.Core.Path.{sym, _∙_}
 use native.Mathlib.Omega.{arith}
 use borrow.Rule.Slice.PartAt.{part-to-end}
 use lib.ListN.{length, getD, drop, length-drop}
-use Rattle.format.specs.declared.Column.{Column}
 use Rattle.format.specs.Kinds.{columnShape, valueBytes}
 use Rattle.format.specs.Cleared.{fixedSlot}
 use Rattle.format.specs.Read.{Good}
 use Rattle.laws.proofs.Bytes.{bytes-of, bytes-drop}
-use Rattle.sheet_writer.specs.Cursors.{fieldAt, slotAt, nextAt}
+use Rattle.sheet_writer.specs.Cursors.{fieldAt}
 use Rattle.sheet_writer.proofs.Lead.{inside, Whole, whole}
-use Rattle.sheet_writer.proofs.Moving.{Moving, move-start, move-such, move-room, move-more, move-end}
+use Rattle.sheet_writer.proofs.Moving.{Moving, move-start, move-readable, move-room, move-more, move-end}
 use Rattle.sheet_writer.proofs.values.move_values.Statement.{statement}
 use Rattle.sheet_writer.proofs.values.move_values.Tie as tie
 
 abbrev Inv-loop : tie.InvT-loop
 Inv-loop rows cursors₀ sheet₀ at kind options w place₀ r₀ cursors sheet place r =
-    let column : Column = record { kind = kind; options = options } in
-    Moving (slotAt column rows) (fixedSlot (valueBytes kind)) (nextAt column rows) cursors₀ sheet₀ at cursors sheet place r
+    Moving (record { kind = kind; options = options }) rows (fixedSlot (valueBytes kind)) cursors₀ sheet₀ at cursors sheet place r
 
 abbrev μ-loop : tie.MeasureT-loop
 μ-loop rows cursors₀ sheet₀ at kind options w place₀ r₀ cursors sheet place r = length cursors₀ - r
@@ -49,10 +47,7 @@ module _ (c : tie.In-loop Inv-loop μ-loop) where
   p = getD (l .loop .cursors) (l .loop .r) 0
 
   readable : Good (fieldAt (s .args .column) (s .args .rows .now) p)
-  readable =
-      move-such (slotAt (s .args .column) (s .args .rows .now)) (fixedSlot (valueBytes (s .args .column .kind))) (nextAt (s .args .column) (s .args .rows .now)) (s .args .cursors .now)
-      (s .args .sheet .now) (s .args .at) (l .loop .cursors) (l .loop .sheet) (l .loop .place) (l .loop .r) (l .loop .inv)
-      (λ q. Good (fieldAt (s .args .column) (s .args .rows .now) q)) (s .pre .1 .0) (c .loop-test .taken)
+  readable = move-readable (l .loop .inv) (c .loop-test .taken) (s .pre .1 .0)
 
   within : p < length (s .args .rows .now)
   within = inside (s .args .column) (s .args .rows .now) p readable
@@ -63,10 +58,7 @@ module _ (c : tie.In-loop Inv-loop μ-loop) where
       (bytes-drop p (s .args .rows .now) (bytes-of (s .args .rows .now) (λ i. c .before .before .before .before .before .before .shared-slice-known .given i .fits))) readable
 
   room : l .loop .place + valueBytes (s .args .column .kind) ≤ length (l .loop .sheet)
-  room =
-      rw (all .slot-is) at
-      (move-room (slotAt (s .args .column) (s .args .rows .now)) (fixedSlot (valueBytes (s .args .column .kind))) (nextAt (s .args .column) (s .args .rows .now)) (s .args .cursors .now)
-      (s .args .sheet .now) (s .args .at) (l .loop .cursors) (l .loop .sheet) (l .loop .place) (l .loop .r) (l .loop .inv) (c .loop-test .taken) (s .pre .1 .1))
+  room = rw (all .slot-is) at (move-room (l .loop .inv) (c .loop-test .taken) (s .pre .1 .1))
 
 sub-decode : tie.Need-sub-decode Inv-loop μ-loop
 sub-decode c = omega (arith, within (c .before))
@@ -112,9 +104,7 @@ loop-again c =
     let t = c .before .before .before .before .before .before in
     let w = c .before .before .before .before .before .before .before .before .width in
     rw (c .before .before .decode .ensures, part-to-end (s t .args .rows .now) (p t))
-    (move-more (slotAt (s t .args .column) (s t .args .rows .now)) (fixedSlot (valueBytes (s t .args .column .kind))) (nextAt (s t .args .column) (s t .args .rows .now)) (s t .args .cursors .now)
-    (s t .args .sheet .now) (s t .args .at) (l t .loop .cursors) (l t .loop .sheet) (l t .loop .place) (l t .loop .r) (l t .loop .inv)
-    (w .result) (p t + 1 + w .result) (t .loop-test .taken) (all t .slot-is ∙ sym (w .ensures)) (omega (arith, w .ensures, all t .field-long)))
+    (move-more (l t .loop .inv) (t .loop-test .taken) (w .result) (p t + 1 + w .result) (all t .slot-is ∙ sym (w .ensures)) (omega (arith, w .ensures, all t .field-long)))
 
 same-length : tie.Need-same-length Inv-loop μ-loop
 same-length c = c .before .loop .inv .moved .long
@@ -123,12 +113,7 @@ same-length-2 : tie.Need-same-length-2 Inv-loop μ-loop
 same-length-2 c = c .before .loop .inv .wrote .1 .same
 
 returns : tie.Need-returns Inv-loop μ-loop
-returns c =
-    let a = c .before .before .before .before .before .before .before .args in
-    let k = c .before .loop in
-    let e = move-end (slotAt (a .column) (a .rows .now)) (fixedSlot (valueBytes (a .column .kind))) (nextAt (a .column) (a .rows .now)) (a .cursors .now)
-    (a .sheet .now) (a .at) (k .cursors) (k .sheet) (k .place) (k .r) (k .inv) (c .loop-test .left) in
-    (e .0, (e .1, e .2))
+returns c = move-end (c .before .loop .inv) (c .loop-test .left)
 
 pub move-values-spec : {M : Type 1} → statement M
 move-values-spec =
