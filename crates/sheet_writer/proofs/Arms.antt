@@ -11,7 +11,7 @@ use Rattle.format.specs.declared.Kind.the-variants.{Bool, I8, I16, I32, I64, U8
 use Rattle.format.specs.Lists.{each}
 use Rattle.format.specs.Kinds.{Fixed, bool, plain, number, integer, float, parts, fixed, shape, width, valueBytes}
 use Rattle.format.specs.Sheet.{layoutFor, wide}
-use Rattle.sheet_writer.specs.Standin.{WideKind}
+use Rattle.fixed.specs.Wide.{WideKind}
 
 abbrev isBool : Fixed → Flag
 isBool bool = true

@@ -9,8 +9,8 @@ ghost use Rattle.format.specs.Sheet.{packed};
 ghost use Rattle.format.specs.Cleared.{byteOf};
 ghost use Rattle.format.specs.Read.{Good, readField, slotRead};
 ghost use Rattle.sheet_writer.specs.Cursors.{Readable, Flagged, flagOf, flagAt, flagsAt, inByte};
-use crate::standin::decode_boolean;
 use bits::put_bit;
+use fixed::decode_boolean;
 use format::Column;
 use format::null_sentinel;
 

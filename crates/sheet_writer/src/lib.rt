@@ -4,7 +4,6 @@
 mod columns;
 mod ended;
 mod flags;
-mod standin;
 mod values;
 
 pub use columns::write_sheet;

@@ -4,9 +4,9 @@ ghost use mathlib.Core.List.{map};
 ghost use Prim.Native.Nat.{ℕ, _+_, _^_, _<_, _≤_};
 ghost use lib.ListN.{length, getD};
 ghost use lib.Seq.{sets};
+ghost use Rattle.fixed.specs.Wide.{WideKind};
 ghost use Rattle.sheet_writer.specs.Cursors.{Readable, nextsAt, valuesAt};
-ghost use Rattle.sheet_writer.specs.Standin.{WideKind};
-use crate::standin::decode;
+use fixed::decode;
 use format::Column;
 use format::width;
 
