@@ -126,9 +126,10 @@ module _ (c : tie.After-enum-told2) where
 write-ends-requires : tie.Need-write-ends-requires
 write-ends-requires c κs =
     let u = c .before .before in
-    let t = s (v u) in
-    (t .pre .0,
-    (ended-readable (t .args .column) (rows t) (cursors t) (u .enum-told2 .given .1) (t .pre .1 .0), walk-room (flagged (v u)) (ends u) (bytes u) (ends-left u) (t .pre .1 .1)))
+    let t = s (v u) in (
+      t .pre .0,
+      (ended-readable (t .args .column) (rows t) (cursors t) (u .enum-told2 .given .1) (t .pre .1 .0), walk-room (flagged (v u)) (ends u) (bytes u) (ends-left u) (t .pre .1 .1)),
+    )
 
 module _ (c : tie.After-write-ends) where
   abbrev w : tie.After-enum-told2

@@ -61,9 +61,10 @@ array-copy-out-column c = omega (arith, s c .pre .0 .few)
 
 write-column-requires : tie.Need-write-column-requires Inv-loop μ-loop
 write-column-requires c κs =
-    let t = c .before .before .before in
-    (omega (arith, l t .loop .inv .many, s t .pre .1 .0),
-    (stand-here (l t .loop .inv) (row-bytes t) (col t) (rest t), stand-room (l t .loop .inv) (row-bytes t) (col t) (rest t) (s t .pre .1 .1 .1)))
+    let t = c .before .before .before in (
+      omega (arith, l t .loop .inv .many, s t .pre .1 .0),
+      (stand-here (l t .loop .inv) (row-bytes t) (col t) (rest t), stand-room (l t .loop .inv) (row-bytes t) (col t) (rest t) (s t .pre .1 .1 .1)),
+    )
 
 add-c : tie.Need-add-c Inv-loop μ-loop
 add-c c = omega arith
