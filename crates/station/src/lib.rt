@@ -1,2 +1,4 @@
-// The row station: the public entries, and the walks that they are made of, a module each.
+// The row station: the public entries, a module each.
 pub mod compare;
+pub mod list;
+pub mod measure;
