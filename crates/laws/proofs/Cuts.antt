@@ -100,7 +100,7 @@ cut-bytes n bytes offsets b = every-each Bytes 0 n (rowBytes bytes offsets) (λ 
 
 module _ (n : ℕ) (bytes offsets : List ℕ) (c : Cuts n bytes offsets) where
   -- no offset is past the last
-  below-last : (d i : ℕ) → i + d ≡ n → getD offsets i 0 ≤ getD offsets n 0
+  pub below-last : (d i : ℕ) → i + d ≡ n → getD offsets i 0 ≤ getD offsets n 0
   below-last zero i e = subst (λ (m : ℕ). getD offsets i 0 ≤ getD offsets m 0) (let q : i ≡ n = omega arith in q) (omega arith)
   below-last (suc d) i e = omega (arith, c .rising i (omega arith), below-last d (suc i) (omega arith))
 

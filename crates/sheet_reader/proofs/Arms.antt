@@ -1,6 +1,7 @@
--- The last arm of a match on a kind: fixed values of so many bytes each. Assumes nothing.
+-- A match on a kind: what is said of the layout in the arms of bool and of variable bytes, and in the last one, fixed values of
+-- so many bytes each. Assumes nothing.
 use Prim.Native.Nat.{ℕ, _+_}
-use mathlib.Core.Path.{_≡_, refl}
+use mathlib.Core.Path.{_≡_, refl, ap, sym}
 use mathlib.Core.List.{List}
 use types.Run.{OneOf, miss}
 use denote.Enum.Declared.{tagOf}
@@ -10,9 +11,13 @@ use Rattle.format.specs.declared.Kind.the-variants.{Bool, I8, I16, I32, I64, U8
 use Rattle.format.specs.Lists.{each}
 use Rattle.format.specs.Kinds.{Slot, shape, valueBytes}
 use Rattle.format.specs.Field.{fieldLength}
-use Rattle.format.specs.Sheet.{layoutFor, wide}
+use Rattle.format.specs.Sheet.{Layout, layoutFor, wide}
 
--- after the arms of bool and of variable bytes, the kinds of the arm by their place: bool is 0, and variable bytes are 15
+-- what f says of the layout of the kind k that was matched, it says of the kind's
+pub told : {A : Type 0} (f : Layout → A) {kind k : Kind} → kind ≡ k → f (layoutFor (shape k)) ≡ f (layoutFor (shape kind))
+told f e = ap (λ (x : Kind). f (layoutFor (shape x))) (sym e)
+
+-- the kinds of the last arm after those two, by their place: bool is 0, and variable bytes are 15
 abbrev pub fixedKeys : List ℕ
 fixedKeys = each 1 14 (λ k. k)
 
@@ -34,7 +39,7 @@ fixed-arm MonthDayNano h = refl
 fixed-arm (FixedBinary w) h = refl
 fixed-arm Variable h = absurd (miss fixedKeys 15 tt h)
 
--- after the arm of variable bytes alone
+-- and after the arm of variable bytes alone
 abbrev pub allKeys : List ℕ
 allKeys = each 0 15 (λ k. k)
 

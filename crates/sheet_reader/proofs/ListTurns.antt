@@ -1,17 +1,14 @@
 -- The loop of `read_list`: what holds at its head, and what each way out of a turn gives. Assumes nothing.
 use Prim.Native.Nat.{ℕ, zero, suc, _+_, _-_, _<_, _≤_}
 use mathlib.Core.Path.{_≡_, refl, sym, ap, ap₂, _∙_}
-use mathlib.Core.Bool.{true, false}
-use mathlib.Core.List.{List, [], _∷_, _++_, append-assoc, append-nil}
+use mathlib.Core.List.{List, [], _∷_, _++_, append-nil}
 use native.Mathlib.Omega.{arith}
 use lib.ListN.{length, getD, set, replicate, length-append}
 use lib.Seq.{set-at, append-snoc}
 use borrow.Author.Tests.{ne-eqb, eq-eqb, lt-ltb, le-ltb}
 use Rattle.format.specs.declared.Column.{Column}
-use Rattle.format.specs.declared.Schema.{Schema}
 use Rattle.format.specs.declared.Refusal.{Refusal}
 use Rattle.format.specs.declared.Refusal.the-variants.{ListCut, ManyColumns}
-use Rattle.format.specs.declared.Check.{Check}
 use Rattle.format.specs.declared.Check.the-variants.{Pass, Refuse}
 use Rattle.format.specs.Limits.{maxColumns}
 use Rattle.format.specs.Columns.{descriptionBytes, columnAt, descriptionFault, listFaultFrom, columnsFrom, listFault, columns}
@@ -84,7 +81,7 @@ more s array count at col size t h left e is wide = step (t .room) (t .read) (t 
               ∙ rw (wide, is, ← columns-next room s at h) says;
         }
 
--- the first fault of the list is the refusal r, and so it was answered
+-- the refusal x is the first fault of the list, and so it was answered
 refused : (s : List ℕ) (r : Listed) (x : Refusal) → r .check ≡ Refuse x → listFault s ≡ Refuse x → ListedAs s r
 refused s r x e f = record { check = e ∙ sym f; schema = λ p. absurd (refuse-pass (sym f ∙ p)) }
 

@@ -8,6 +8,7 @@ use native.Mathlib.Numerals.{add-one}
 use native.Mathlib.Omega.{arith}
 use lib.ListN.{length, getD, take, drop, length-drop}
 use lib.Seq.{length-take-le}
+use Rattle.format.specs.declared.Kind.the-variants.{Variable}
 use Rattle.format.specs.declared.Column.{Column}
 use Rattle.format.specs.declared.Check.the-variants.{Pass}
 use Rattle.format.specs.Limits.{maxSlot}
@@ -21,10 +22,10 @@ use Rattle.bits.proofs.Nulls.{bits-passed}
 use Rattle.laws.proofs.Lists.{each-same}
 use Rattle.laws.proofs.Places.{place}
 use Rattle.laws.proofs.Sheets.{Ended, column-passed, variable-passed}
-use Rattle.laws.proofs.Totals.{columnTotal, total-is}
+use Rattle.laws.proofs.Totals.{columnTotal, maxField, total-is, total-most}
 use Rattle.sheet_reader.specs.declared.sheet.Facts.{Facts}
 use Rattle.sheet_reader.specs.Sheets.{noFacts, Known}
-use Rattle.sheet_reader.specs.Measures.{Passed, variableLength}
+use Rattle.sheet_reader.specs.Measures.{Passed, variableLength, variableTotal}
 
 -- ---- variable bytes
 
@@ -67,6 +68,10 @@ module _ (n : ℕ) (s : List ℕ) (p : Passed ended n s) where
         let next : b ≡ end (drop (packed n) s) (suc r) = g ∙ ap (end (drop (packed n) s)) (add-one r) in
         let step = ends .step r l in
         (omega arith, omega arith)
+
+-- the fields of n rows fit
+pub variable-most : (n : ℕ) (s : List ℕ) → Bytes s → Passed ended n s → variableTotal n s ≤ n * maxField
+variable-most n s b p = total-most (record { kind = Variable; options = noColumn .options }) n (p .c) s b (p .passes) (omega arith)
 
 -- ---- fields of one length
 pub sum-same : (f : ℕ → ℕ) (b i k : ℕ) → ((j : ℕ) → f j ≡ b) → sum (each i k f) ≡ k * b

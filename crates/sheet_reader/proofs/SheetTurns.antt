@@ -1,30 +1,26 @@
 -- The loop of `check_sheet`: what holds at its head, and what each way out of a turn gives. Assumes nothing.
-use Prim.Native.Nat.{ℕ, zero, suc, _+_, _-_, _*_, _<_, _≤_}
-use mathlib.Core.Path.{_≡_, refl, sym, ap, ap₂, _∙_, subst}
-use mathlib.Core.Bool.{false}
+use Prim.Native.Nat.{ℕ, suc, _+_, _-_, _*_, _<_, _≤_}
+use mathlib.Core.Path.{_≡_, refl, sym, ap, _∙_}
 use mathlib.Core.List.{List, [], _∷_}
-use mathlib.Core.Logic.{_⊎_, inl, inr}
-use native.Mathlib.Nat.{add-assoc}
 use native.Mathlib.Numerals.{add-one}
 use native.Mathlib.Omega.{arith}
 use lib.ListN.{length, getD, set, drop, replicate, length-set, length-drop, drop-of-length-le}
-use lib.Seq.{drop-cons, drop-drop, getD-set-same, getD-set-other}
+use lib.Seq.{drop-cons}
 use borrow.Author.Tests.{lt-ltb, le-ltb}
 use Rattle.format.specs.declared.Column.{Column}
 use Rattle.format.specs.declared.Refusal.{Refusal}
 use Rattle.format.specs.declared.Refusal.the-variants.{BytesAfter}
 use Rattle.format.specs.declared.Check.the-variants.{Pass, Refuse}
 use Rattle.format.specs.Limits.{maxColumns, maxRows}
-use Rattle.format.specs.Kinds.{Slot}
 use Rattle.format.specs.Sheet.{layout, columnFault, columnBytes, columnSlots, nullsIn, sheetFaultFrom, sheetFault, sheetSlots, nulls}
 use Rattle.laws.proofs.Checks.{refuse-pass}
-use Rattle.laws.proofs.Compare.{choose}
+use Rattle.laws.proofs.Parts.{below-set}
 use Rattle.laws.proofs.Places.{place, place-next, past-column, column-stands}
 use Rattle.laws.proofs.Sheets.{column-room}
 use Rattle.sheet_reader.specs.declared.sheet.Facts.{Facts}
 use Rattle.sheet_reader.specs.declared.sheet.Sheeted.{Sheeted}
 use Rattle.format.specs.Schemas.{noColumn}
-use Rattle.sheet_reader.specs.Sheets.{noFacts, FactsOf, Known, SheetedAs}
+use Rattle.sheet_reader.specs.Sheets.{noFacts, Known, SheetedAs}
 
 -- ---- at the head of a turn: the columns before c pass, and column c stands at `at`
 pub record Turn (n : ℕ) (cols : List Column) (sheet : List ℕ) (facts : List Facts) (total at c : ℕ) : Type 0 where
@@ -51,17 +47,6 @@ start n cols sheet blank = record {
   columns = λ k l. absurd (omega arith);
   places = λ k l. absurd (omega arith);
 }
-
--- what holds below c and at c, of an element that is set at c
-below-set : {A : Type 0} (P : ℕ → A → Type 0) (xs : List A) (d x : A) (c : ℕ) → c < length xs → ((k : ℕ) → k < c → P k (getD xs k d)) → P c x
-    → (k : ℕ) → k < c + 1 → P k (getD (set xs c x) k d)
-below-set P xs d x c room before now k l = go (choose k c)
-  where
-    go : (k < c) ⊎ (c ≤ k) → P k (getD (set xs c x) k d)
-    go (inl m) = rw (getD-set-other xs c k x d (λ e. omega arith)) (before k m)
-    go (inr m) =
-        let e : c ≡ k = omega arith in
-        subst (λ (j : ℕ). P j (getD (set xs c x) j d)) e (rw (getD-set-same xs c x d room) now)
 
 -- ---- the ways on from the head of a turn
 
@@ -90,7 +75,7 @@ module _ (n : ℕ) (cols : List Column) (sheet : List ℕ) (facts : List Facts) 
 
     module _ (e : columnFault (layout col) n c part ≡ Pass) where
       -- the column ends within the sheet
-      pub fits : bytes ≤ length part
+      fits : bytes ≤ length part
       fits = column-room (layout col) n c part e
 
       past : drop bytes part ≡ drop (at + bytes) sheet

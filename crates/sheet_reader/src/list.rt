@@ -133,7 +133,7 @@ pub fn no_column() -> Column
 }
 
 // What was read, with the answer to it.
-fn answered(check: Check, columns: [Column; 16], count: usize) -> Listed
+fn answered(check: Check, columns: [Column; format::MAX_COLUMNS], count: usize) -> Listed
     ensures { λ r. ⌜ (r .check ≡ check) × (r .schema .columns ≡ columns) × (r .schema .count ≡ count) ⌝ }
 {
     let schema = Schema {

@@ -2,9 +2,8 @@
 ghost use mathlib.Core.Path.{_≡_};
 ghost use Prim.Native.Nat.{_*_, _<_, _≤_};
 ghost use Rattle.format.specs.declared.Check.the-variants.{Pass};
-ghost use Rattle.format.specs.Limits.{maxRows, maxSlot, maxWidth};
+ghost use Rattle.format.specs.Limits.{maxRows, maxWidth};
 ghost use Rattle.format.specs.Kinds.{valueBytes};
-ghost use Rattle.format.specs.Field.{paddedLength};
 ghost use Rattle.format.specs.Sheet.{ended, layout, sheetFault};
 ghost use Rattle.format.specs.Schemas.{colsOf, Limited};
 ghost use Rattle.format.specs.Entries.{sheetTotal};
@@ -17,34 +16,21 @@ use crate::sheet::packed;
 use format::Column;
 use format::Kind;
 use format::Schema;
+use variable::padded_length;
 
 // The field of a null of variable bytes: the null byte only.
 const NULL_LENGTH: u64 = 1;
-
-// The length of the field of a value of `len` bytes: blocks of 8 up to 32 bytes, and of 32 beyond.
-fn padded_length(len: usize) -> u64
-    requires { ⌜ len ≤ maxSlot ⌝ }
-    ensures { λ r. ⌜ r ≡ paddedLength len ⌝ }
-    ensures { λ r. ⌜ r ≤ maxField ⌝ }
-{
-    let bytes = len as u64;
-    if bytes <= 32 {
-        return 1 + 9 * ((bytes + 7) / 8);
-    }
-    4 + 33 * ((bytes + 31) / 32)
-}
 
 // The length of the field of a row in the column of variable bytes in front of the part: 1 for a null, and that of its value.
 fn variable_length(part: &[u8], n: usize, row: usize) -> u64
     requires { ⌜ (n ≤ maxRows) × (row < n) ⌝ }
     requires { ⌜ Passed ended n (now part) ⌝ }
     ensures { λ r. ⌜ r ≡ variableLength n (now (part .entry)) row ⌝ }
-    ensures { λ r. ⌜ r ≤ maxField ⌝ }
 {
     if bits::bit(part, row) {
         let valid = packed(n);
         let values = &part[valid..];
-        return padded_length(end_at(values, row + 1) - end_at(values, row));
+        return padded_length(end_at(values, row + 1) - end_at(values, row)) as u64;
     }
     NULL_LENGTH
 }
@@ -81,7 +67,12 @@ fn measure_column(column: Column, part: &[u8], n: usize) -> u64
 }
 
 // The total row bytes of a sheet whose columns are known by their facts.
-pub fn measure_sheet(schema: Schema, n: usize, sheet: &[u8], facts: [Facts; 16]) -> u64
+pub fn measure_sheet(
+    schema: Schema,
+    n: usize,
+    sheet: &[u8],
+    facts: [Facts; format::MAX_COLUMNS],
+) -> u64
     requires { ⌜ n ≤ maxRows ⌝ }
     requires { ⌜ Limited schema ⌝ }
     requires { ⌜ sheetFault n (colsOf schema) (now sheet) ≡ Pass ⌝ }

@@ -25,7 +25,7 @@ pub struct Facts {
 // What a sheet says: its first fault, and of one that has none the facts of each column and the null total.
 pub struct Sheeted {
     pub check: Check,
-    pub facts: [Facts; 16],
+    pub facts: [Facts; format::MAX_COLUMNS],
     pub nulls: u64,
 }
 
@@ -170,7 +170,7 @@ fn null_rows(part: &[u8], n: usize) -> u64
 }
 
 // What was found, with the answer to it.
-fn found(check: Check, facts: [Facts; 16], nulls: u64) -> Sheeted
+fn found(check: Check, facts: [Facts; format::MAX_COLUMNS], nulls: u64) -> Sheeted
     ensures { λ r. ⌜ (r .check ≡ check) × (r .facts ≡ facts) × (r .nulls ≡ nulls) ⌝ }
 {
     Sheeted {

@@ -2,3 +2,4 @@
 pub mod Alike
 pub mod Begun
 pub mod Measuring
+pub mod Encoding

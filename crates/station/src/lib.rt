@@ -1,4 +1,5 @@
 // The row station: the public entries, a module each.
 pub mod compare;
+pub mod encode;
 pub mod list;
 pub mod measure;

@@ -17,7 +17,7 @@ use sheet_reader::sheet::check_sheet;
 pub struct Measuring {
     pub check: Check,
     pub schema: Schema,
-    pub facts: [Facts; 16],
+    pub facts: [Facts; format::MAX_COLUMNS],
     pub total: u64,
     pub nulls: u64,
 }

@@ -2,7 +2,6 @@
 -- Assumes nothing.
 use borrow.Author.Needs.{needs}
 use borrow.Author.Tests.{lt-ltb, le-ltb}
-use native.Mathlib.Omega.{arith}
 use Rattle.sheet_reader.proofs.list.check_description.Statement.{statement}
 use Rattle.sheet_reader.proofs.list.check_description.Tie as tie
 

@@ -1,8 +1,8 @@
 -- `sheet_reader::list::read_list` meets its contract. The invariant: what was read, with what the definitions say from here on, is
 -- what they say of the whole list. The measure is the room for columns. Assumes nothing.
 use borrow.Author.Needs.{needs}
-use Prim.Native.Nat.{_-_, _≤_}
-use mathlib.Core.Path.{_≡_, sym, _∙_}
+use Prim.Native.Nat.{_-_}
+use mathlib.Core.Path.{sym, _∙_}
 use native.Mathlib.Omega.{arith}
 use Rattle.format.specs.Limits.{maxColumns}
 use Rattle.laws.proofs.Columns.{description-passed}

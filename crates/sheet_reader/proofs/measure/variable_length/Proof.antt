@@ -62,12 +62,12 @@ returns : tie.Need-returns
 returns c =
     let y = start (c .before) in
     let t = c .before .before .before .before .before in
-    (c .padded-length .ensures .0 ∙ value-length _ _ (y .pre .1) _ (y .pre .0 .1) (sym (t .before .bit .ensures) ∙ t .if1 .taken) _ _ (from (c .before)) (to (c .before)), c .padded-length .ensures .1)
+    c .padded-length .ensures ∙ value-length _ _ (y .pre .1) _ (y .pre .0 .1) (sym (t .before .bit .ensures) ∙ t .if1 .taken) _ _ (from (c .before)) (to (c .before))
 
 returns-2 : tie.Need-returns-2
 returns-2 c =
     let y = c .before .before .before in
-    (null-length _ _ (y .pre .1) _ (y .pre .0 .1) (sym (c .before .bit .ensures) ∙ c .if1 .left), omega arith)
+    null-length _ _ (y .pre .1) _ (y .pre .0 .1) (sym (c .before .bit .ensures) ∙ c .if1 .left)
 
 pub variable-length-spec : {M : Type 1} → statement M
 variable-length-spec =

@@ -1,6 +1,5 @@
 -- `sheet_reader::sheet::check_ends` meets its contract. The invariant: the rows so far pass, and the last end is known. The measure
 -- is the rows left. Assumes nothing.
-use borrow.Author.Needs.{needs}
 use Prim.Native.Nat.{_-_}
 use native.Mathlib.Omega.{arith}
 use Rattle.sheet_reader.proofs.EndTurns.{Turn, start, done, falls, long, more}

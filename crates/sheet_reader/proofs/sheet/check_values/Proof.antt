@@ -2,20 +2,18 @@
 -- takes. Assumes nothing.
 use borrow.Author.Needs.{needs}
 use borrow.Author.Tests.{lt-ltb, le-ltb}
-use Prim.Native.Nat.{ℕ, _*_, _<_, _≤_, _^_}
-use mathlib.Core.Path.{_≡_, sym, ap, _∙_}
+use Prim.Native.Nat.{ℕ, _*_, _<_, _≤_}
+use mathlib.Core.Path.{_≡_, _∙_}
 use mathlib.Core.List.{List}
 use native.Mathlib.Nat.{mul-le-mul, lt-of-le-of-lt}
 use lib.Dec.{lit<}
 use lib.ListN.{length}
 use Rattle.format.specs.declared.Kind.{Kind}
 use Rattle.format.specs.declared.Refusal.the-variants.{ColumnCut}
-use Rattle.format.specs.declared.Check.{Check}
 use Rattle.format.specs.declared.Check.the-variants.{Pass, Refuse}
-use Rattle.format.specs.Limits.{maxRows, maxWidth}
 use Rattle.format.specs.Kinds.{shape, valueBytes}
 use Rattle.format.specs.Sheet.{Layout, layoutFor, wide, valuesFault}
-use Rattle.sheet_reader.proofs.Arms.{fixed-arm}
+use Rattle.sheet_reader.proofs.Arms.{told, fixed-arm}
 use Rattle.sheet_reader.proofs.sheet.check_values.Statement.{statement}
 use Rattle.sheet_reader.proofs.sheet.check_values.Tie as tie
 
@@ -37,19 +35,15 @@ returns c =
     let a = c .before .before .before .before .args in
     cut (a .kind) _ _ _ (a .part .now) (c .before .width .ensures) (fixed-arm (a .kind) (c .before .before .match .keys3)) (c .if1 .taken)
 
--- the kind that was matched
-told : {kind k : Kind} (n c : ℕ) (s : List ℕ) → kind ≡ k → valuesFault (layoutFor (shape k)) n c s ≡ valuesFault (layoutFor (shape kind)) n c s
-told n c s e = ap (λ (k : Kind). valuesFault (layoutFor (shape k)) n c s) (sym e)
-
 returns-2 : tie.Need-returns-2
 returns-2 c =
     let a = c .before .before .before .before .args in
-    c .check-bits .ensures ∙ told (a .n) (a .c) (a .part .now) (c .before .enum-told .given .1)
+    c .check-bits .ensures ∙ told (λ (ly : Layout). valuesFault ly (a .n) (a .c) (a .part .now)) (c .before .enum-told .given .1)
 
 returns-3 : tie.Need-returns-3
 returns-3 c =
     let a = c .before .before .before .before .args in
-    c .check-variable .ensures ∙ told (a .n) (a .c) (a .part .now) (c .before .enum-told2 .given .1)
+    c .check-variable .ensures ∙ told (λ (ly : Layout). valuesFault ly (a .n) (a .c) (a .part .now)) (c .before .enum-told2 .given .1)
 
 returns-4 : tie.Need-returns-4
 returns-4 c =

@@ -3,14 +3,13 @@
 use borrow.Author.Needs.{needs}
 use borrow.Author.Tests.{le-ltb}
 use Prim.Native.Nat.{ℕ, _+_, _-_, _<_, _≤_}
-use mathlib.Core.Path.{_≡_, sym, ap, _∙_}
+use mathlib.Core.Path.{_≡_, sym}
 use mathlib.Core.Bool.{false}
 use mathlib.Core.List.{List}
 use native.Mathlib.Omega.{arith}
 use lib.ListN.{length, getD, take}
 use lib.Seq.{length-take-le}
 use Rattle.format.specs.declared.Check.the-variants.{Pass}
-use Rattle.format.specs.Lists.{Bytes}
 use Rattle.format.specs.Sheet.{Layout, bits, packed, spareSet, bitsFault, columnSlots, nullsIn}
 use Rattle.bits.specs.Ones.{onesIn}
 use Rattle.bits.proofs.Nulls.{column-nulls}

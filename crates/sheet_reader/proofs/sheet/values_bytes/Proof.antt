@@ -1,22 +1,16 @@
 -- `sheet_reader::sheet::values_bytes` meets its contract: each arm is the definition's case for the layout of the kinds that it takes.
 -- Assumes nothing.
 use borrow.Author.Needs.{needs}
-use Prim.Native.Nat.{ℕ, suc, _+_, _*_, _≤_}
-use mathlib.Core.Path.{_≡_, sym, ap, _∙_}
-use mathlib.Core.List.{List}
+use Prim.Native.Nat.{suc, _+_, _*_, _≤_}
+use mathlib.Core.Path.{_∙_}
 use native.Mathlib.Numerals.{add-one}
 use native.Mathlib.Omega.{arith}
 use lib.ListN.{length}
-use Rattle.format.specs.declared.Kind.{Kind}
-use Rattle.format.specs.Kinds.{shape, valueBytes}
-use Rattle.format.specs.Sheet.{Layout, layoutFor, valuesBytes, end}
-use Rattle.sheet_reader.proofs.Arms.{fixed-arm}
+use Rattle.format.specs.Kinds.{valueBytes}
+use Rattle.format.specs.Sheet.{Layout, valuesBytes, end}
+use Rattle.sheet_reader.proofs.Arms.{told, fixed-arm}
 use Rattle.sheet_reader.proofs.sheet.values_bytes.Statement.{statement}
 use Rattle.sheet_reader.proofs.sheet.values_bytes.Tie as tie
-
--- the kind that was matched
-told : {kind k : Kind} (n : ℕ) (s : List ℕ) → kind ≡ k → valuesBytes (layoutFor (shape k)) n s ≡ valuesBytes (layoutFor (shape kind)) n s
-told n s e = ap (λ (k : Kind). valuesBytes (layoutFor (shape k)) n s) (sym e)
 
 end-at-requires : tie.Need-end-at-requires
 end-at-requires c κs =
@@ -33,12 +27,12 @@ mul-result-2 c =
 returns : tie.Need-returns
 returns c =
     let a = c .before .before .before .before .args in
-    c .packed .ensures .0 ∙ told (a .n) (a .part .now) (c .before .enum-told .given .1)
+    c .packed .ensures .0 ∙ told (λ (ly : Layout). valuesBytes ly (a .n) (a .part .now)) (c .before .enum-told .given .1)
 
 returns-2 : tie.Need-returns-2
 returns-2 c =
     let a = c .before .before .before .before .args in
-    rw (add-one, c .end-at .ensures .0) (told (a .n) (a .part .now) (c .before .enum-told2 .given .1))
+    rw (add-one, c .end-at .ensures .0) (told (λ (ly : Layout). valuesBytes ly (a .n) (a .part .now)) (c .before .enum-told2 .given .1))
 
 returns-3 : tie.Need-returns-3
 returns-3 c =

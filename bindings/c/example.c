@@ -1,0 +1,59 @@
+/* Two rows of a catalogue of glyphs: plate (u32), glyph name (variable bytes), position (f64), exposure
+ * (months, days, nanoseconds). Encodes them, prints each row in hex, compares the two, decodes them again.
+ *
+ *   cc -I include bindings/c/example.c target/staticlib/libstation_c.a -o example && ./example
+ */
+#include <inttypes.h>
+#include <stdio.h>
+#include <string.h>
+
+#include "station.h"
+
+/* Kinds 8, 16, 12 and 14: ascending, nulls first. */
+static const uint8_t LIST[] = {8, 2, 16, 2, 12, 2, 14, 2};
+
+/* Row 0: plate 7, "ae", 1.5, 0 months, 0 days, 250 ns. Row 1: plate 7, no name, -2.0, 0 months, 1 day, 0 ns. */
+static const uint8_t SHEET[] = {
+    0x03, 7, 0, 0, 0, 7, 0, 0, 0,
+    0x01, 0, 0, 0, 0, 2, 0, 0, 0, 2, 0, 0, 0, 'a', 'e',
+    0x03, 0, 0, 0, 0, 0, 0, 0xF8, 0x3F, 0, 0, 0, 0, 0, 0, 0, 0xC0,
+    0x03, 0, 0, 0, 0, 0, 0, 0, 0, 250, 0, 0, 0, 0, 0, 0, 0,
+          0, 0, 0, 0, 1, 0, 0, 0, 0, 0, 0, 0, 0, 0, 0, 0,
+};
+
+/* Number i of bytes that hold eight a number, low byte first. */
+static uint64_t number(const uint8_t *bytes, size_t i) {
+    uint64_t value = 0;
+    for (size_t k = 8; k > 0; k--) value = value << 8 | bytes[8 * i + k - 1];
+    return value;
+}
+
+/* Whether the call was done; says what was refused if not. */
+static int done(const char *call, const uint8_t *answer) {
+    if (number(answer, 0) == 0) return 1;
+    printf("%s: refused %" PRIu64 " %" PRIu64 " %" PRIu64 "\n", call, number(answer, 0), number(answer, 1),
+           number(answer, 2));
+    return 0;
+}
+
+int main(void) {
+    uint8_t rows[128], offsets[3 * 8], sheet[sizeof SHEET], answer[STATION_ANSWER_BYTES];
+
+    station_encode(LIST, sizeof LIST, 2, SHEET, sizeof SHEET, rows, sizeof rows, offsets, sizeof offsets, answer,
+                   sizeof answer);
+    if (!done("encode", answer)) return 1;
+
+    for (size_t row = 0; row < 2; row++) {
+        for (uint64_t i = number(offsets, row); i < number(offsets, row + 1); i++) printf("%02x", rows[i]);
+        printf("\n");
+    }
+    uint64_t middle = number(offsets, 1), end = number(offsets, 2);
+    printf("compare: %d\n", station_compare(rows, middle, rows + middle, end - middle));
+
+    station_decode(LIST, sizeof LIST, 2, rows, end, offsets, sizeof offsets, sheet, sizeof sheet, answer,
+                   sizeof answer);
+    if (!done("decode", answer)) return 1;
+    int same = number(answer, 1) == sizeof SHEET && memcmp(sheet, SHEET, sizeof SHEET) == 0;
+    printf("decoded: %s\n", same ? "the same sheet" : "another sheet");
+    return same ? 0 : 1;
+}

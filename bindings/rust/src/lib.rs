@@ -1,0 +1,308 @@
+//! Safe bindings to the row station: sheets of columns to sortable rows, and back.
+//!
+//! A **column list** says what the columns are, two bytes each (kind, options), four for fixed
+//! binary (kind, options, width low byte first). A **sheet** holds the columns one after another:
+//! validity bits, then values. A **row** is a byte string; comparing two rows byte by byte orders
+//! them as their values are ordered. Every entry checks what it is given and answers either
+//! [`Done`] or a [`Refusal`] with three numbers; a refusal leaves every buffer as it was.
+//!
+//! ```
+//! // One column of i32, nulls first; two rows: 1 and null.
+//! let list = [4, 0b10];
+//! let sheet = [0b01, 1, 0, 0, 0, 0, 0, 0, 0];
+//!
+//! let rows = station::encode_to_vec(&list, 2, &sheet)?;
+//! assert_eq!(rows.row(0), [0x01, 0x80, 0x00, 0x00, 0x01]);
+//! assert_eq!(rows.row(1), [0x00, 0x00, 0x00, 0x00, 0x00]);
+//! assert_eq!(rows.nulls, 1);
+//! assert!(station::compare(rows.row(1), rows.row(0)).is_lt());
+//!
+//! let back = station::decode_to_vec(&list, 2, &rows.bytes, &rows.offsets)?;
+//! assert_eq!(back, sheet);
+//! # Ok::<(), station::Refusal>(())
+//! ```
+
+#[cfg(not(all(target_arch = "x86_64", target_endian = "little")))]
+compile_error!("the station's archive is made for x86-64");
+
+mod refusal;
+
+pub use refusal::Refusal;
+use std::cmp::Ordering;
+
+/// The C entries as they stand in the archive, for callers that lend bytes themselves.
+///
+/// A slice is a pointer and a length. Offsets and the answer are bytes, eight a number, low byte
+/// first; `include/station.h` gives the layout of every argument.
+pub mod raw {
+    extern "C" {
+        /// Checks a column list.
+        pub fn station_check_list(
+            list: *const u8,
+            list_len: usize,
+            answer: *mut u8,
+            answer_len: usize,
+        );
+        /// Checks list and sheet and counts the bytes of the rows.
+        pub fn station_measure(
+            list: *const u8,
+            list_len: usize,
+            n: u64,
+            sheet: *const u8,
+            sheet_len: usize,
+            answer: *mut u8,
+            answer_len: usize,
+        );
+        /// Writes the rows of a sheet and their offsets.
+        pub fn station_encode(
+            list: *const u8,
+            list_len: usize,
+            n: u64,
+            sheet: *const u8,
+            sheet_len: usize,
+            rows: *mut u8,
+            rows_len: usize,
+            offsets: *mut u8,
+            offsets_len: usize,
+            answer: *mut u8,
+            answer_len: usize,
+        );
+        /// Writes the cleared sheet of rows.
+        pub fn station_decode(
+            list: *const u8,
+            list_len: usize,
+            n: u64,
+            rows: *const u8,
+            rows_len: usize,
+            offsets: *const u8,
+            offsets_len: usize,
+            sheet: *mut u8,
+            sheet_len: usize,
+            answer: *mut u8,
+            answer_len: usize,
+        );
+        /// Compares two rows: -1, 0 or 1.
+        pub fn station_compare(a: *const u8, a_len: usize, b: *const u8, b_len: usize) -> i32;
+    }
+}
+
+/// The bytes of an answer: three numbers of eight bytes.
+pub const ANSWER_BYTES: usize = 24;
+
+/// What an entry counted when it did what was asked.
+#[derive(Clone, Copy, Debug, PartialEq, Eq)]
+pub struct Done {
+    /// Columns ([`check_list`]), row bytes ([`measure`], [`encode`]) or sheet bytes ([`decode`]).
+    pub total: u64,
+    /// The null slots of all rows and columns; 0 from [`check_list`].
+    pub nulls: u64,
+}
+
+/// Done, or refused.
+pub type Answer = Result<Done, Refusal>;
+
+/// Rows with their offsets, as [`encode_to_vec`] makes them.
+#[derive(Clone, Debug, PartialEq, Eq)]
+pub struct Rows {
+    /// The rows, joined.
+    pub bytes: Vec<u8>,
+    /// 0, then each row's end in `bytes`.
+    pub offsets: Vec<u64>,
+    /// The null slots of all rows and columns.
+    pub nulls: u64,
+}
+
+impl Rows {
+    /// The bytes of row `i`.
+    ///
+    /// # Panics
+    /// Panics if there is no row `i`.
+    pub fn row(&self, i: usize) -> &[u8] {
+        &self.bytes[self.offsets[i] as usize..self.offsets[i + 1] as usize]
+    }
+
+    /// The count of rows.
+    pub fn len(&self) -> usize {
+        self.offsets.len().saturating_sub(1)
+    }
+
+    /// Whether there is no row.
+    pub fn is_empty(&self) -> bool {
+        self.len() == 0
+    }
+
+    /// The rows, first to last.
+    pub fn iter(&self) -> impl ExactSizeIterator<Item = &[u8]> {
+        (0..self.len()).map(|i| self.row(i))
+    }
+}
+
+/// Checks a column list; `total` is the column count.
+///
+/// ```
+/// // u32 ascending with nulls first, then variable bytes descending.
+/// assert_eq!(station::check_list(&[8, 2, 16, 1])?.total, 2);
+///
+/// let refusal = station::check_list(&[8, 2, 99, 0]).unwrap_err();
+/// assert_eq!((refusal.number, refusal.second), (2, 2));
+/// assert_eq!(refusal.to_string(), "refused 2 2 0: unknown kind at byte 2 of the list");
+/// # Ok::<(), station::Refusal>(())
+/// ```
+pub fn check_list(list: &[u8]) -> Answer {
+    // SAFETY: each pointer comes with the length of its slice, and the answer is borrowed alone.
+    answered(|a| unsafe {
+        raw::station_check_list(list.as_ptr(), list.len(), a.as_mut_ptr(), a.len())
+    })
+}
+
+/// Checks list and sheet; `total` is the count of row bytes that [`encode`] needs room for.
+///
+/// ```
+/// // Three bools, the last one null.
+/// assert_eq!(station::measure(&[1, 0], 3, &[0b011, 0b001])?.total, 6);
+/// // A validity bit past the last row is refused.
+/// assert_eq!(station::measure(&[1, 0], 3, &[0b1011, 0]).unwrap_err().number, 8);
+/// # Ok::<(), station::Refusal>(())
+/// ```
+pub fn measure(list: &[u8], n: u64, sheet: &[u8]) -> Answer {
+    // SAFETY: as in `check_list`.
+    answered(|a| unsafe {
+        raw::station_measure(
+            list.as_ptr(),
+            list.len(),
+            n,
+            sheet.as_ptr(),
+            sheet.len(),
+            a.as_mut_ptr(),
+            a.len(),
+        )
+    })
+}
+
+/// Writes the rows of a sheet to the front of `rows`, and 0 and each row's end to the front of
+/// `offsets`; what is past the written part stays.
+///
+/// ```
+/// let (mut rows, mut offsets) = ([0xAA; 12], [7; 4]);
+/// // Variable bytes, nulls first: "a" and null.
+/// let sheet = [0b01, 0, 0, 0, 0, 1, 0, 0, 0, 1, 0, 0, 0, b'a'];
+/// let done = station::encode(&[16, 2], 2, &sheet, &mut rows, &mut offsets)?;
+/// assert_eq!((done.total, done.nulls), (11, 1));
+/// assert_eq!(rows, [2, b'a', 0, 0, 0, 0, 0, 0, 0, 1, 0, 0xAA]);
+/// assert_eq!(offsets, [0, 10, 11, 7]);
+/// # Ok::<(), station::Refusal>(())
+/// ```
+pub fn encode(list: &[u8], n: u64, sheet: &[u8], rows: &mut [u8], offsets: &mut [u64]) -> Answer {
+    // SAFETY: as in `check_list`; the offsets are lent as the eight bytes of each, which on this
+    // machine lie low byte first, and any bytes make a u64.
+    answered(|a| unsafe {
+        raw::station_encode(
+            list.as_ptr(),
+            list.len(),
+            n,
+            sheet.as_ptr(),
+            sheet.len(),
+            rows.as_mut_ptr(),
+            rows.len(),
+            offsets.as_mut_ptr().cast(),
+            size_of_val(offsets),
+            a.as_mut_ptr(),
+            a.len(),
+        )
+    })
+}
+
+/// Writes the cleared sheet of rows to the front of `sheet`: zeros, and length 0, in null slots.
+///
+/// ```
+/// let mut sheet = [0; 3];
+/// // Two u8 values descending, nulls last: null, then 5.
+/// let rows = [0xFF, 0x00, 0x01, 0xFA];
+/// let done = station::decode(&[6, 1], 2, &rows, &[0, 2, 4], &mut sheet)?;
+/// assert_eq!((done.total, done.nulls), (3, 1));
+/// assert_eq!(sheet, [0b10, 0, 5]);
+/// # Ok::<(), station::Refusal>(())
+/// ```
+pub fn decode(list: &[u8], n: u64, rows: &[u8], offsets: &[u64], sheet: &mut [u8]) -> Answer {
+    // SAFETY: as in `encode`.
+    answered(|a| unsafe {
+        raw::station_decode(
+            list.as_ptr(),
+            list.len(),
+            n,
+            rows.as_ptr(),
+            rows.len(),
+            offsets.as_ptr().cast(),
+            size_of_val(offsets),
+            sheet.as_mut_ptr(),
+            sheet.len(),
+            a.as_mut_ptr(),
+            a.len(),
+        )
+    })
+}
+
+/// Compares two rows, or any bytes: unsigned, a proper beginning first.
+///
+/// ```
+/// use std::cmp::Ordering;
+/// assert_eq!(station::compare(&[1, 2], &[1, 0x80]), Ordering::Less);
+/// assert_eq!(station::compare(&[1, 2], &[1]), Ordering::Greater);
+/// ```
+pub fn compare(a: &[u8], b: &[u8]) -> Ordering {
+    // SAFETY: each pointer comes with the length of its slice.
+    unsafe { raw::station_compare(a.as_ptr(), a.len(), b.as_ptr(), b.len()) }.cmp(&0)
+}
+
+/// [`encode`] into buffers of exactly the right size.
+pub fn encode_to_vec(list: &[u8], n: u64, sheet: &[u8]) -> Result<Rows, Refusal> {
+    let need = measure(list, n, sheet)?;
+    // Measured, so n is at most 4,096 and the total at most 16,777,216.
+    let mut bytes = vec![0; need.total as usize];
+    let mut offsets = vec![0; n as usize + 1];
+    let nulls = encode(list, n, sheet, &mut bytes, &mut offsets)?.nulls;
+    Ok(Rows {
+        bytes,
+        offsets,
+        nulls,
+    })
+}
+
+/// [`decode`] into a sheet of exactly the right size.
+pub fn decode_to_vec(
+    list: &[u8],
+    n: u64,
+    rows: &[u8],
+    offsets: &[u64],
+) -> Result<Vec<u8>, Refusal> {
+    // With no room at all the station answers how many bytes it needs, or that none are needed.
+    let mut sheet = match decode(list, n, rows, offsets, &mut []) {
+        Err(refusal) if refusal.number == Refusal::SHEET_ROOM => vec![0; refusal.second as usize],
+        Err(refusal) => return Err(refusal),
+        Ok(_) => return Ok(Vec::new()),
+    };
+    decode(list, n, rows, offsets, &mut sheet)?;
+    Ok(sheet)
+}
+
+/// Lends an answer to `call` and reads the three numbers out of it.
+fn answered(call: impl FnOnce(&mut [u8; ANSWER_BYTES])) -> Answer {
+    let mut bytes = [0; ANSWER_BYTES];
+    call(&mut bytes);
+    let number =
+        |i: usize| u64::from_le_bytes(bytes[8 * i..8 * i + 8].try_into().expect("eight bytes"));
+    match number(0) {
+        0 => Ok(Done {
+            total: number(1),
+            nulls: number(2),
+        }),
+        refused => Err(Refusal {
+            number: refused,
+            second: number(1),
+            third: number(2),
+        }),
+    }
+}
+
+#[cfg(test)]
+mod tests;

@@ -1,0 +1,104 @@
+//! The bindings against the archive: what each entry answers and writes, and that nothing else
+//! changes. The bytes are document 01's own examples.
+
+use crate::*;
+
+/// Variable bytes, nulls first.
+const NAMES: [u8; 2] = [16, 2];
+/// "a" and null under `NAMES`.
+const A_AND_NULL: [u8; 14] = [0b01, 0, 0, 0, 0, 1, 0, 0, 0, 1, 0, 0, 0, b'a'];
+
+fn refused(number: u64, second: u64, third: u64) -> Answer {
+    Err(Refusal {
+        number,
+        second,
+        third,
+    })
+}
+
+#[test]
+fn a_list_is_counted_or_refused() {
+    let two = Done { total: 2, nulls: 0 };
+    assert_eq!(check_list(&[1, 0, 15, 3, 0, 4]), Ok(two));
+    assert_eq!(check_list(&[]), refused(1, 0, 0));
+    assert_eq!(check_list(&[1, 0, 15, 3, 1, 4]), refused(4, 2, 0));
+    assert_eq!(check_list(&[1, 0].repeat(17)), refused(5, 32, 0));
+}
+
+#[test]
+fn rows_and_offsets_are_written_and_no_more() {
+    let (mut rows, mut offsets) = ([0xAA; 13], [9; 5]);
+    let done = encode(&NAMES, 2, &A_AND_NULL, &mut rows, &mut offsets);
+    let expected = Done {
+        total: 11,
+        nulls: 1,
+    };
+    assert_eq!(done, Ok(expected));
+    assert_eq!(measure(&NAMES, 2, &A_AND_NULL), Ok(expected));
+    assert_eq!(rows[..11], [2, b'a', 0, 0, 0, 0, 0, 0, 0, 1, 0]);
+    assert_eq!(rows[11..], [0xAA; 2]);
+    assert_eq!(offsets, [0, 10, 11, 9, 9]);
+}
+
+#[test]
+fn a_refusal_changes_nothing() {
+    let (mut rows, mut offsets) = ([0xAA; 11], [9; 2]);
+    let refusal = encode(&NAMES, 2, &A_AND_NULL, &mut rows, &mut offsets);
+    assert_eq!(refusal, refused(Refusal::OFFSET_ROOM, 3, 0));
+    let refusal = encode(&NAMES, 2, &A_AND_NULL, &mut rows[..10], &mut offsets);
+    assert_eq!(refusal, refused(Refusal::ROW_ROOM, 11, 0));
+    assert_eq!((rows, offsets), ([0xAA; 11], [9; 2]));
+
+    let mut sheet = [0x55; 13];
+    let row = [2, b'a', 0, 0, 0, 0, 0, 0, 0, 1, 0];
+    let refusal = decode(&NAMES, 2, &row, &[0, 10, 11], &mut sheet);
+    assert_eq!(refusal, refused(Refusal::SHEET_ROOM, 14, 0));
+    assert_eq!(sheet, [0x55; 13]);
+}
+
+#[test]
+fn vectors_have_the_right_size() {
+    let rows = encode_to_vec(&NAMES, 2, &A_AND_NULL).unwrap();
+    assert_eq!(rows.offsets, [0, 10, 11]);
+    assert_eq!(rows.iter().map(<[u8]>::len).collect::<Vec<_>>(), [10, 1]);
+    assert_eq!((rows.len(), rows.is_empty()), (2, false));
+    let sheet = decode_to_vec(&NAMES, 2, &rows.bytes, &rows.offsets);
+    assert_eq!(sheet.unwrap(), A_AND_NULL);
+    assert_eq!(decode_to_vec(&[4, 0], 0, &[], &[0]), Ok(vec![]));
+    assert!(encode_to_vec(&NAMES, u64::MAX, &[]).is_err());
+    assert!(decode_to_vec(&NAMES, 1, &[3], &[0, 1]).is_err());
+}
+
+#[test]
+fn damaged_rows_are_named() {
+    let decoded = |row: &[u8]| decode(&NAMES, 1, row, &[0, row.len() as u64], &mut [0; 64]);
+    assert_eq!(decoded(&[3]), refused(17, 0, 0));
+    assert_eq!(decoded(&[2]), refused(16, 0, 0));
+    assert_eq!(decoded(&[2, 97, 0, 0, 0, 0, 0, 0, 0, 9]), refused(20, 0, 0));
+    assert_eq!(decoded(&[2, 97, 0, 0, 0, 0, 0, 0, 1, 1]), refused(21, 0, 0));
+    assert_eq!(decoded(&[1, 1]), refused(22, 0, 1));
+}
+
+#[test]
+fn every_reason_reads_well() {
+    for number in 1..=24 {
+        let text = refused(number, 5, 6).unwrap_err().to_string();
+        assert!(text.starts_with(&format!("refused {number} 5 6: ")));
+        assert!(!text.contains("unknown reason"), "{text}");
+    }
+    let text = refused(17, 3, 1).unwrap_err().to_string();
+    assert_eq!(
+        text,
+        "refused 17 3 1: row 3, column 1: this lead byte is not allowed"
+    );
+}
+
+#[test]
+fn rows_compare_as_bytes() {
+    let samples: [&[u8]; 6] = [&[], &[0], &[0, 0], &[1], &[0x7F, 9], &[0x80]];
+    for a in samples {
+        for b in samples {
+            assert_eq!(compare(a, b), a.cmp(b));
+        }
+    }
+}

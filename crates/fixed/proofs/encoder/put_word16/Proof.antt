@@ -1,0 +1,26 @@
+-- `fixed::encoder::put_word16` meets its contract: 01 is set, then the word is stored. Assumes nothing.
+use borrow.Author.Needs.{needs}
+use mathlib.Core.Path.{refl, _∙_}
+use native.Mathlib.Omega.{arith}
+use lib.ListN.{length-set}
+use Rattle.fixed.proofs.Writing.{word-field}
+use Rattle.fixed.proofs.encoder.put_word16.Statement.{statement}
+use Rattle.fixed.proofs.encoder.put_word16.Tie as tie
+
+returns : tie.Need-returns
+returns c =
+    let stored = c .before .before in
+    let A = stored .before .before .before .before .args in
+    (refl, word-field 2 (A .out .now) (A .at) (A .descending) _ _ _ (stored .before .directed16 .ensures) (stored .put16 .ensures))
+
+pub put-word16-spec : {M : Type 1} → statement M
+put-word16-spec =
+    tie.close
+    (tie.spec
+    (λ c. search needs)
+    (λ c. search needs)
+    (λ c κs. search needs)
+    (λ c κs. simp length-set (omega arith))
+    (λ c. search needs)
+    (λ c. c .before .before .put16 .kept .0 ∙ simp length-set)
+    returns)

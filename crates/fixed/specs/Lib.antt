@@ -1,0 +1,2 @@
+-- Which fixed kinds a function is for.
+pub mod Wide

@@ -1,0 +1,176 @@
+// A slot into its field, from a place of the row buffer on. Each writer returns the place after the field.
+//
+//     i16 -1            sheet FF FF    row 01 7F FF    descending 01 80 00
+//     i16 null, first                  row 00 00 00    descending 00 00 00
+ghost use mathlib.Core.Path.{_≡_};
+ghost use mathlib.Core.List.{[], _∷_};
+ghost use mathlib.Core.Option.{some};
+ghost use Prim.Native.Nat.{_+_, _≤_};
+ghost use lib.ListN.{length, replicate};
+ghost use lib.Seq.{sets};
+ghost use Rattle.format.specs.Lists.{lowBytes};
+ghost use Rattle.format.specs.Kinds.{bool, plain, shape, valueBytes};
+ghost use Rattle.format.specs.Sheet.{boolByte};
+ghost use Rattle.format.specs.Key.{partsKey};
+ghost use Rattle.format.specs.Field.{directed, field, fixedField, nullByte};
+ghost use Rattle.fixed.specs.Wide.{WideKind};
+use crate::runs::copy_directed;
+use crate::runs::zeros;
+use crate::signed::key8;
+use crate::signed::key16;
+use crate::signed::key32;
+use crate::signed::key64;
+use format::Kind;
+use format::SortOptions;
+use format::null_sentinel;
+use number::directed8;
+use number::directed16;
+use number::directed32;
+use number::directed64;
+use number::encode_f16;
+use number::encode_f32;
+use number::encode_f64;
+use number::encode_u8;
+use number::encode_u16;
+use number::encode_u32;
+use number::encode_u64;
+use number::low16;
+use number::low32;
+use number::low64;
+use number::put16;
+use number::put32;
+use number::put64;
+
+// Null: the null byte, then zeros to the length of a value.
+pub fn encode_null(out: &mut [u8], at: usize, width: usize, options: SortOptions) -> usize
+    requires { ⌜ at + 1 + width ≤ length (now out) ⌝ }
+    ensures { λ r. ⌜ r ≡ at + 1 + width ⌝ }
+    ensures { λ _. ⌜ now (out .exit) ≡ sets (now (out .entry)) at (nullByte options ∷ replicate width 0) ⌝ }
+{
+    out[at] = null_sentinel(options);
+    zeros(out, at + 1, width);
+    at + 1 + width
+}
+
+// 01, then the bytes of x, low byte first, which descending inverts.
+fn put_word8(out: &mut [u8], at: usize, x: u8, descending: bool) -> usize
+    requires { ⌜ at + 2 ≤ length (now out) ⌝ }
+    ensures { λ r. ⌜ r ≡ at + 2 ⌝ }
+    ensures { λ _. ⌜ now (out .exit) ≡ sets (now (out .entry)) at (1 ∷ directed descending (lowBytes 1 x)) ⌝ }
+{
+    out[at] = 1;
+    out[at + 1] = directed8(descending, x);
+    at + 2
+}
+
+fn put_word16(out: &mut [u8], at: usize, x: u16, descending: bool) -> usize
+    requires { ⌜ at + 3 ≤ length (now out) ⌝ }
+    ensures { λ r. ⌜ r ≡ at + 3 ⌝ }
+    ensures { λ _. ⌜ now (out .exit) ≡ sets (now (out .entry)) at (1 ∷ directed descending (lowBytes 2 x)) ⌝ }
+{
+    out[at] = 1;
+    put16(out, at + 1, directed16(descending, x));
+    at + 3
+}
+
+fn put_word32(out: &mut [u8], at: usize, x: u32, descending: bool) -> usize
+    requires { ⌜ at + 5 ≤ length (now out) ⌝ }
+    ensures { λ r. ⌜ r ≡ at + 5 ⌝ }
+    ensures { λ _. ⌜ now (out .exit) ≡ sets (now (out .entry)) at (1 ∷ directed descending (lowBytes 4 x)) ⌝ }
+{
+    out[at] = 1;
+    put32(out, at + 1, directed32(descending, x));
+    at + 5
+}
+
+fn put_word64(out: &mut [u8], at: usize, x: u64, descending: bool) -> usize
+    requires { ⌜ at + 9 ≤ length (now out) ⌝ }
+    ensures { λ r. ⌜ r ≡ at + 9 ⌝ }
+    ensures { λ _. ⌜ now (out .exit) ≡ sets (now (out .entry)) at (1 ∷ directed descending (lowBytes 8 x)) ⌝ }
+{
+    out[at] = 1;
+    put64(out, at + 1, directed64(descending, x));
+    at + 9
+}
+
+// A bool: 00 or 01.
+pub fn encode_boolean(out: &mut [u8], at: usize, val: bool, options: SortOptions) -> usize
+    requires { ⌜ at + 2 ≤ length (now out) ⌝ }
+    ensures { λ r. ⌜ r ≡ at + 2 ⌝ }
+    ensures { λ _. ⌜ now (out .exit) ≡ sets (now (out .entry)) at (fixedField bool options (some (boolByte val))) ⌝ }
+{
+    put_word8(out, at, val as u8, options.descending)
+}
+
+// Fixed binary, as it stands.
+pub fn encode_fixed_size_binary(
+    out: &mut [u8],
+    at: usize,
+    val: &[u8],
+    options: SortOptions,
+) -> usize
+    requires { ⌜ at + 1 + length (now val) ≤ length (now out) ⌝ }
+    ensures { λ r. ⌜ r ≡ at + 1 + length (now (val .entry)) ⌝ }
+    ensures { λ _. ⌜ now (out .exit) ≡ sets (now (out .entry)) at (fixedField (plain (length (now (val .entry)))) options (some (now (val .entry)))) ⌝ }
+{
+    out[at] = 1;
+    copy_directed(out, at + 1, val, options.descending);
+    at + 1 + val.len()
+}
+
+// Days and milliseconds, each as a signed number.
+fn encode_day_time(out: &mut [u8], at: usize, val: &[u8], descending: bool) -> usize
+    requires { ⌜ (length (now val) ≡ 8) × (at + 9 ≤ length (now out)) ⌝ }
+    ensures { λ r. ⌜ r ≡ at + 9 ⌝ }
+    ensures { λ _. ⌜ now (out .exit) ≡ sets (now (out .entry)) at (1 ∷ directed descending (partsKey (4 ∷ 4 ∷ []) (now (val .entry)))) ⌝ }
+{
+    let days = key32(val, 0);
+    let milliseconds = key32(val, 4);
+    put_word32(out, at, days, descending);
+    put32(out, at + 5, directed32(descending, milliseconds));
+    at + 9
+}
+
+// Months, days and nanoseconds, each as a signed number.
+fn encode_month_day_nano(out: &mut [u8], at: usize, val: &[u8], descending: bool) -> usize
+    requires { ⌜ (length (now val) ≡ 16) × (at + 17 ≤ length (now out)) ⌝ }
+    ensures { λ r. ⌜ r ≡ at + 17 ⌝ }
+    ensures { λ _. ⌜ now (out .exit) ≡ sets (now (out .entry)) at (1 ∷ directed descending (partsKey (4 ∷ 4 ∷ 8 ∷ []) (now (val .entry)))) ⌝ }
+{
+    let months = key32(val, 0);
+    let days = key32(val, 4);
+    let nanoseconds = key64(val, 8);
+    put_word32(out, at, months, descending);
+    put32(out, at + 5, directed32(descending, days));
+    put64(out, at + 9, directed64(descending, nanoseconds));
+    at + 17
+}
+
+// Every fixed kind but bool, from the value's bytes in the sheet.
+pub fn encode(out: &mut [u8], at: usize, kind: Kind, val: &[u8], options: SortOptions) -> usize
+    requires { ⌜ WideKind kind ⌝ }
+    requires { ⌜ length (now val) ≡ valueBytes kind ⌝ }
+    requires { ⌜ at + 1 + length (now val) ≤ length (now out) ⌝ }
+    ensures { λ r. ⌜ r ≡ at + 1 + valueBytes kind ⌝ }
+    ensures { λ _. ⌜ now (out .exit) ≡ sets (now (out .entry)) at (field (shape kind) options (some (now (val .entry)))) ⌝ }
+{
+    let descending = options.descending;
+    match kind {
+        Kind::I8 => put_word8(out, at, key8(val, 0), descending),
+        Kind::I16 => put_word16(out, at, key16(val, 0), descending),
+        Kind::I32 => put_word32(out, at, key32(val, 0), descending),
+        Kind::I64 => put_word64(out, at, key64(val, 0), descending),
+        Kind::U8 => put_word8(out, at, encode_u8(val[0]), descending),
+        Kind::U16 => put_word16(out, at, encode_u16(low16(val, 0)), descending),
+        Kind::U32 => put_word32(out, at, encode_u32(low32(val, 0)), descending),
+        Kind::U64 => put_word64(out, at, encode_u64(low64(val, 0)), descending),
+        Kind::F16 => put_word16(out, at, encode_f16(low16(val, 0)), descending),
+        Kind::F32 => put_word32(out, at, encode_f32(low32(val, 0)), descending),
+        Kind::F64 => put_word64(out, at, encode_f64(low64(val, 0)), descending),
+        Kind::DayTime => encode_day_time(out, at, val, descending),
+        Kind::MonthDayNano => encode_month_day_nano(out, at, val, descending),
+        Kind::FixedBinary(_) => encode_fixed_size_binary(out, at, val, options),
+        Kind::Bool => at,
+        Kind::Variable => at,
+    }
+}

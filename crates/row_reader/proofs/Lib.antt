@@ -1,0 +1,8 @@
+-- The laws that the proofs of the walk cite.
+pub mod Falls
+pub mod Taken
+pub mod Turns
+pub mod RowNulls
+pub mod Arms
+pub mod Columns
+pub mod Batches

@@ -1,0 +1,2 @@
+-- What the walk over a batch of rows answers.
+pub mod Walk

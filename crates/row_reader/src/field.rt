@@ -1,0 +1,21 @@
+// One field, by its column's kind.
+ghost use mathlib.Core.Path.{_≡_};
+ghost use Rattle.format.specs.Kinds.{columnShape};
+ghost use Rattle.format.specs.Read.{fieldRead, readField};
+use format::Column;
+use format::FieldRead;
+use format::Kind;
+use format::width;
+
+// The field in front of a row.
+pub fn read_field(row: &[u8], column: Column) -> FieldRead
+    ensures { λ r. ⌜ r ≡ fieldRead (now (row .entry)) (readField (columnShape column) (column .options) (now (row .entry))) ⌝ }
+{
+    let kind = column.kind;
+    let options = column.options;
+    match kind {
+        Kind::Bool => fixed::read_boolean(row, options),
+        Kind::Variable => variable::read(row, options),
+        _ => fixed::read(row, width(kind), options),
+    }
+}

@@ -1,0 +1,83 @@
+// The walk over rows and columns.
+ghost use mathlib.Core.Path.{_≡_};
+ghost use Prim.Native.Nat.{_≤_};
+ghost use Rattle.format.specs.declared.Check.the-variants.{Pass};
+ghost use Rattle.format.specs.Kinds.{Slot};
+ghost use Rattle.format.specs.Limits.{maxRows};
+ghost use Rattle.format.specs.Schemas.{Limited, colsOf};
+ghost use Rattle.format.specs.Sheet.{layout};
+ghost use Rattle.format.specs.Entries.{cutRows, offsetsFault};
+ghost use Rattle.laws.proofs.Cleared.{slotLength};
+ghost use Rattle.laws.proofs.Room.{added};
+ghost use Rattle.row_reader.specs.Walk.{Finds};
+use crate::Walked;
+use crate::field::read_field;
+use format::Check;
+use format::Column;
+use format::FieldRead;
+use format::Kind;
+use format::Refusal;
+use format::RowFault;
+use format::Schema;
+
+// The bytes that a value of so many bytes adds to its column: its own in a variable column, none in a fixed one.
+fn added_bytes(column: Column, value: usize) -> usize
+    ensures { λ r. ⌜ ((s : Slot) → slotLength s ≡ value → r ≡ added (layout column) s) ⌝ }
+{
+    let kind = column.kind;
+    match kind {
+        Kind::Variable => value,
+        _ => 0,
+    }
+}
+
+// The first fault in row order, then column order; each field is read from the part of the row that the previous one left.
+pub fn check_fields(schema: Schema, n: usize, rows: &[u8], offsets: &[u64]) -> Walked
+    requires { ⌜ n ≤ maxRows ⌝ }
+    requires { ⌜ Limited schema ⌝ }
+    requires { ⌜ offsetsFault n (now rows) (now offsets) ≡ Pass ⌝ }
+    ensures { λ r. ⌜ Finds (colsOf schema) (cutRows n (now (rows .entry)) (now (offsets .entry))) r ⌝ }
+{
+    let count = schema.count;
+    let columns = schema.columns;
+    let mut check = Check::Pass;
+    let mut bytes: usize = 0;
+    let mut nulls: u64 = 0;
+    let mut r = 0;
+    'rows: while r < n {
+        let start = offsets[r] as usize;
+        let end = offsets[r + 1] as usize;
+        let row = &rows[start..end];
+        let mut at = 0;
+        let mut c = 0;
+        while c < count {
+            let column = columns[c];
+            let read = read_field(&row[at..], column);
+            match read {
+                FieldRead::Null(len) => {
+                    at += len;
+                    nulls += 1;
+                }
+                FieldRead::Value(len, value) => {
+                    at += len;
+                    bytes += added_bytes(column, value);
+                }
+                FieldRead::Fault(fault, _) => {
+                    check = Check::Refuse(Refusal::Row(fault, r, c));
+                    break 'rows;
+                }
+            }
+            c += 1;
+        }
+        if at < row.len() {
+            check = Check::Refuse(Refusal::Row(RowFault::Extra, r, count));
+            break 'rows;
+        }
+        r += 1;
+    }
+    Walked {
+        check,
+        bytes,
+        nulls,
+    }
+}

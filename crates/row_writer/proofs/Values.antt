@@ -1,0 +1,117 @@
+-- A slot of a column that passes: where its value lies, and what its field comes to. Assumes nothing.
+use Prim.Native.Nat.{ℕ, zero, suc, _+_, _-_, _*_, _/_, _<_, _≤_}
+use mathlib.Core.Path.{_≡_, ap, ap₂, sym, _∙_}
+use mathlib.Core.Bool.{Bool as Truth, true, false, cond}
+use mathlib.Core.Option.{none, some}
+use mathlib.Core.List.{List, _∷_}
+use native.Mathlib.Numerals.{add-one}
+use native.Mathlib.Omega.{arith}
+use lib.ListN.{length, take, drop, replicate, length-take}
+use lib.Seq.{sets, drop-drop}
+use types.Run.{OneOf}
+use denote.Enum.Declared.{tagOf}
+use Rattle.format.proofs.Kind.{the-type}
+use Rattle.format.specs.declared.SortOptions.{SortOptions}
+use Rattle.format.specs.declared.Kind.{Kind}
+use Rattle.format.specs.declared.Kind.the-variants.{Bool, Variable}
+use Rattle.format.specs.Limits.{maxSlot}
+use Rattle.format.specs.Lists.{each, low}
+use Rattle.format.specs.Kinds.{bool, variable, Slot, shape, valueBytes}
+use Rattle.format.specs.Field.{field, fixedField, fieldLength, nullByte}
+use Rattle.format.specs.Sheet.{Layout, ended, wide, layoutFor, packed, bit, end, valuesFault, boolByte, valueAt, columnFault, slotAt}
+use Rattle.bits.proofs.Nulls.{bits-passed}
+use Rattle.laws.proofs.Checks.{enough}
+use Rattle.laws.proofs.Sheets.{Ended, column-passed, variable-passed, within}
+use Rattle.row_writer.specs.Put.{Passes, Put}
+use Rattle.fixed.specs.Wide.{WideKind}
+use Rattle.row_writer.proofs.Sorts.{null-arm, wide-layout}
+
+-- ---- variable bytes
+
+-- no end is past the last
+last-end : (n : ℕ) (s : List ℕ) → Ended n s → (k j : ℕ) → j + k ≡ n → end s j ≤ end s n
+last-end n s g zero j e = omega (arith, ap (end s) (let z : j ≡ n = omega arith in z))
+last-end n s g (suc k) j e = omega (arith, g .step j (omega arith) .0, last-end n s g k (suc j) (omega arith))
+
+-- the value of row r lies between the ends a and b, counted from the first byte after the ends
+pub record Between (n : ℕ) (s : List ℕ) (r a b : ℕ) : Type 0 where
+  pub starts : 4 * (n + 1) + a ≤ 4 * (n + 1) + b
+  pub stops : 4 * (n + 1) + b ≤ length s
+  pub value : take ((4 * (n + 1) + b) - (4 * (n + 1) + a)) (drop (4 * (n + 1) + a) s) ≡ valueAt ended n s r
+  pub short : length (valueAt ended n s r) ≤ maxSlot
+
+pub between : (n : ℕ) (s : List ℕ) (r a b : ℕ) → Ended n s → r < n → a ≡ low (take 4 (drop (4 * r) s)) → b ≡ low (take 4 (drop (4 * (r + 1)) s)) → Between n s r a b
+between n s r a b g l p q =
+    let next : b ≡ end s (suc r) = q ∙ ap (end s) (add-one r) in
+    record {
+      starts = omega (arith, g .step r l .0);
+      stops = omega (arith, last-end n s g (n - suc r) (suc r) (omega arith), g .room);
+      value =
+          ap₂ {C = List ℕ} (λ (k : ℕ) (t : List ℕ). take k t) {x = (4 * (n + 1) + b) - (4 * (n + 1) + a)} {y = end s (suc r) - end s r} (omega (arith, g .step r l .0))
+          (ap (λ (k : ℕ). drop k s) {x = 4 * (n + 1) + a} {y = 4 * suc n + end s r} (omega arith) ∙ sym (drop-drop (end s r) (4 * suc n) s));
+      short = omega (arith, length-take (end s (suc r) - end s r) (drop (end s r) (drop (4 * suc n) s)), g .step r l .1);
+    }
+
+-- ---- values of one width
+
+-- value r, as a part of a slice
+pub one-width : (s : List ℕ) (r w : ℕ) → take ((r * w + w) - r * w) (drop (r * w) s) ≡ valueAt (wide w) 0 s r
+one-width s r w = ap (λ (k : ℕ). take k (drop (r * w) s)) {x = (r * w + w) - r * w} {y = w} (omega arith)
+
+-- the field of each is as long
+pub wide-long : {kind : Kind} (s : Slot) → WideKind kind → fieldLength (shape kind) s ≡ 1 + valueBytes kind
+wide-long s k = rw (k .says)
+
+-- ---- what a value's field comes to, by its kind
+module _ (o : SortOptions) (at next : ℕ) (entry exit : List ℕ) where
+  -- the null of fixed values
+  pub put-none : (kind : Kind) (w : ℕ) → OneOf (each 0 15 (λ k. k)) (tagOf the-type kind) → w ≡ valueBytes kind → next ≡ at + 1 + w
+      → exit ≡ sets entry at (nullByte o ∷ replicate w 0) → Put (shape kind) o none at entry exit next
+  put-none kind w h e p q =
+      let z = null-arm kind o h in
+      record { place = omega (arith, z .0); bytes = q ∙ ap (sets entry at) (ap (λ (k : ℕ). nullByte o ∷ replicate k 0) e ∙ sym (z .1)) }
+
+  -- values of one width
+  pub put-wide : {kind : Kind} (v w : List ℕ) → WideKind kind → v ≡ w → next ≡ at + 1 + valueBytes kind → exit ≡ sets entry at (field (shape kind) o (some v))
+      → Put (shape kind) o (some w) at entry exit next
+  put-wide {kind} v w k e p q = record { place = omega (arith, wide-long (some w) k); bytes = rw (← e) q }
+
+  module _ (n r : ℕ) (s : List ℕ) where
+    -- what is promised of the value of row r
+    abbrev Promised : Kind → Type 0
+    Promised kind = Put (shape kind) o (some (valueAt (layoutFor (shape kind)) n s r)) at entry exit next
+
+    pub bool-promised : {kind : Kind} (b : Truth) → kind ≡ Bool → b ≡ bit s r → next ≡ at + 2 → exit ≡ sets entry at (fixedField bool o (some (boolByte b))) → Promised kind
+    bool-promised b e h p q = rw e (record { place = p; bytes = rw (← h) q })
+
+    pub variable-promised : {kind : Kind} → kind ≡ Variable → Put variable o (some (valueAt ended n s r)) at entry exit next → Promised kind
+    variable-promised e p = rw e p
+
+    pub wide-promised : {kind : Kind} → WideKind kind → Put (shape kind) o (some (valueAt (wide (valueBytes kind)) 0 s r)) at entry exit next → Promised kind
+    wide-promised w p = rw (wide-layout w) p
+
+-- ---- what is asked for a value, by its kind
+module _ {kind : Kind} (n r : ℕ) (s : List ℕ) (l : r < n) (h : Passes (λ c. valuesFault (layoutFor (shape kind)) n c s)) where
+  pub bool-asked : kind ≡ Bool → r / 8 < length s
+  bool-asked e = omega (arith, bits-passed n (h .c) s (rw e at (h .pass)) .0)
+
+  pub variable-asked : kind ≡ Variable → Ended n s
+  variable-asked e = variable-passed n (h .c) s (rw e at (h .pass))
+
+  pub wide-asked : WideKind kind → r * valueBytes kind + valueBytes kind ≤ length s
+  wide-asked w = omega (arith, within r n (valueBytes kind) l, enough (length s) (n * valueBytes kind) _ _ (rw (wide-layout w) at (h .pass)) .0)
+
+-- ---- the slot of row r
+
+-- the validity bytes are there
+pub valid-bytes : (ly : Layout) (n : ℕ) (s : List ℕ) → Passes (λ c. columnFault ly n c s) → packed n ≤ length s
+valid-bytes ly n s h = bits-passed n (h .c) s (column-passed ly n (h .c) s (h .pass) .0) .0
+
+pub values-pass : (ly : Layout) (n : ℕ) (s : List ℕ) → Passes (λ c. columnFault ly n c s) → Passes (λ c. valuesFault ly n c (drop (packed n) s))
+values-pass ly n s h = record { c = h .c; pass = column-passed ly n (h .c) s (h .pass) .1 }
+
+pub slot-valid : (ly : Layout) (n : ℕ) (s : List ℕ) (r : ℕ) → bit s r ≡ true → slotAt ly n s r ≡ some (valueAt ly n (drop (packed n) s) r)
+slot-valid ly n s r e = ap (λ (b : Truth). cond b (some (valueAt ly n (drop (packed n) s) r)) none) e
+
+pub slot-null : (ly : Layout) (n : ℕ) (s : List ℕ) (r : ℕ) → bit s r ≡ false → slotAt ly n s r ≡ none
+slot-null ly n s r e = ap (λ (b : Truth). cond b (some (valueAt ly n (drop (packed n) s) r)) none) e

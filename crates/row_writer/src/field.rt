@@ -1,0 +1,104 @@
+// The field of one slot of a checked column, from a place of the row buffer on. Each writer returns the place after the field.
+ghost use mathlib.Core.Option.{none, some};
+ghost use Prim.Native.Nat.{_+_, _*_, _<_, _≤_};
+ghost use lib.ListN.{length};
+ghost use Rattle.format.specs.Limits.{maxRows};
+ghost use Rattle.format.specs.Kinds.{variable as variableShape, shape, valueBytes, columnShape};
+ghost use Rattle.format.specs.Field.{fieldLength};
+ghost use Rattle.format.specs.Sheet.{ended, wide, layout, valuesFault, valueAt, columnFault, slotAt};
+ghost use Rattle.laws.proofs.Sheets.{Ended};
+ghost use Rattle.row_writer.specs.Put.{Passes, Put};
+ghost use Rattle.fixed.specs.Wide.{WideKind};
+use format::Column;
+use format::Kind;
+use format::SortOptions;
+
+// Null: the null byte, and for fixed kinds zeros to the length of a value.
+fn put_null(column: Column, rows: &mut [u8], at: usize) -> usize
+    requires { ⌜ at + fieldLength (columnShape column) none ≤ length (now rows) ⌝ }
+    ensures { λ x. ⌜ Put (columnShape column) (column .options) none at (now (rows .entry)) (now (rows .exit)) x ⌝ }
+{
+    let kind = column.kind;
+    let options = column.options;
+    match kind {
+        Kind::Variable => variable::encode_null(rows, at, options),
+        _ => fixed::encode_null(rows, at, format::width(kind), options),
+    }
+}
+
+// Variable bytes: the value of row r lies between ends r and r + 1.
+fn put_variable(
+    values: &[u8],
+    n: usize,
+    r: usize,
+    options: SortOptions,
+    rows: &mut [u8],
+    at: usize,
+) -> usize
+    requires { ⌜ (n ≤ maxRows) × (r < n) ⌝ }
+    requires { ⌜ Ended n (now values) ⌝ }
+    requires { ⌜ at + fieldLength variableShape (some (valueAt ended n (now values) r)) ≤ length (now rows) ⌝ }
+    ensures { λ x. ⌜ Put variableShape options (some (valueAt ended n (now (values .entry)) r)) at (now (rows .entry)) (now (rows .exit)) x ⌝ }
+{
+    let data = 4 * (n + 1);
+    let from = data + number::low32(values, 4 * r) as usize;
+    let to = data + number::low32(values, 4 * (r + 1)) as usize;
+    variable::encode_one(rows, at, &values[from..to], options)
+}
+
+// A fixed kind but bool: values of one width, one after the other.
+fn put_fixed(
+    values: &[u8],
+    r: usize,
+    kind: Kind,
+    options: SortOptions,
+    rows: &mut [u8],
+    at: usize,
+) -> usize
+    requires { ⌜ WideKind kind ⌝ }
+    requires { ⌜ r * valueBytes kind + valueBytes kind ≤ length (now values) ⌝ }
+    requires { ⌜ at + 1 + valueBytes kind ≤ length (now rows) ⌝ }
+    ensures { λ x. ⌜ Put (shape kind) options (some (valueAt (wide (valueBytes kind)) 0 (now (values .entry)) r)) at (now (rows .entry)) (now (rows .exit)) x ⌝ }
+{
+    let width = format::width(kind);
+    let from = r * width;
+    let to = from + width;
+    fixed::encode(rows, at, kind, &values[from..to], options)
+}
+
+// The value of row r, out of the values of the column.
+fn put_value(values: &[u8], n: usize, r: usize, column: Column, rows: &mut [u8], at: usize) -> usize
+    requires { ⌜ (n ≤ maxRows) × (r < n) ⌝ }
+    requires { ⌜ Passes (λ c. valuesFault (layout column) n c (now values)) ⌝ }
+    requires { ⌜ at + fieldLength (columnShape column) (some (valueAt (layout column) n (now values) r)) ≤ length (now rows) ⌝ }
+    ensures { λ x. ⌜ Put (columnShape column) (column .options) (some (valueAt (layout column) n (now (values .entry)) r)) at (now (rows .entry)) (now (rows .exit)) x ⌝ }
+{
+    let kind = column.kind;
+    let options = column.options;
+    match kind {
+        Kind::Bool => fixed::encode_boolean(rows, at, bits::bit(values, r), options),
+        Kind::Variable => put_variable(values, n, r, options, rows, at),
+        _ => put_fixed(values, r, kind, options, rows, at),
+    }
+}
+
+// The slot of row r of the column in front of the part.
+pub fn put_field(
+    part: &[u8],
+    n: usize,
+    r: usize,
+    column: Column,
+    rows: &mut [u8],
+    at: usize,
+) -> usize
+    requires { ⌜ (n ≤ maxRows) × (r < n) ⌝ }
+    requires { ⌜ Passes (λ c. columnFault (layout column) n c (now part)) ⌝ }
+    requires { ⌜ at + fieldLength (columnShape column) (slotAt (layout column) n (now part) r) ≤ length (now rows) ⌝ }
+    ensures { λ x. ⌜ Put (columnShape column) (column .options) (slotAt (layout column) n (now (part .entry)) r) at (now (rows .entry)) (now (rows .exit)) x ⌝ }
+{
+    if bits::bit(part, r) {
+        let valid = (n + 7) / 8;
+        return put_value(&part[valid..], n, r, column, rows, at);
+    }
+    put_null(column, rows, at)
+}

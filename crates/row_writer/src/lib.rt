@@ -1,0 +1,49 @@
+// Encode's writing walk: the rows of a checked sheet, one after the other, and the offsets between them.
+ghost use mathlib.Core.Path.{_≡_};
+ghost use Prim.Native.Nat.{_<_, _≤_};
+ghost use lib.ListN.{length};
+ghost use lib.Seq.{sets};
+ghost use Rattle.format.specs.Limits.{maxColumns, maxRows};
+ghost use Rattle.format.specs.Lists.{joined, endsFrom};
+ghost use Rattle.format.specs.Schemas.{colsOf};
+ghost use Rattle.format.specs.Entries.{sheetRows, sheetTotal};
+ghost use Rattle.sheet_reader.specs.Sheets.{Known};
+use crate::field::put_field;
+use format::Schema;
+use sheet_reader::sheet::Facts;
+
+mod field;
+
+// The rows of a sheet whose columns are known by their facts, and the offsets: where each row begins, and the last one's end.
+pub fn write_rows(
+    schema: Schema,
+    n: usize,
+    sheet: &[u8],
+    facts: [Facts; 16],
+    rows: &mut [u8],
+    offsets: &mut [u64],
+)
+    requires { ⌜ n ≤ maxRows ⌝ }
+    requires { ⌜ schema .count ≤ maxColumns ⌝ }
+    requires { ⌜ Known n (colsOf schema) (now sheet) facts ⌝ }
+    requires { ⌜ sheetTotal n (colsOf schema) (now sheet) ≤ length (now rows) ⌝ }
+    requires { ⌜ n < length (now offsets) ⌝ }
+    ensures { λ _. ⌜ now (rows .exit) ≡ sets (now (rows .entry)) 0 (joined (sheetRows n (colsOf schema) (now (sheet .entry)))) ⌝ }
+    ensures { λ _. ⌜ now (offsets .exit) ≡ sets (now (offsets .entry)) 0 (endsFrom 0 (sheetRows n (colsOf schema) (now (sheet .entry)))) ⌝ }
+{
+    let count = schema.count;
+    let mut at: usize = 0;
+    let mut r: usize = 0;
+    while r < n {
+        offsets[r] = at as u64;
+        let mut c: usize = 0;
+        while c < count {
+            let f = facts[c];
+            let base = f.base;
+            at = put_field(&sheet[base..], n, r, f.column, rows, at);
+            c += 1;
+        }
+        r += 1;
+    }
+    offsets[n] = at as u64;
+}

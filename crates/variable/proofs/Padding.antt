@@ -1,0 +1,54 @@
+-- The walk over a block's padding: up to here all is zero. Assumes nothing.
+use Prim.Native.Nat.{ℕ, zero, suc, _+_, _-_, _<_, _≤_}
+use mathlib.Core.Path.{_≡_, refl, sym, ap, _∙_}
+use mathlib.Core.Bool.{Bool, true, false, cond}
+use mathlib.Core.List.{List, [], _∷_}
+use native.Mathlib.Nat.{sub-eq-zero-of-le}
+use native.Mathlib.Numerals.{add-one}
+use native.Mathlib.Omega.{arith}
+use lib.Dec.{eqb}
+use lib.ListN.{length, getD, take, drop, length-take, length-drop}
+use lib.Seq.{drop-cons, length-take-le}
+use borrow.Author.Tests.{eq-eqb, ne-eqb}
+use Rattle.format.specs.Read.{fromBad}
+
+few : (n : ℕ) (l : List ℕ) → fromBad (take n l) ≤ n
+few zero l = omega arith
+few (suc n) [] = omega arith
+few (suc n) (x ∷ l) = go (eqb x 0) (few n l)
+  where
+    go : (b : Bool) → fromBad (take n l) ≤ n → cond b (fromBad (take n l)) (suc (length (take n l))) ≤ suc n
+    go true h = omega arith
+    go false h = omega (arith, length-take n l)
+
+pub bad-few : (r n : ℕ) (l : List ℕ) → r ≡ fromBad (take n l) → r ≤ n
+bad-few r n l e = omega (arith, few n l)
+
+-- from `from` to here
+pub record Clear (t : List ℕ) (from to i : ℕ) : Type 0 where
+  pub low : from ≤ i
+  pub high : i ≤ to
+  pub same : fromBad (take (to - from) (drop from t)) ≡ fromBad (take (to - i) (drop i t))
+
+pub clear-start : (t : List ℕ) (from to : ℕ) → from ≤ to → Clear t from to from
+clear-start t from to h = record { low = omega arith; high = h; same = refl }
+
+module _ {t : List ℕ} {from to i : ℕ} (k : Clear t from to i) where
+  step : i < to → to ≤ length t
+      → fromBad (take (to - from) (drop from t)) ≡ cond (eqb (getD t i 0) 0) (fromBad (take (to - (i + 1)) (drop (i + 1) t))) (suc (length (take (to - (i + 1)) (drop (i + 1) t))))
+  step h l =
+      k .same
+      ∙ ap (λ (n : ℕ). fromBad (take n (drop i t))) {x = to - i} {y = suc (to - (i + 1))} (omega arith)
+      ∙ ap (λ (z : List ℕ). fromBad (take (suc (to - (i + 1))) z)) (drop-cons t i 0 (omega arith))
+      ∙ rw (add-one i)
+
+  pub clear-more : i < to → to ≤ length t → getD t i 0 ≡ 0 → Clear t from to (i + 1)
+  clear-more h l z = record { low = omega (arith, k .low); high = omega arith; same = step h l ∙ rw (eq-eqb (getD t i 0) 0 z) }
+
+  pub clear-bad : i < to → to ≤ length t → (getD t i 0 ≡ 0 → ⊥) → to - i ≡ fromBad (take (to - from) (drop from t))
+  clear-bad h l z =
+      sym (step h l ∙ rw (ne-eqb (getD t i 0) 0 z)
+      (omega (arith, length-take-le (to - (i + 1)) (drop (i + 1) t) (omega (arith, length-drop (i + 1) t)))))
+
+  pub clear-end : to ≤ i → 0 ≡ fromBad (take (to - from) (drop from t))
+  clear-end h = sym (k .same ∙ rw (sub-eq-zero-of-le h))

@@ -1,0 +1,129 @@
+-- Reading the blocks of a field, from any place on. t is the row's bytes, inverted back. Assumes nothing.
+use Prim.Native.Nat.{ℕ, zero, suc, _+_, _-_, _%_, _<_, _≤_}
+use mathlib.Core.Path.{_≡_, refl, sym, ap, ap₂, _∙_, subst}
+use mathlib.Core.Logic.{_⊎_, inl, inr}
+use mathlib.Core.Bool.{Bool, true, false, cond, _||_}
+use mathlib.Core.List.{List, [], _∷_, _++_}
+use native.Mathlib.Nat.{sub-zero, suc-sub-suc}
+use native.Mathlib.Numerals.{add-one}
+use native.Mathlib.Omega.{arith}
+use lib.Dec.{ltb, leb, eqb}
+use lib.ListN.{length, getD, take, drop, length-drop, length-append}
+use lib.Seq.{drop-drop, getD-drop, length-take-le, take-nil}
+use borrow.Author.Tests.{lt-ltb, le-ltb, le-leb, lt-leb, eq-eqb, ne-eqb}
+use Rattle.format.specs.declared.RowFault.{RowFault}
+use Rattle.format.specs.declared.RowFault.the-variants.{Cut, EndByte, Padding, TooLong}
+use Rattle.format.specs.declared.FieldRead.{FieldRead}
+use Rattle.format.specs.declared.FieldRead.the-variants.{Value, Fault}
+use Rattle.format.specs.Limits.{maxSlot}
+use Rattle.format.specs.Field.{directed, blockSize}
+use Rattle.format.specs.Read.{Parsed, got, fault, allZero, fromBad, after, readBlock, readBlocks}
+use Rattle.laws.proofs.Directed.{length-directed}
+use Rattle.laws.proofs.Stream.{blockSize-room}
+use Rattle.variable.specs.Counted.{blocksRead, blockAt, counted, Ended}
+
+-- what is read from block k on, at a place of t, with c bytes of the value before
+abbrev pub Rest : List ℕ → ℕ → ℕ → ℕ → Parsed (List ℕ)
+Rest t at k c = readBlocks blockSize maxSlot (length t - 1 - k) k c (drop at t)
+
+pub rest-start : (d : Bool) (row : List ℕ) → blocksRead d row ≡ Rest (directed d row) 1 0 0
+rest-start d row =
+    ap (λ (n : ℕ). readBlocks blockSize maxSlot n 0 0 (drop 1 (directed d row))) {x = length row - 1} {y = length (directed d row) - 1 - 0}
+    (omega (arith, length-directed d row))
+
+-- ---- the block at a place
+
+-- a block holds whole words
+pub size-words : (k size : ℕ) → size ≡ blockSize k → size % 8 ≡ 0
+size-words k size e = ap (λ (n : ℕ). n % 8) e ∙ go (ltb k 4)
+  where
+    go : (b : Bool) → cond b 8 32 % 8 ≡ 0
+    go true = refl
+    go false = refl
+
+pub rest-cut : (t : List ℕ) (at k c : ℕ) → length t - at ≤ blockSize k → Rest t at k c ≡ fault Cut 0
+rest-cut t at k c h = go (length t - 1 - k)
+  where
+    go : (fuel : ℕ) → readBlocks blockSize maxSlot fuel k c (drop at t) ≡ fault Cut 0
+    go zero = refl
+    go (suc fuel) = rw (le-leb (length (drop at t)) (blockSize k) (omega (arith, length-drop at t)))
+
+pub rest-block : (t : List ℕ) (at k c size end : ℕ) → k < at → size ≡ blockSize k → at + size < length t → end ≡ getD t (at + size) 0
+    → Rest t at k c ≡ blockAt t at size end c (Rest t (at + (size + 1)) (k + 1) (c + size))
+rest-block t at k c size end few is inside e =
+    ap (λ (n : ℕ). readBlocks blockSize maxSlot n k c (drop at t)) {x = length t - 1 - k} {y = suc (length t - 1 - (k + 1))} (omega arith)
+    ∙ rw (lt-leb (length (drop at t)) (blockSize k) (omega (arith, length-drop at t)))
+    (ap (λ (s : ℕ). readBlock s maxSlot c (take s (drop at t)) (getD (drop at t) s 0) (drop (suc s) (drop at t)) (next s (suc k) (drop (suc s) (drop at t)))) (sym is)
+    ∙ ap₂ (λ (x : ℕ) (z : List ℕ). readBlock size maxSlot c (take size (drop at t)) x z (next size (suc k) z)) (getD-drop at t size 0 ∙ sym e)
+    (drop-drop (suc size) at t ∙ ap (λ (n : ℕ). drop n t) {x = at + suc size} {y = at + (size + 1)} (omega arith))
+    ∙ ap (λ (n : ℕ). readBlock size maxSlot c (take size (drop at t)) end (drop (at + (size + 1)) t) (next size n (drop (at + (size + 1)) t))) (sym (add-one k)))
+  where
+    next : ℕ → ℕ → List ℕ → Parsed (List ℕ)
+    next s n z = readBlocks blockSize maxSlot (length t - 1 - (k + 1)) n (c + s) z
+
+-- ---- the last block
+
+zero-clear : (x : List ℕ) → fromBad x ≡ 0 → allZero x ≡ true
+zero-clear [] h = refl
+zero-clear (y ∷ x) h = go (eqb y 0) refl h (zero-clear x)
+  where
+    go : (b : Bool) → eqb y 0 ≡ b → cond b (fromBad x) (suc (length x)) ≡ 0 → (fromBad x ≡ 0 → allZero x ≡ true) → allZero (y ∷ x) ≡ true
+    go true e h ih = rw e (ih h)
+    go false e h ih = absurd (omega arith)
+
+bad-clear : (x : List ℕ) → 0 < fromBad x → allZero x ≡ false
+bad-clear [] h = absurd (omega arith)
+bad-clear (y ∷ x) h = go (eqb y 0) refl h (bad-clear x)
+  where
+    go : (b : Bool) → eqb y 0 ≡ b → 0 < cond b (fromBad x) (suc (length x)) → (0 < fromBad x → allZero x ≡ false) → allZero (y ∷ x) ≡ false
+    go true e h ih = rw e (ih h)
+    go false e h ih = rw e
+
+drop-take : (n m : ℕ) (l : List ℕ) → n ≤ m → drop n (take m l) ≡ take (m - n) (drop n l)
+drop-take zero m l h = ap (λ (k : ℕ). take k l) (sym (sub-zero m))
+drop-take (suc n) zero l h = absurd (omega arith)
+drop-take (suc n) (suc m) [] h = sym (take-nil (suc m - suc n))
+drop-take (suc n) (suc m) (x ∷ l) h = drop-take n m l (omega arith) ∙ ap (λ (k : ℕ). take k (drop n l)) (sym (suc-sub-suc m n))
+
+faulty : (n c : ℕ) (f : RowFault) (l k : ℕ) (m : Parsed (List ℕ)) → l ≡ k → m ≡ fault f k → Fault f l ≡ counted n c m
+faulty n c f l k m h e = ap (Fault f) h ∙ sym (ap (counted n c) e)
+
+module _ (t : List ℕ) (n at size end c : ℕ) (long : length t ≡ n) (inside : at + size < n) (last : end ≡ 255 → ⊥) where
+  left : n - at - size ≡ suc (length (drop (at + (size + 1)) t))
+  left = omega (arith, length-drop (at + (size + 1)) t)
+
+  -- no data, or more than the block holds
+  pub ended-none : end < 1 → Ended t n at size end c (Fault EndByte (n - at - size))
+  ended-none h more = faulty n c EndByte _ _ (blockAt t at size end c more) left (rw (ne-eqb end 255 last) (rw (lt-ltb end 1 h)))
+
+  pub ended-over : 1 ≤ end → size < end → Ended t n at size end c (Fault EndByte (n - at - size))
+  ended-over o h more = faulty n c EndByte _ _ (blockAt t at size end c more) left (rw (ne-eqb end 255 last) (rw (le-ltb end 1 o) (rw (lt-ltb size end h))))
+
+  module _ (o : 1 ≤ end) (h : end ≤ size) (bad : ℕ) (b : bad ≡ fromBad (take (at + size - (at + end)) (drop (at + end) t))) where
+    padding : bad ≡ fromBad (drop end (take size (drop at t)))
+    padding =
+        b ∙ ap₂ (λ (k : ℕ) (z : List ℕ). fromBad (take k z)) {x = at + size - (at + end)} {y = size - end} (omega arith) (sym (drop-drop end at t))
+        ∙ ap fromBad (sym (drop-take end size (drop at t) h))
+
+    ended : (more : Parsed (List ℕ)) → blockAt t at size end c more
+        ≡ cond (allZero (drop end (take size (drop at t))))
+        (cond (ltb maxSlot (c + end)) (fault TooLong (suc (length (drop (at + (size + 1)) t)))) (got (take end (take size (drop at t))) (drop (at + (size + 1)) t)))
+        (fault Padding (fromBad (drop end (take size (drop at t))) + suc (length (drop (at + (size + 1)) t))))
+    ended more = rw (ne-eqb end 255 last) (rw (le-ltb end 1 o) (rw (le-ltb size end h)))
+
+    pub ended-padding : 0 < bad → Ended t n at size end c (Fault Padding (bad + (n - at - size)))
+    ended-padding p more =
+        faulty n c Padding _ _ (blockAt t at size end c more) (ap₂ _+_ padding left)
+        (ended more ∙ rw (bad-clear (drop end (take size (drop at t))) (subst (λ (x : ℕ). 0 < x) padding p)))
+
+    clean : bad ≤ 0 → allZero (drop end (take size (drop at t))) ≡ true
+    clean p = zero-clear (drop end (take size (drop at t))) (omega (arith, padding))
+
+    pub ended-long : bad ≤ 0 → maxSlot < c + end → Ended t n at size end c (Fault TooLong (n - at - size))
+    ended-long p l more = faulty n c TooLong _ _ (blockAt t at size end c more) left (ended more ∙ rw (clean p) (rw (lt-ltb maxSlot (c + end) l)))
+
+    pub ended-done : bad ≤ 0 → c + end ≤ maxSlot → Ended t n at size end c (Value (at + size + 1) (c + end))
+    ended-done p l more =
+        ap₂ Value {x = at + size + 1} {y = n - length (drop (at + (size + 1)) t)} (omega (arith, length-drop (at + (size + 1)) t))
+        (ap (λ (x : ℕ). c + x) (sym (length-take-le end (take size (drop at t)) (omega (arith, length-take-le size (drop at t) (omega (arith, length-drop at t)))))))
+        ∙ sym (ap (counted n c) {y = got (take end (take size (drop at t))) (drop (at + (size + 1)) t)} (ended more ∙ rw (clean p) (rw (le-ltb maxSlot (c + end) l))))

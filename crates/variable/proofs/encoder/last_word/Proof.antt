@@ -1,0 +1,76 @@
+-- `variable::encoder::last_word` meets its contract: the bytes passed spell x. Assumes nothing.
+use Prim.Native.Nat.{ℕ, _+_, _-_, _*_, _^_, _<_, _≤_}
+use mathlib.Core.Path.{_≡_, sym, ap, _∙_}
+use native.Mathlib.Omega.{arith}
+use borrow.Author.Needs.{needs}
+use lib.ListN.{length, getD, drop}
+use lib.Seq.{drop-length}
+use Rattle.format.specs.Lists.{low}
+use Rattle.laws.proofs.Bytes.{bytes-of}
+use Rattle.variable.proofs.Padded.{word-more, word-fits}
+use Rattle.variable.proofs.encoder.last_word.Statement.{statement}
+use Rattle.variable.proofs.encoder.last_word.Tie as tie
+
+abbrev Inv-loop : tie.InvT-loop
+Inv-loop input from x₀ i₀ x i = (from ≤ i) × (i ≤ length input) × (x ≡ low (drop i input))
+
+abbrev μ-loop : tie.MeasureT-loop
+μ-loop input from x₀ i₀ x i = i
+
+loop-holds : tie.Need-loop-holds Inv-loop μ-loop
+loop-holds c = (search needs, omega arith, sym (ap low (drop-length (c .before .args .input .now))))
+
+sub-i : tie.Need-sub-i Inv-loop μ-loop
+sub-i c = search needs
+
+-- the next number, and that it fits
+turn : (c : tie.In-loop Inv-loop μ-loop)
+    → (256 * c .before .loop .x + getD (c .before .before .before .args .input .now) (c .before .loop .i - 1) 0 ≡ low (drop (c .before .loop .i - 1) (c .before .before .before .args .input .now)))
+    × (low (drop (c .before .loop .i - 1) (c .before .before .before .args .input .now)) < 256 ^ 8)
+turn c =
+    let L = c .before .loop in
+    let known = c .before .before in
+    let l = known .before .args .input .now in (
+      word-more l (L .i) (L .x) (omega arith) (L .inv .1) (L .inv .2),
+      word-fits l (L .i - 1) (bytes-of l (λ i. known .shared-slice-known .given i .fits)) (omega arith),
+    )
+
+mul-x : tie.Need-mul-x Inv-loop μ-loop
+mul-x c = omega (arith, turn c)
+
+shared-slice-read-wide : tie.Need-shared-slice-read-wide Inv-loop μ-loop
+shared-slice-read-wide c = search needs
+
+wide-requires : tie.Need-wide-requires Inv-loop μ-loop
+wide-requires c κs = search needs
+
+add-x : tie.Need-add-x Inv-loop μ-loop
+add-x c = omega (arith, turn (c .before .before), c .wide .ensures)
+
+loop-less : tie.Need-loop-less Inv-loop μ-loop
+loop-less c = search needs
+
+loop-again : tie.Need-loop-again Inv-loop μ-loop
+loop-again c =
+    (omega arith, omega arith, ap (λ (b : ℕ). 256 * c .before .before .before .loop .x + b) (c .wide .ensures) ∙ turn (c .before .before) .0)
+
+returns : tie.Need-returns Inv-loop μ-loop
+returns c =
+    let A = c .before .before .before .args in
+    c .before .loop .inv .2 ∙ ap (λ (n : ℕ). low (drop n (A .input .now))) {x = c .before .loop .i} {y = A .from} (omega arith)
+
+pub last-word-spec : {M : Type 1} → statement M
+last-word-spec =
+    tie.close
+    (tie.spec
+    Inv-loop
+    μ-loop
+    loop-holds
+    sub-i
+    mul-x
+    shared-slice-read-wide
+    wide-requires
+    add-x
+    loop-less
+    loop-again
+    returns)

@@ -1,0 +1,105 @@
+/* The row station: sheets of columns to sortable rows, and back. Link target/staticlib/libstation_c.a,
+ * which `rt staticlib station_c` makes (x86-64 Linux).
+ *
+ * A slice is a pointer and a length in bytes. No two slices that are lent to one call may overlap, unless
+ * neither is written. A pointer must not be null, even where its length is 0. Nothing is kept after a call,
+ * nothing is allocated, and calls on different buffers may run at the same time.
+ *
+ * list     For each column a byte of kind and a byte of options, and for kind 15 also the width in two
+ *          bytes, low byte first (0 to 1,024). Options: bit 0 descending, bit 1 nulls first, the others
+ *          zero. 1 to 16 columns.
+ *
+ *            kind                  values                                         value bytes
+ *            1                     bool                                           1
+ *            2, 3, 4, 5            i8, i16, i32, i64                              1, 2, 4, 8
+ *            6, 7, 8, 9            u8, u16, u32, u64                              1, 2, 4, 8
+ *            10, 11, 12            f16, f32, f64 as bits                          2, 4, 8
+ *            13                    days, milliseconds (both i32)                  8
+ *            14                    months, days (i32), nanoseconds (i64)          16
+ *            15                    fixed binary                                   width
+ *            16                    variable bytes, 0 to 65,535 a slot
+ *
+ * n        The count of rows, 0 to 4,096.
+ *
+ * sheet    The columns in list order, each of:
+ *            validity   ceil(n/8) bytes; row i is bit i mod 8 of byte i div 8, least bit first, 1 for valid
+ *            values     bool: ceil(n/8) bytes packed alike; fixed kinds: n values, numbers low byte first;
+ *                       variable: n+1 ends of four bytes each, low byte first, the first 0 and none falling,
+ *                       then the bytes, value i between ends i and i+1
+ *          Spare bits are zero. A null slot may hold anything. Decode writes the cleared sheet: zeros, and
+ *          length 0, in null slots.
+ *
+ * rows     The rows, joined. Together at most 16,777,216 bytes.
+ *
+ * offsets  n+1 numbers of eight bytes, low byte first: 0, then each row's end. A length that is no multiple
+ *          of eight leaves a tail that does not count and stays.
+ *
+ * answer   Three numbers of eight bytes, low byte first, so 24 bytes; a shorter answer, and no lent byte
+ *          changes. The first is 0 for done, and else the number of the refusal:
+ *
+ *            0   done                                       total, null slots
+ *            1   list empty, or a body cut                  place of the kind byte, 0
+ *            2   unknown kind                               the same
+ *            3   other option bits set                      the same
+ *            4   width over 1,024                           the same
+ *            5   a 17th column begins                       the same
+ *            6   over 4,096 rows                            n, 0
+ *            7   column cut                                 column, 0
+ *            8   spare bit set                              column, 0
+ *            9   first end not 0, or ends fall              column, row
+ *            10  slot over 65,535                           column, row
+ *            11  bytes after the last column                place, 0
+ *            12  rows over 16,777,216 bytes                 total, 0
+ *            13  row buffer too small                       total, 0
+ *            14  offset list under n+1                      n+1, 0
+ *            15  first offset not 0, one falls, or the      its index, 0
+ *                last passes the row bytes
+ *            16  field or block cut                         row, column
+ *            17  lead byte not allowed                      row, column
+ *            18  nonzero byte after a fixed null            row, column
+ *            19  bool not 00 or 01                          row, column
+ *            20  end byte neither FF nor 1 to block size    row, column
+ *            21  padding not zero                           row, column
+ *            22  bytes after the last field                 row, column count
+ *            23  value over 65,535                          row, column
+ *            24  sheet buffer too small                     bytes needed, 0
+ *
+ *          On a refusal only these 24 bytes change. On success the bytes past the written part stay.
+ */
+#ifndef STATION_H
+#define STATION_H
+
+#include <stddef.h>
+#include <stdint.h>
+
+#ifdef __cplusplus
+extern "C" {
+#endif
+
+enum { STATION_ANSWER_BYTES = 24 };
+
+/* Checks a list. Total: columns. */
+void station_check_list(const uint8_t *list, size_t list_len, uint8_t *answer, size_t answer_len);
+
+/* Checks list and sheet. Total: row bytes. */
+void station_measure(const uint8_t *list, size_t list_len, uint64_t n, const uint8_t *sheet, size_t sheet_len,
+                     uint8_t *answer, size_t answer_len);
+
+/* Writes the rows of a sheet and their offsets. Total: row bytes. */
+void station_encode(const uint8_t *list, size_t list_len, uint64_t n, const uint8_t *sheet, size_t sheet_len,
+                    uint8_t *rows, size_t rows_len, uint8_t *offsets, size_t offsets_len, uint8_t *answer,
+                    size_t answer_len);
+
+/* Checks rows and writes their cleared sheet. Total: sheet bytes. */
+void station_decode(const uint8_t *list, size_t list_len, uint64_t n, const uint8_t *rows, size_t rows_len,
+                    const uint8_t *offsets, size_t offsets_len, uint8_t *sheet, size_t sheet_len, uint8_t *answer,
+                    size_t answer_len);
+
+/* Compares any bytes, unsigned, a proper beginning first: -1, 0 or 1. */
+int32_t station_compare(const uint8_t *a, size_t a_len, const uint8_t *b, size_t b_len);
+
+#ifdef __cplusplus
+}
+#endif
+
+#endif

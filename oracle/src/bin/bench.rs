@@ -1,0 +1,225 @@
+//! The station's whole public encode and decode against a plain Rust encoder and decoder made from
+//! the crate's `fixed.rs` and `variable.rs`: 4,096 rows of plate (u32), glyph name (variable, 12
+//! bytes), position (f64) and exposure (months, days, nanoseconds). One input, cleared buffers, the
+//! four works in turn in one run.
+
+use arrow_row::driver::{self, Array, Field};
+use oracle::columns::Column;
+use oracle::crate_side;
+use oracle::make::{self, Nulls};
+use oracle::options::Options;
+use oracle::rng::Rng;
+use oracle::table::Table;
+use std::hint::black_box;
+use std::process::{Command, ExitCode};
+use std::time::Instant;
+
+const USAGE: &str = "bench [--rounds N] [--nulls] [--descending] [--callgrind] \
+     [--only rust-encode|station-encode|rust-decode|station-decode]";
+const ROWS: usize = 4096;
+const NAME_BYTES: usize = 12;
+
+/// What is measured, each beside the one it is held against.
+const WORKS: [&str; 4] = [
+    "rust-encode",
+    "station-encode",
+    "rust-decode",
+    "station-decode",
+];
+
+/// The input in both forms, and the buffers.
+struct Bench {
+    list: Vec<u8>,
+    sheet: Vec<u8>,
+    columns: Vec<driver::Column>,
+    fields: Vec<Field>,
+    /// What both must write.
+    rows: Vec<u8>,
+    offsets: Vec<u64>,
+    row_buffer: Vec<u8>,
+    offset_buffer: Vec<u64>,
+    crate_offsets: Vec<usize>,
+    sheet_buffer: Vec<u8>,
+    arrays: Vec<Array>,
+}
+
+/// The four columns, with random values.
+fn catalogue(options: u8, nulls: Nulls) -> Table {
+    let columns = [8, 16, 12, 14].map(|kind| Column::new(kind, options));
+    make::table_with(
+        &mut Rng::new(9),
+        ROWS,
+        columns.to_vec(),
+        nulls,
+        &[NAME_BYTES],
+    )
+}
+
+impl Bench {
+    fn new(table: &Table) -> Bench {
+        let (rows, offsets) = crate_side::encode(table);
+        Bench {
+            list: table.list(),
+            sheet: table.sheet(),
+            columns: crate_side::columns(table),
+            fields: crate_side::fields(&table.columns),
+            row_buffer: vec![0; rows.len()],
+            offset_buffer: vec![0; offsets.len()],
+            crate_offsets: Vec::with_capacity(offsets.len()),
+            sheet_buffer: vec![0; table.cleared().sheet().len()],
+            arrays: Vec::new(),
+            rows,
+            offsets,
+        }
+    }
+
+    /// Clears what the works write to, and frees the arrays of the last one.
+    fn clear(&mut self) {
+        self.row_buffer.fill(0);
+        self.offset_buffer.fill(0);
+        self.crate_offsets.clear();
+        self.sheet_buffer.fill(0);
+        self.arrays.clear();
+    }
+
+    fn run(&mut self, work: &str) {
+        match work {
+            "rust-encode" => self.rust_encode(),
+            "station-encode" => self.station_encode(),
+            "rust-decode" => self.arrays = self.rust_decode(),
+            _ => self.station_decode(),
+        }
+    }
+
+    /// The nanoseconds of one work.
+    fn time(&mut self, work: &str) -> u64 {
+        self.clear();
+        let start = Instant::now();
+        self.run(work);
+        start.elapsed().as_nanos() as u64
+    }
+
+    #[inline(never)]
+    fn rust_encode(&mut self) {
+        let columns = black_box(&self.columns);
+        let total = driver::plan(columns, ROWS, &mut self.crate_offsets);
+        driver::write(
+            columns,
+            &mut self.row_buffer[..total],
+            &mut self.crate_offsets,
+        );
+    }
+
+    #[inline(never)]
+    fn station_encode(&mut self) {
+        let (rows, offsets) = (&mut self.row_buffer, &mut self.offset_buffer);
+        let sheet = black_box(&self.sheet);
+        station::encode(&self.list, ROWS as u64, sheet, rows, offsets).expect("accepted");
+    }
+
+    #[inline(never)]
+    fn rust_decode(&self) -> Vec<Array> {
+        let mut rows = crate_side::cut(black_box(&self.rows), &self.offsets);
+        driver::read(&self.fields, &mut rows)
+    }
+
+    #[inline(never)]
+    fn station_decode(&mut self) {
+        let (list, rows, sheet) = (&self.list, black_box(&self.rows), &mut self.sheet_buffer);
+        station::decode(list, ROWS as u64, rows, &self.offsets, sheet).expect("accepted");
+    }
+
+    /// Both encoders write the same rows, and the station decodes them to the cleared sheet.
+    fn check(&mut self, table: &Table) {
+        self.time("station-encode");
+        assert!(self.row_buffer == self.rows && self.offset_buffer == self.offsets);
+        self.time("rust-encode");
+        assert!(self.row_buffer == self.rows);
+        self.time("station-decode");
+        assert!(self.sheet_buffer == table.cleared().sheet());
+    }
+}
+
+/// The medians of many rounds, in nanoseconds; who comes first changes from round to round.
+fn medians(bench: &mut Bench, rounds: usize) -> [u64; 4] {
+    let mut times: [Vec<u64>; 4] = Default::default();
+    for round in 0..rounds {
+        for turn in 0..WORKS.len() {
+            let work = turn ^ (round & 1);
+            times[work].push(bench.time(WORKS[work]));
+        }
+    }
+    times.map(|mut times| {
+        times.sort_unstable();
+        times[times.len() / 2]
+    })
+}
+
+/// The instructions of one work, counted by callgrind: many rounds less one round.
+fn instructions(work: &str, words: &[&str]) -> Option<u64> {
+    let counted = |rounds: u64| {
+        let program = std::env::current_exe().ok()?;
+        let output = Command::new("valgrind")
+            .args(["--tool=callgrind", "--callgrind-out-file=/dev/null"])
+            .arg(program)
+            .args(["--only", work, "--rounds", &rounds.to_string()])
+            .args(words)
+            .output()
+            .ok()?;
+        let text = String::from_utf8(output.stderr).ok()?;
+        let count = text
+            .split("Collected :")
+            .nth(1)?
+            .split_whitespace()
+            .next()?;
+        count.parse::<u64>().ok()
+    };
+    Some((counted(11)? - counted(1)?) / 10)
+}
+
+/// A line for encode and one for decode: Rust's figure, the station's, and what the second is of
+/// the first.
+fn print_pairs(unit: &str, figures: [f64; 4]) {
+    for (i, name) in ["encode", "decode"].iter().enumerate() {
+        let (rust, station) = (figures[2 * i], figures[2 * i + 1]);
+        let ratio = station / rust;
+        println!("{name}  rust {rust:9.2}  station {station:9.2}  {unit}  ratio {ratio:.2}");
+    }
+}
+
+fn main() -> ExitCode {
+    let options = Options::read(USAGE);
+    let nulls = match options.has("--nulls") {
+        true => Nulls::Random,
+        false => Nulls::None,
+    };
+    let order = if options.has("--descending") { 3 } else { 2 };
+    let table = catalogue(order, nulls);
+    let mut bench = Bench::new(&table);
+    bench.check(&table);
+    let rounds = options.number("--rounds").unwrap_or(2001) as usize;
+    if let Some(work) = options.word("--only") {
+        (0..rounds).for_each(|_| bench.run(work));
+        return ExitCode::SUCCESS;
+    }
+
+    println!(
+        "{ROWS} rows, {} row bytes, medians of {rounds} rounds",
+        bench.rows.len()
+    );
+    let medians = medians(&mut bench, rounds);
+    print_pairs("ns a row", medians.map(|ns| ns as f64 / ROWS as f64));
+    if options.has("--callgrind") {
+        let words = ["--nulls", "--descending"].map(|w| options.has(w).then_some(w));
+        let words: Vec<&str> = words.into_iter().flatten().collect();
+        let counts = WORKS.map(|work| instructions(work, &words));
+        match counts.iter().all(Option::is_some) {
+            true => print_pairs(
+                "instructions a row",
+                counts.map(|count| count.unwrap_or(0) as f64 / ROWS as f64),
+            ),
+            false => println!("callgrind gave no counts; is valgrind there?"),
+        }
+    }
+    ExitCode::SUCCESS
+}

@@ -1,0 +1,39 @@
+//! The station against the crate on accepted sheets, and against document 01 on all others.
+
+use oracle::judge::Judge;
+use oracle::options::Options;
+use oracle::rng::Rng;
+use oracle::yard::Yard;
+use oracle::{document, misreads, refusals, sweeps, trap};
+use std::process::ExitCode;
+
+fn main() -> ExitCode {
+    let options = Options::read("differential [--quick] [--seed N] [--sheets N]");
+    let quick = options.has("--quick");
+    let seed = options.number("--seed").unwrap_or(1);
+    let sheets = match options.number("--sheets") {
+        Some(sheets) => sheets as usize,
+        None if quick => 3_000,
+        None => 40_000,
+    };
+    println!("seed {seed}, {sheets} random sheets (--seed {seed} --sheets {sheets} runs the same)");
+    trap::watch();
+    let (mut judge, mut rng) = (Judge::new(Yard::fenced()), Rng::new(seed));
+
+    document::hold(&mut judge);
+    let misread = misreads::hold(&mut judge);
+    println!("document 01's own cases run; {misread} misreadings of the crate shown");
+    sweeps::kinds(&mut judge, &mut rng, !quick);
+    sweeps::lengths(&mut judge, &mut rng);
+    sweeps::tables(&mut judge, &mut rng, sheets);
+    sweeps::ceiling(&mut judge, &mut rng);
+    refusals::lists(&mut judge);
+    refusals::rows(&mut judge, &mut rng);
+    refusals::long_values(&mut judge);
+    refusals::sheets(&mut judge, &mut rng);
+    refusals::rooms(&mut judge, &mut rng);
+    refusals::damaged(&mut judge, &mut rng, sheets);
+
+    // Every answer of the entries, 0 to 24, must have come up.
+    judge.finish(0..25)
+}

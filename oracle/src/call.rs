@@ -1,0 +1,252 @@
+//! Calls of the C entries with any bytes, and what document 01 says that they leave behind.
+
+use crate::hex::hex_start;
+use crate::model::{self, Checked, Numbers};
+use crate::trap;
+use crate::yard::{Lend, Yard};
+use station::raw;
+use std::fmt;
+
+/// The C entries.
+#[derive(Clone, Copy, Debug, PartialEq, Eq)]
+pub enum Entry {
+    CheckList,
+    Measure,
+    Encode,
+    Decode,
+    Compare,
+}
+
+pub const ENTRIES: [Entry; 5] = [
+    Entry::CheckList,
+    Entry::Measure,
+    Entry::Encode,
+    Entry::Decode,
+    Entry::Compare,
+];
+
+impl Entry {
+    pub fn name(self) -> &'static str {
+        match self {
+            Entry::CheckList => "check_list",
+            Entry::Measure => "measure",
+            Entry::Encode => "encode",
+            Entry::Decode => "decode",
+            Entry::Compare => "compare",
+        }
+    }
+
+    /// The names of the slices that the entry reads, and of those that it writes to.
+    fn arguments(self) -> (&'static [&'static str], &'static [&'static str]) {
+        match self {
+            Entry::CheckList => (&["list"], &[]),
+            Entry::Measure => (&["list", "sheet"], &[]),
+            Entry::Encode => (&["list", "sheet"], &["rows", "offsets"]),
+            Entry::Decode => (&["list", "rows", "offsets"], &["sheet"]),
+            Entry::Compare => (&["a", "b"], &[]),
+        }
+    }
+}
+
+/// One call: the slices that are read, in the order of the entry, and the lengths of those that are
+/// lent for writing. What these hold at first is [`junk`].
+#[derive(Clone, Debug, PartialEq, Eq)]
+pub struct Call {
+    pub entry: Entry,
+    pub n: u64,
+    pub given: Vec<Vec<u8>>,
+    pub lent: Vec<usize>,
+    pub answer: usize,
+}
+
+/// What a call leaves behind: the lent slices, the answer, and what compare returned.
+#[derive(Debug, PartialEq, Eq)]
+pub struct Exit {
+    pub lent: Vec<Vec<u8>>,
+    pub answer: Vec<u8>,
+    pub sign: i32,
+}
+
+/// What a lent slice holds at first: bytes that differ from their neighbours, and from zeros.
+pub fn junk(len: usize) -> Vec<u8> {
+    (0..len).map(|i| (i * 151 + 165) as u8).collect()
+}
+
+/// Numbers as eight bytes each, low byte first.
+pub fn eights(numbers: &[u64]) -> Vec<u8> {
+    numbers.iter().flat_map(|x| x.to_le_bytes()).collect()
+}
+
+/// The numbers of bytes, eight each; a shorter tail does not count.
+pub fn numbers(bytes: &[u8]) -> Vec<u64> {
+    let eight = bytes.chunks_exact(8);
+    eight
+        .map(|b| u64::from_le_bytes(b.try_into().expect("eight bytes")))
+        .collect()
+}
+
+impl Call {
+    fn new(entry: Entry, n: u64, given: &[&[u8]], lent: &[usize]) -> Call {
+        Call {
+            entry,
+            n,
+            given: given.iter().map(|bytes| bytes.to_vec()).collect(),
+            lent: lent.to_vec(),
+            answer: station::ANSWER_BYTES,
+        }
+    }
+
+    pub fn check_list(list: &[u8]) -> Call {
+        Call::new(Entry::CheckList, 0, &[list], &[])
+    }
+
+    pub fn measure(list: &[u8], n: u64, sheet: &[u8]) -> Call {
+        Call::new(Entry::Measure, n, &[list, sheet], &[])
+    }
+
+    /// The rooms are bytes, for offsets too.
+    pub fn encode(list: &[u8], n: u64, sheet: &[u8], rows: usize, offsets: usize) -> Call {
+        Call::new(Entry::Encode, n, &[list, sheet], &[rows, offsets])
+    }
+
+    /// The offsets are bytes.
+    pub fn decode(list: &[u8], n: u64, rows: &[u8], offsets: &[u8], sheet: usize) -> Call {
+        Call::new(Entry::Decode, n, &[list, rows, offsets], &[sheet])
+    }
+
+    pub fn compare(a: &[u8], b: &[u8]) -> Call {
+        Call::new(Entry::Compare, 0, &[a, b], &[])
+    }
+
+    pub fn answer(mut self, len: usize) -> Call {
+        self.answer = len;
+        self
+    }
+
+    /// The bytes that are read, to tell small inputs from large ones.
+    pub fn size(&self) -> usize {
+        self.given.iter().map(Vec::len).sum()
+    }
+
+    /// What document 01 says: the numbers, and what is written in front of each lent slice.
+    fn said(&self) -> Checked<(Numbers, Vec<Vec<u8>>)> {
+        let given = |i: usize| self.given[i].as_slice();
+        Ok(match self.entry {
+            Entry::Compare => ([0; 3], vec![]),
+            Entry::CheckList => {
+                let columns = model::read_list(given(0))?;
+                ([0, columns.len() as u64, 0], vec![])
+            }
+            Entry::Measure => {
+                let measured = model::measure(given(0), self.n, given(1))?;
+                ([0, measured.total, measured.nulls], vec![])
+            }
+            Entry::Encode => {
+                let offset_room = self.lent[1] / 8;
+                let encoded = model::encode(given(0), self.n, given(1), self.lent[0], offset_room)?;
+                let total = encoded.rows.len() as u64;
+                let written = vec![encoded.rows, eights(&encoded.offsets)];
+                ([0, total, encoded.nulls], written)
+            }
+            Entry::Decode => {
+                let offsets = numbers(given(2));
+                let decoded = model::decode(given(0), self.n, given(1), &offsets, self.lent[0])?;
+                let total = decoded.sheet.len() as u64;
+                ([0, total, decoded.nulls], vec![decoded.sheet])
+            }
+        })
+    }
+
+    /// What the call must leave behind.
+    pub fn expected(&self) -> Exit {
+        let mut lent: Vec<Vec<u8>> = self.lent.iter().map(|len| junk(*len)).collect();
+        let mut answer = junk(self.answer);
+        let mut sign = 0;
+        if self.entry == Entry::Compare {
+            sign = self.given[0].cmp(&self.given[1]) as i32;
+        } else if answer.len() >= station::ANSWER_BYTES {
+            let (numbers, written) = self.said().unwrap_or_else(|numbers| (numbers, vec![]));
+            answer[..station::ANSWER_BYTES].copy_from_slice(&eights(&numbers));
+            for (buffer, new) in lent.iter_mut().zip(written) {
+                buffer[..new.len()].copy_from_slice(&new);
+            }
+        }
+        Exit { lent, answer, sign }
+    }
+
+    /// What the station leaves behind; a fault if it touched anything else.
+    pub fn performed(&self, yard: &mut Yard) -> Result<Exit, String> {
+        let given: Vec<Lend> = self.given.iter().map(|bytes| yard.lend(bytes)).collect();
+        let lent = self.lent.iter().map(|len| yard.lend(&junk(*len)));
+        let lent: Vec<Lend> = lent.collect();
+        let answer = yard.lend(&junk(self.answer));
+        let sign = trap::during(self, || self.enter(&given, &lent, answer));
+        let exit = Exit {
+            lent: lent.iter().map(|l| yard.bytes(*l).to_vec()).collect(),
+            answer: yard.bytes(answer).to_vec(),
+            sign,
+        };
+        let mut kept = given.iter().zip(&self.given);
+        let changed = kept.any(|(lend, before)| yard.bytes(*lend) != before);
+        yard.take_back()?;
+        match changed {
+            true => Err("a slice that is only read has changed".to_string()),
+            false => Ok(exit),
+        }
+    }
+
+    /// The call itself.
+    fn enter(&self, g: &[Lend], l: &[Lend], a: Lend) -> i32 {
+        let n = self.n;
+        // SAFETY: each pointer comes with the length of its own slice, and no two overlap.
+        unsafe {
+            match self.entry {
+                Entry::CheckList => raw::station_check_list(g[0].at, g[0].len, a.at, a.len),
+                Entry::Measure => {
+                    raw::station_measure(g[0].at, g[0].len, n, g[1].at, g[1].len, a.at, a.len)
+                }
+                Entry::Encode => raw::station_encode(
+                    g[0].at, g[0].len, n, g[1].at, g[1].len, l[0].at, l[0].len, l[1].at, l[1].len,
+                    a.at, a.len,
+                ),
+                Entry::Decode => raw::station_decode(
+                    g[0].at, g[0].len, n, g[1].at, g[1].len, g[2].at, g[2].len, l[0].at, l[0].len,
+                    a.at, a.len,
+                ),
+                Entry::Compare => {
+                    return raw::station_compare(g[0].at, g[0].len, g[1].at, g[1].len)
+                }
+            }
+        }
+        0
+    }
+}
+
+impl fmt::Display for Call {
+    fn fmt(&self, f: &mut fmt::Formatter<'_>) -> fmt::Result {
+        let (read, written) = self.entry.arguments();
+        write!(f, "{} n {}", self.entry.name(), self.n)?;
+        for (name, bytes) in read.iter().zip(&self.given) {
+            write!(f, " {name} {}", hex_start(bytes))?;
+        }
+        for (name, len) in written.iter().zip(&self.lent) {
+            write!(f, " room for {name} {len}")?;
+        }
+        write!(f, " room for the answer {}", self.answer)
+    }
+}
+
+impl fmt::Display for Exit {
+    fn fmt(&self, f: &mut fmt::Formatter<'_>) -> fmt::Result {
+        write!(
+            f,
+            "numbers {:?} returned {}",
+            numbers(&self.answer),
+            self.sign
+        )?;
+        for bytes in &self.lent {
+            write!(f, " lent {}", hex_start(bytes))?;
+        }
+        Ok(())
+    }
+}

@@ -1,0 +1,151 @@
+//! Document 01's own examples: its table, its cases to run, the program's input. The bytes and
+//! numbers here are copied from the document.
+
+use crate::call::{eights, numbers, Call};
+use crate::columns::{Column, VARIABLE};
+use crate::crate_side;
+use crate::hex::hex;
+use crate::judge::Judge;
+use crate::model::Numbers;
+use crate::table::{Slot, Table};
+
+/// A kind with its options, a value's bytes in the sheet (none: null), and the field.
+type Written = (u8, u8, Option<&'static [u8]>, &'static [u8]);
+
+/// Lines 1 to 9 of the table.
+const FIELDS: [Written; 15] = [
+    (4, 2, Some(&[0xFF; 4]), &[0x01, 0x7F, 0xFF, 0xFF, 0xFF]),
+    (4, 3, Some(&[0xFF; 4]), &[0x01, 0x80, 0x00, 0x00, 0x00]),
+    (3, 1, None, &[0xFF, 0x00, 0x00]),
+    (7, 2, Some(&[2, 1]), &[0x01, 0x01, 0x02]),
+    (
+        11,
+        2,
+        Some(&[0, 0, 0, 0x80]),
+        &[0x01, 0x7F, 0xFF, 0xFF, 0xFF],
+    ),
+    (11, 2, Some(&[0, 0, 0, 0]), &[0x01, 0x80, 0x00, 0x00, 0x00]),
+    (
+        11,
+        2,
+        Some(&[0, 0, 0x80, 0x3F]),
+        &[0x01, 0xBF, 0x80, 0x00, 0x00],
+    ),
+    (
+        11,
+        2,
+        Some(&[0, 0, 0x80, 0xBF]),
+        &[0x01, 0x40, 0x7F, 0xFF, 0xFF],
+    ),
+    (1, 3, Some(&[1]), &[0x01, 0xFE]),
+    (
+        13,
+        2,
+        Some(&[1, 0, 0, 0, 0xFF, 0xFF, 0xFF, 0xFF]),
+        &[0x01, 0x80, 0x00, 0x00, 0x01, 0x7F, 0xFF, 0xFF, 0xFF],
+    ),
+    (VARIABLE, 2, Some(&[]), &[0x01]),
+    (VARIABLE, 3, Some(&[]), &[0xFE]),
+    (VARIABLE, 2, Some(b"a"), &[2, 0x61, 0, 0, 0, 0, 0, 0, 0, 1]),
+    (
+        VARIABLE,
+        3,
+        Some(b"a"),
+        &[0xFD, 0x9E, 0xFF, 0xFF, 0xFF, 0xFF, 0xFF, 0xFF, 0xFF, 0xFE],
+    ),
+    (VARIABLE, 0, None, &[0xFF]),
+];
+
+/// A length, the bytes of its field, and some places in it with the bytes there.
+type Ended = (usize, usize, &'static [(usize, u8)]);
+
+/// Line 11 of the table, and the lengths among the cases to run.
+const LENGTHS: [Ended; 6] = [
+    (1, 10, &[(9, 1)]),
+    (8, 10, &[(9, 8)]),
+    (9, 19, &[(9, 0xFF), (18, 1)]),
+    (32, 37, &[(36, 8)]),
+    (33, 70, &[(36, 0xFF), (69, 1)]),
+    (65_535, 67_588, &[(67_587, 31)]),
+];
+
+/// Rows of one variable column, nulls first, and what is wrong with them.
+const DAMAGED: [(&[u8], u64); 5] = [
+    (&[3], 17),
+    (&[2], 16),
+    (&[2, 0x61, 0, 0, 0, 0, 0, 0, 0, 9], 20),
+    (&[2, 0x61, 0, 0, 0, 0, 0, 0, 0, 0], 20),
+    (&[2, 0x61, 0, 0, 0, 0, 0, 0, 1, 1], 21),
+];
+
+/// A table of one column.
+pub fn one_slot_each(column: Column, values: &[Option<&[u8]>]) -> Table {
+    let slot = |value: &Option<&[u8]>| Slot {
+        valid: value.is_some(),
+        bytes: value.map_or(vec![0; column.width], <[u8]>::to_vec),
+    };
+    Table {
+        rows: values.len(),
+        columns: vec![column],
+        slots: vec![values.iter().map(slot).collect()],
+    }
+}
+
+/// All of them.
+pub fn hold(judge: &mut Judge) {
+    for (kind, options, value, field) in FIELDS {
+        let table = one_slot_each(Column::new(kind, options), &[value]);
+        hold_rows(judge, &table, &[field]);
+    }
+    let width_0 = one_slot_each(Column::fixed_binary(0, 2), &[Some(&[]), None]);
+    hold_rows(judge, &width_0, &[&[0x01], &[0x00]]);
+    let program = one_slot_each(Column::new(4, 2), &[Some(&[1, 0, 0, 0]), None]);
+    hold_rows(judge, &program, &[&[1, 0x80, 0, 0, 1], &[0, 0, 0, 0, 0]]);
+    hold_lengths(judge);
+    hold_refusals(judge);
+}
+
+/// The crate writes these rows, and the station the crate's.
+fn hold_rows(judge: &mut Judge, table: &Table, rows: &[&[u8]]) {
+    let (bytes, offsets) = crate_side::encode(table);
+    judge.ensure(crate_side::cut(&bytes, &offsets) == rows, || {
+        format!("the crate: {} for {table}", hex(&bytes))
+    });
+    judge.table(table);
+}
+
+/// The field of a value of each length takes so many bytes, of which these are as document 01 says.
+fn hold_lengths(judge: &mut Judge) {
+    for (length, bytes, ends) in LENGTHS {
+        let value = vec![b'a'; length];
+        let table = one_slot_each(Column::new(VARIABLE, 2), &[Some(&value), None]);
+        let (rows, offsets) = crate_side::encode(&table);
+        let (first, second) = (bytes as u64, bytes as u64 + 1);
+        let right = offsets == [0, first, second] && ends.iter().all(|(at, end)| rows[*at] == *end);
+        judge.ensure(right, || {
+            format!("the crate ends length {length} otherwise")
+        });
+        judge.table(&table);
+    }
+}
+
+fn hold_refusals(judge: &mut Judge) {
+    let list = Column::new(VARIABLE, 2).description();
+    for (row, number) in DAMAGED {
+        let offsets = eights(&[0, row.len() as u64]);
+        let call = Call::decode(&list, 1, row, &offsets, 64);
+        hold_numbers(judge, call, [number, 0, 0]);
+    }
+    let long = one_slot_each(Column::new(VARIABLE, 2), &[Some(&[0; 65_536])]);
+    let call = Call::encode(&list, 1, &long.sheet(), 100_000, 16);
+    hold_numbers(judge, call, [10, 0, 0]);
+}
+
+/// The model says these numbers, and the station what the model says.
+fn hold_numbers(judge: &mut Judge, call: Call, said: Numbers) {
+    let modelled = numbers(&call.expected().answer);
+    judge.ensure(modelled == said, || {
+        format!("the model: {modelled:?}, not {said:?}, for {call}")
+    });
+    judge.call(call);
+}

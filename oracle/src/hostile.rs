@@ -1,0 +1,99 @@
+//! Calls with anything in them.
+
+use crate::call::{Call, Entry, ENTRIES};
+use crate::damage::{self, Good};
+use crate::make;
+use crate::rng::Rng;
+
+/// Random bytes, few or many.
+fn noise(rng: &mut Rng) -> Vec<u8> {
+    let count = match rng.below(10) {
+        0 => 0,
+        1 => rng.below(4096),
+        _ => rng.below(100),
+    };
+    match rng.once_in(4) {
+        true => vec![rng.byte(); count],
+        false => rng.bytes(count),
+    }
+}
+
+/// A list that may be good, whatever comes with it.
+fn some_list(rng: &mut Rng) -> Vec<u8> {
+    match rng.once_in(4) {
+        true => noise(rng),
+        false => make::small_table(rng).list(),
+    }
+}
+
+/// Any 64-bit number, mostly a small one.
+fn some_count(rng: &mut Rng) -> u64 {
+    match rng.below(4) {
+        0 => rng.word(),
+        1 => rng.below(5000) as u64,
+        _ => rng.below(10) as u64,
+    }
+}
+
+/// Offsets that rise, or noise.
+fn some_offsets(rng: &mut Rng, rows: usize) -> Vec<u8> {
+    if rng.once_in(3) {
+        return noise(rng);
+    }
+    let mut offset = 0;
+    let mut bytes = Vec::new();
+    for _ in 0..rng.below(12) {
+        bytes.extend((offset as u64).to_le_bytes());
+        offset += rng.below(rows / 4 + 2);
+    }
+    bytes
+}
+
+/// A call of an entry with slices that have nothing to do with each other.
+fn noisy(rng: &mut Rng, entry: Entry) -> Call {
+    let (list, n, bytes) = (some_list(rng), some_count(rng), noise(rng));
+    let (room, other_room) = (rng.below(200), rng.below(200));
+    match entry {
+        Entry::CheckList => Call::check_list(&list),
+        Entry::Measure => Call::measure(&list, n, &bytes),
+        Entry::Encode => Call::encode(&list, n, &bytes, room, other_room),
+        Entry::Decode => {
+            let offsets = some_offsets(rng, bytes.len());
+            Call::decode(&list, n, &bytes, &offsets, room)
+        }
+        Entry::Compare => {
+            // The same beginning, so that more than the first byte is looked at.
+            let mut other = bytes.clone();
+            damage::change(rng, &mut other);
+            Call::compare(&bytes, &other)
+        }
+    }
+}
+
+/// Something good to damage, mostly small.
+fn some_good(rng: &mut Rng) -> Good {
+    Good::of(&match rng.once_in(50) {
+        true => make::any_table(rng),
+        false => make::small_table(rng),
+    })
+}
+
+/// A call of any entry: noise, or a good one that was damaged.
+pub fn call(rng: &mut Rng) -> Call {
+    let entry = rng.pick(&ENTRIES);
+    let mut call = match entry {
+        Entry::Encode | Entry::Measure if !rng.once_in(4) => {
+            let good = some_good(rng);
+            damage::encode(rng, &good)
+        }
+        Entry::Decode if !rng.once_in(4) => {
+            let good = some_good(rng);
+            damage::decode(rng, &good)
+        }
+        _ => noisy(rng, entry),
+    };
+    if rng.once_in(10) {
+        call.answer = rng.below(48);
+    }
+    call
+}

@@ -1,0 +1,287 @@
+//! Holds the station against the crate and the model, counts, and reports the smallest failure.
+
+use crate::call::{eights, junk, numbers, Call, Entry, Exit, ENTRIES};
+use crate::crate_side;
+use crate::hex::hex_start;
+use crate::model;
+use crate::order::row_order;
+use crate::shrink::{shrunk_call, shrunk_table};
+use crate::table::Table;
+use crate::yard::Yard;
+use std::process::ExitCode;
+use std::time::{Duration, Instant};
+
+/// The numbers that an entry may answer with: 0, and refusals 1 to 24.
+const ANSWERS: usize = 25;
+/// Pairs of rows that are compared in each table.
+const PAIRS: usize = 64;
+
+/// What was done.
+#[derive(Default)]
+struct Tally {
+    tables: u64,
+    rows: u64,
+    row_bytes: u64,
+    pairs: u64,
+    calls: [u64; ENTRIES.len()],
+    answers: [u64; ANSWERS],
+    short_answers: u64,
+}
+
+/// An input that fails, with what was wrong when it was found.
+enum Failing {
+    Table(Table, String),
+    Call(Call, String),
+    Other(String),
+}
+
+impl Failing {
+    fn size(&self) -> usize {
+        match self {
+            Failing::Table(table, _) => table.list().len() + table.sheet().len(),
+            Failing::Call(call, _) => call.size(),
+            Failing::Other(text) => text.len(),
+        }
+    }
+}
+
+pub struct Judge {
+    yard: Yard,
+    tally: Tally,
+    started: Instant,
+    shown: Instant,
+    failures: u64,
+    smallest: Option<Failing>,
+}
+
+impl Judge {
+    pub fn new(yard: Yard) -> Judge {
+        Judge {
+            yard,
+            tally: Tally::default(),
+            started: Instant::now(),
+            shown: Instant::now(),
+            failures: 0,
+            smallest: None,
+        }
+    }
+
+    /// A line on standard error, every few seconds.
+    pub fn progress(&mut self, stage: &str, done: usize, all: usize) {
+        if self.shown.elapsed() > Duration::from_secs(5) {
+            self.shown = Instant::now();
+            let seconds = self.started.elapsed().as_secs();
+            let failures = self.failures;
+            eprintln!("  {stage}: {done} of {all}, {seconds} s, {failures} failures");
+        }
+    }
+
+    /// One call: the station must leave behind exactly what document 01 says.
+    pub fn call(&mut self, call: Call) {
+        if let Err(fault) = self.hold(&call) {
+            self.failed(Failing::Call(call, fault));
+        }
+    }
+
+    /// One table: the station's rows must be the crate's, and all that follows from it.
+    pub fn table(&mut self, table: &Table) {
+        if let Err(fault) = self.hold_table(table) {
+            self.failed(Failing::Table(table.clone(), fault));
+        }
+    }
+
+    /// Anything else that must hold, or else what is wrong.
+    pub fn ensure(&mut self, held: bool, fault: impl FnOnce() -> String) {
+        if !held {
+            self.failed(Failing::Other(fault()));
+        }
+    }
+
+    fn failed(&mut self, failing: Failing) {
+        self.failures += 1;
+        let smaller = |least: &Failing| failing.size() < least.size();
+        if self.smallest.as_ref().is_none_or(smaller) {
+            self.smallest = Some(failing);
+        }
+    }
+
+    fn hold(&mut self, call: &Call) -> Result<(), String> {
+        let expected = call.expected();
+        self.count(call.entry, &expected);
+        let exit = call.performed(&mut self.yard)?;
+        ensure(exit == expected, || {
+            format!("document 01: {expected}\n  the station: {exit}")
+        })
+    }
+
+    fn count(&mut self, entry: Entry, exit: &Exit) {
+        self.tally.calls[entry as usize] += 1;
+        match numbers(&exit.answer)[..] {
+            _ if entry == Entry::Compare => {}
+            [number, _, _, ..] => self.tally.answers[number as usize] += 1,
+            _ => self.tally.short_answers += 1,
+        }
+    }
+
+    fn hold_table(&mut self, table: &Table) -> Result<(), String> {
+        let (rows, offsets) = crate_side::encode(table);
+        self.tally.tables += 1;
+        self.tally.rows += table.rows as u64;
+        self.tally.row_bytes += rows.len() as u64;
+        hold_model(table, &rows, &offsets)?;
+        self.hold_entries(table, &rows, &offsets)?;
+        hold_bindings(table, &rows, &offsets)?;
+        hold_crate_decoders(table, &rows, &offsets)?;
+        self.hold_order(table, &rows, &offsets)
+    }
+
+    /// The C entries, each slice fenced, with exact room and with a little more; row bytes past the
+    /// last offset and offsets past index n mean nothing.
+    fn hold_entries(&mut self, table: &Table, rows: &[u8], offsets: &[u64]) -> Result<(), String> {
+        let (list, sheet, n) = (table.list(), table.sheet(), table.rows as u64);
+        let more = table.rows % 3 * 5;
+        let rows = [rows, &junk(more)].concat();
+        let offsets = [eights(offsets), junk(more)].concat();
+        let sheet_room = table.cleared().sheet().len() + more;
+        self.hold(&Call::check_list(&list))?;
+        self.hold(&Call::measure(&list, n, &sheet))?;
+        self.hold(&Call::encode(&list, n, &sheet, rows.len(), offsets.len()))?;
+        self.hold(&Call::decode(&list, n, &rows, &offsets, sheet_room))
+    }
+
+    /// Compare against the order of slices, and that against the order of values.
+    fn hold_order(&mut self, table: &Table, rows: &[u8], offsets: &[u64]) -> Result<(), String> {
+        let rows = crate_side::cut(rows, offsets);
+        for i in 0..rows.len().min(PAIRS) {
+            for j in [(i + 1) % rows.len(), (7 * i + 3) % rows.len()] {
+                self.tally.pairs += 1;
+                let order = rows[i].cmp(rows[j]);
+                ensure(station::compare(rows[i], rows[j]) == order, || {
+                    format!("rows {i} and {j} do not compare as their bytes")
+                })?;
+                ensure(row_order(table, i, j) == order, || {
+                    format!("the bytes of rows {i} and {j} are not in the order of their values")
+                })?;
+            }
+        }
+        match rows[..] {
+            [first, .., last] => self.hold(&Call::compare(first, last)),
+            _ => Ok(()),
+        }
+    }
+
+    /// Prints what was done; a failure is made small first, and printed in hex. Refusals in `needed`
+    /// must all have been seen.
+    pub fn finish(mut self, needed: std::ops::Range<usize>) -> ExitCode {
+        let unseen: Vec<usize> = needed.filter(|i| self.tally.answers[*i] == 0).collect();
+        self.ensure(unseen.is_empty(), || {
+            format!("no call was answered with {unseen:?}")
+        });
+        self.print_tally();
+        match self.smallest.take() {
+            None => {
+                println!("all agree");
+                ExitCode::SUCCESS
+            }
+            Some(failing) => {
+                println!("{} FAILURES; the smallest:", self.failures);
+                println!("{}", self.described(failing));
+                ExitCode::FAILURE
+            }
+        }
+    }
+
+    fn print_tally(&self) {
+        let tally = &self.tally;
+        if tally.tables > 0 {
+            println!(
+                "accepted sheets {}, rows {}, row bytes {}, pairs of rows compared {}",
+                tally.tables, tally.rows, tally.row_bytes, tally.pairs
+            );
+        }
+        let calls = ENTRIES.iter().zip(tally.calls);
+        let calls: Vec<String> = calls.map(|(e, n)| format!("{} {n}", e.name())).collect();
+        println!("fenced calls: {}", calls.join(", "));
+        let answers = tally.answers.iter().enumerate().filter(|(_, n)| **n > 0);
+        let answers: Vec<String> = answers.map(|(i, n)| format!("{i}: {n}")).collect();
+        println!(
+            "answers: {}; too short for an answer: {}",
+            answers.join(", "),
+            tally.short_answers
+        );
+        println!("time: {:.1} s", self.started.elapsed().as_secs_f64());
+    }
+
+    /// A failing input, made small, and what is wrong with it.
+    fn described(&mut self, failing: Failing) -> String {
+        match failing {
+            Failing::Other(fault) => fault,
+            Failing::Call(call, first) => {
+                let call = shrunk_call(call, |call| self.hold(call).is_err());
+                let fault = self.hold(&call).err().unwrap_or(first);
+                format!("  {call}\n  {fault}")
+            }
+            Failing::Table(table, first) => {
+                let table = shrunk_table(table, |table| self.hold_table(table).is_err());
+                let fault = self.hold_table(&table).err().unwrap_or(first);
+                let (rows, offsets) = crate_side::encode(&table);
+                let rows = hex_start(&rows);
+                format!("  {table}\n  {fault}\n  the crate: rows {rows} offsets {offsets:?}")
+            }
+        }
+    }
+}
+
+fn ensure(held: bool, fault: impl FnOnce() -> String) -> Result<(), String> {
+    match held {
+        true => Ok(()),
+        false => Err(fault()),
+    }
+}
+
+/// The model writes what the crate writes.
+fn hold_model(table: &Table, rows: &[u8], offsets: &[u64]) -> Result<(), String> {
+    let (list, n, sheet) = (table.list(), table.rows as u64, table.sheet());
+    let encoded = model::encode(&list, n, &sheet, rows.len(), offsets.len())
+        .map_err(|numbers| format!("the model refuses what the crate encodes: {numbers:?}"))?;
+    ensure(encoded.rows == rows && encoded.offsets == offsets, || {
+        "the model's rows are not the crate's".to_string()
+    })?;
+    ensure(encoded.nulls == table.nulls(), || {
+        "the model's null total is off".to_string()
+    })
+}
+
+/// The safe bindings: encode, decode to the cleared sheet, encode that again.
+fn hold_bindings(table: &Table, rows: &[u8], offsets: &[u64]) -> Result<(), String> {
+    let (list, n, cleared) = (table.list(), table.rows as u64, table.cleared().sheet());
+    let refused = |refusal: station::Refusal| format!("the station refuses: {refusal}");
+    for sheet in [&table.sheet(), &cleared] {
+        let encoded = station::encode_to_vec(&list, n, sheet).map_err(refused)?;
+        let same_rows = encoded.bytes == rows && encoded.offsets == offsets;
+        ensure(same_rows && encoded.nulls == table.nulls(), || {
+            let (rows, offsets) = (hex_start(&encoded.bytes), &encoded.offsets);
+            let nulls = encoded.nulls;
+            format!("the station: rows {rows} offsets {offsets:?} nulls {nulls}")
+        })?;
+    }
+    let decoded = station::decode_to_vec(&list, n, rows, offsets).map_err(refused)?;
+    ensure(decoded == cleared, || {
+        format!("the station decodes to {}", hex_start(&decoded))
+    })
+}
+
+/// The crate's decoders give the valid slots back and leave no byte of a row.
+fn hold_crate_decoders(table: &Table, rows: &[u8], offsets: &[u64]) -> Result<(), String> {
+    let read = crate_side::decode(&table.columns, rows, offsets);
+    ensure(read.left.iter().all(|left| *left == 0), || {
+        "the crate leaves bytes of a row".to_string()
+    })?;
+    for (c, (read, slots)) in read.slots.iter().zip(&table.slots).enumerate() {
+        let values = slots.iter().map(|slot| slot.value());
+        ensure(read.iter().map(Option::as_deref).eq(values), || {
+            format!("the crate decodes column {c} to other values")
+        })?;
+    }
+    Ok(())
+}

@@ -1,0 +1,26 @@
+//! The station held against the code it carries over and against document 01.
+//!
+//! A [`table::Table`] is a sheet that must be accepted; [`judge::Judge::table`] asks the crate, the
+//! model and the station for its rows and compares. A [`call::Call`] is one call of a C entry with
+//! any bytes; [`judge::Judge::call`] asks the model and the station.
+
+pub mod call;
+pub mod columns;
+pub mod crate_side;
+pub mod damage;
+pub mod document;
+pub mod hex;
+pub mod hostile;
+pub mod judge;
+pub mod make;
+pub mod misreads;
+pub mod model;
+pub mod options;
+pub mod order;
+pub mod refusals;
+pub mod rng;
+pub mod shrink;
+pub mod sweeps;
+pub mod table;
+pub mod trap;
+pub mod yard;

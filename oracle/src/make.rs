@@ -1,0 +1,221 @@
+//! Tables to try: every kind, lengths and row counts around each boundary, values around each edge.
+
+use crate::columns::{Column, BOOL, DAY_TIME, FIXED_BINARY, KINDS, MONTH_DAY_NANO, VARIABLE};
+use crate::rng::Rng;
+use crate::table::{Slot, Table};
+
+/// Row counts around each byte boundary of the packed bits.
+pub const ROW_COUNTS: [usize; 8] = [0, 1, 7, 8, 9, 15, 16, 17];
+/// Row counts at the ceiling.
+pub const FULL_ROW_COUNTS: [usize; 2] = [4095, 4096];
+/// Lengths around each block boundary.
+pub const LENGTHS: [usize; 17] = [
+    0, 1, 7, 8, 9, 15, 16, 17, 31, 32, 33, 63, 64, 65, 95, 96, 97,
+];
+/// Longer ones, up to the ceiling: 65,504 fills 2,047 blocks of 32.
+pub const LONG_LENGTHS: [usize; 15] = [
+    127, 128, 129, 255, 256, 257, 1023, 1024, 1025, 32_767, 32_768, 65_503, 65_504, 65_505, 65_535,
+];
+/// Widths of fixed binary.
+pub const WIDTHS: [usize; 6] = [0, 1, 2, 16, 1023, 1024];
+/// Descending and nulls first, in all four ways.
+pub const OPTIONS: std::ops::Range<u8> = 0..4;
+
+/// Which slots of a column are null.
+#[derive(Clone, Copy, Debug)]
+pub enum Nulls {
+    None,
+    All,
+    Random,
+    Alternating,
+}
+
+pub const NULLS: [Nulls; 4] = [Nulls::None, Nulls::All, Nulls::Random, Nulls::Alternating];
+
+impl Nulls {
+    fn at(self, rng: &mut Rng, row: usize) -> bool {
+        match self {
+            Nulls::None => false,
+            Nulls::All => true,
+            Nulls::Random => rng.once_in(2),
+            Nulls::Alternating => row % 2 == 1,
+        }
+    }
+}
+
+/// Every kind, with each width of fixed binary, under the given options.
+pub fn every_column(options: u8) -> Vec<Column> {
+    let kinds = KINDS.filter(|kind| *kind != FIXED_BINARY);
+    let columns = kinds.map(|kind| Column::new(kind, options));
+    let binary = WIDTHS.map(|width| Column::fixed_binary(width, options));
+    columns.chain(binary).collect()
+}
+
+/// The first kinds, up to `last`, side by side.
+pub fn first_columns(last: u8, options: u8) -> Vec<Column> {
+    let column = |kind| match kind {
+        FIXED_BINARY => Column::fixed_binary(3, options),
+        _ => Column::new(kind, options),
+    };
+    (1..=last).map(column).collect()
+}
+
+/// A table of one column.
+pub fn one_column(
+    rng: &mut Rng,
+    column: Column,
+    rows: usize,
+    nulls: Nulls,
+    lengths: &[usize],
+) -> Table {
+    table_with(rng, rows, vec![column], nulls, lengths)
+}
+
+/// A table whose columns have the same pattern of nulls and the same lengths.
+pub fn table_with(
+    rng: &mut Rng,
+    rows: usize,
+    columns: Vec<Column>,
+    nulls: Nulls,
+    lengths: &[usize],
+) -> Table {
+    let slots = columns.iter();
+    let slots = slots.map(|column| slots_of(rng, *column, rows, nulls, lengths));
+    Table {
+        rows,
+        slots: slots.collect(),
+        columns,
+    }
+}
+
+/// The slots of a column; a null slot holds a value like any other. Variable bytes have one of the
+/// lengths.
+fn slots_of(
+    rng: &mut Rng,
+    column: Column,
+    rows: usize,
+    nulls: Nulls,
+    lengths: &[usize],
+) -> Vec<Slot> {
+    let slot = |row| Slot {
+        valid: !nulls.at(rng, row),
+        bytes: value(rng, column, lengths),
+    };
+    (0..rows).map(slot).collect()
+}
+
+fn value(rng: &mut Rng, column: Column, lengths: &[usize]) -> Vec<u8> {
+    match column.kind {
+        BOOL => vec![rng.below(2) as u8],
+        VARIABLE => {
+            let length = rng.pick(lengths);
+            bytes(rng, length)
+        }
+        FIXED_BINARY => bytes(rng, column.width),
+        10..=12 => float(rng, column.width),
+        DAY_TIME => [number(rng, 4), number(rng, 4)].concat(),
+        MONTH_DAY_NANO => [number(rng, 4), number(rng, 4), number(rng, 8)].concat(),
+        _ => number(rng, column.width),
+    }
+}
+
+/// Bytes: random ones, or bytes that mean something in a row.
+fn bytes(rng: &mut Rng, count: usize) -> Vec<u8> {
+    match rng.below(4) {
+        0 => vec![rng.pick(&[0x00, 0x01, 0x02, 0xFE, 0xFF]); count],
+        1 => vec![b'a' + rng.below(3) as u8; count],
+        _ => rng.bytes(count),
+    }
+}
+
+/// A number, low byte first: any, or one at an edge of the signed or unsigned range.
+fn number(rng: &mut Rng, width: usize) -> Vec<u8> {
+    let top = 1u64 << (8 * width - 1);
+    let edges = [0, 1, 2, u64::MAX, u64::MAX - 1, top, top - 1, top + 1];
+    let number = match rng.once_in(2) {
+        true => rng.pick(&edges),
+        false => rng.word(),
+    };
+    number.to_le_bytes()[..width].to_vec()
+}
+
+/// A float's bits: any, or zero, the smallest, one, infinity or a NaN, of either sign.
+fn float(rng: &mut Rng, width: usize) -> Vec<u8> {
+    let (infinity, one) = match width {
+        2 => (0x7C00, 0x3C00),
+        4 => (0x7F80_0000, 0x3F80_0000),
+        _ => (0x7FF0_0000_0000_0000, 0x3FF0_0000_0000_0000),
+    };
+    let sign = 1u64 << (8 * width - 1);
+    let quiet = infinity | infinity >> 1;
+    let edges = [
+        0,
+        1,
+        one,
+        infinity - 1,
+        infinity,
+        infinity + 1,
+        quiet,
+        sign - 1,
+    ];
+    let bits = match rng.once_in(2) {
+        true => rng.pick(&edges) | rng.pick(&[0, sign]),
+        false => rng.word(),
+    };
+    bits.to_le_bytes()[..width].to_vec()
+}
+
+/// Any column; a tall table gets no wide one.
+fn any_column(rng: &mut Rng, tall: bool) -> Column {
+    let options = rng.below(4) as u8;
+    let kind = rng.below(16) as u8 + 1;
+    match rng.pick(&[VARIABLE, kind, kind]) {
+        FIXED_BINARY if tall => Column::fixed_binary(rng.pick(&WIDTHS[..4]), options),
+        FIXED_BINARY if rng.once_in(8) => Column::fixed_binary(rng.below(1025), options),
+        FIXED_BINARY => Column::fixed_binary(rng.pick(&WIDTHS), options),
+        kind => Column::new(kind, options),
+    }
+}
+
+/// One column to `most`.
+fn any_columns(rng: &mut Rng, most: usize, tall: bool) -> Vec<Column> {
+    let count = rng.below(most) + 1;
+    (0..count).map(|_| any_column(rng, tall)).collect()
+}
+
+/// Any table: 1 to 16 columns, mostly few rows, now and then as many as there may be.
+pub fn any_table(rng: &mut Rng) -> Table {
+    let rows = match rng.below(100) {
+        0..=49 => rng.pick(&ROW_COUNTS),
+        50..=89 => rng.below(34),
+        90..=98 => rng.below(300),
+        _ => rng.pick(&FULL_ROW_COUNTS),
+    };
+    let most = rng.pick(&[1, 3, 16]);
+    let columns = any_columns(rng, most, rows > 40);
+    table_of(rng, rows, columns)
+}
+
+/// A table of few rows and columns with short values.
+pub fn small_table(rng: &mut Rng) -> Table {
+    let (columns, rows) = (any_columns(rng, 4, true), rng.below(5));
+    table_of(rng, rows, columns)
+}
+
+/// A table whose columns each have their own pattern of nulls and their own lengths.
+pub fn table_of(rng: &mut Rng, rows: usize, columns: Vec<Column>) -> Table {
+    let slots = columns.iter().map(|column| {
+        let nulls = rng.pick(&NULLS);
+        let most = rng.below(LENGTHS.len());
+        let mut lengths = LENGTHS[..most + 1].to_vec();
+        if rows < 20 && rng.once_in(100) {
+            lengths.extend(LONG_LENGTHS);
+        }
+        slots_of(rng, *column, rows, nulls, &lengths)
+    });
+    Table {
+        rows,
+        slots: slots.collect(),
+        columns,
+    }
+}

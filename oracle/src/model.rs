@@ -1,0 +1,587 @@
+//! Document 01 as a plain program, written from the document: slow, and easy to hold against it.
+
+use crate::columns::{
+    value_bytes, Column, BOOL, DAY_TIME, FIXED_BINARY, KINDS, MONTH_DAY_NANO, VARIABLE,
+};
+use crate::table::{Slot, Table};
+
+pub const MAX_COLUMNS: usize = 16;
+pub const MAX_ROWS: u64 = 4096;
+pub const MAX_WIDTH: usize = 1024;
+pub const MAX_SLOT: usize = 65_535;
+pub const MAX_TOTAL: u64 = 16_777_216;
+
+/// The three numbers that an entry returns.
+pub type Numbers = [u64; 3];
+
+/// What was asked for, or the numbers of the refusal.
+pub type Checked<T> = Result<T, Numbers>;
+
+fn refuse_if(fault: bool, numbers: Numbers) -> Checked<()> {
+    match fault {
+        true => Err(numbers),
+        false => Ok(()),
+    }
+}
+
+// ---- the list
+
+/// The columns of a list: left to right, and at each column 5, 2, 1, 3, 4.
+pub fn read_list(list: &[u8]) -> Checked<Vec<Column>> {
+    refuse_if(list.is_empty(), [1, 0, 0])?;
+    let mut columns = Vec::new();
+    let mut place = 0;
+    while place < list.len() {
+        let refuse = |number| [number, place as u64, 0];
+        refuse_if(columns.len() == MAX_COLUMNS, refuse(5))?;
+        let column = read_column(&list[place..]).map_err(refuse)?;
+        place += column.description().len();
+        columns.push(column);
+    }
+    Ok(columns)
+}
+
+/// The column that stands in front of a rest of the list, or the number of what is wrong with it.
+fn read_column(list: &[u8]) -> Result<Column, u64> {
+    let kind = list[0];
+    if !KINDS.contains(&kind) {
+        return Err(2);
+    }
+    if list.len() < if kind == FIXED_BINARY { 4 } else { 2 } {
+        return Err(1);
+    }
+    let options = list[1];
+    if options > 3 {
+        return Err(3);
+    }
+    let width = match kind {
+        FIXED_BINARY => u16::from_le_bytes([list[2], list[3]]) as usize,
+        _ => value_bytes(kind),
+    };
+    if width > MAX_WIDTH {
+        return Err(4);
+    }
+    Ok(Column {
+        kind,
+        width,
+        descending: options & 1 == 1,
+        nulls_first: options & 2 == 2,
+    })
+}
+
+// ---- the sheet
+
+/// The slots of a column: none is null, and else the value's bytes in the sheet.
+pub type Slots<'a> = Vec<Option<&'a [u8]>>;
+
+/// Bit `i mod 8` of byte `i div 8`, least bit first.
+fn bit(bytes: &[u8], i: usize) -> bool {
+    bytes[i / 8] >> (i % 8) & 1 == 1
+}
+
+/// The first `count` bytes of what is left of the sheet; column cut is 7.
+fn take<'a>(rest: &mut &'a [u8], count: usize, c: u64) -> Checked<&'a [u8]> {
+    refuse_if(rest.len() < count, [7, c, 0])?;
+    let (taken, left) = rest.split_at(count);
+    *rest = left;
+    Ok(taken)
+}
+
+/// Packed bits of n rows: 7, 8.
+fn take_bits<'a>(rest: &mut &'a [u8], n: usize, c: u64) -> Checked<&'a [u8]> {
+    let bits = take(rest, n.div_ceil(8), c)?;
+    refuse_if((n..8 * bits.len()).any(|i| bit(bits, i)), [8, c, 0])?;
+    Ok(bits)
+}
+
+/// The values of a variable column: ends cut 7, first end 9, row by row 9, 10, then bytes 7.
+fn take_variable<'a>(rest: &mut &'a [u8], n: usize, c: u64) -> Checked<Vec<&'a [u8]>> {
+    let ends = take(rest, 4 * (n + 1), c)?;
+    let end = |i: usize| {
+        let bytes = ends[4 * i..4 * i + 4].try_into().expect("four bytes");
+        u32::from_le_bytes(bytes) as usize
+    };
+    refuse_if(end(0) != 0, [9, c, 0])?;
+    for i in 0..n {
+        refuse_if(end(i + 1) < end(i), [9, c, i as u64])?;
+        refuse_if(end(i + 1) - end(i) > MAX_SLOT, [10, c, i as u64])?;
+    }
+    let bytes = take(rest, end(n), c)?;
+    Ok((0..n).map(|i| &bytes[end(i)..end(i + 1)]).collect())
+}
+
+/// The values of a column, valid or not.
+fn take_values<'a>(
+    rest: &mut &'a [u8],
+    column: Column,
+    n: usize,
+    c: u64,
+) -> Checked<Vec<&'a [u8]>> {
+    match column.kind {
+        BOOL => {
+            let bits = take_bits(rest, n, c)?;
+            let value = |i| if bit(bits, i) { &[1][..] } else { &[0] };
+            Ok((0..n).map(value).collect())
+        }
+        VARIABLE => take_variable(rest, n, c),
+        _ => {
+            let (bytes, width) = (take(rest, n * column.width, c)?, column.width);
+            Ok((0..n).map(|i| &bytes[i * width..][..width]).collect())
+        }
+    }
+}
+
+/// The slots of each column: refusals 7 to 11.
+pub fn read_sheet<'a>(columns: &[Column], n: usize, sheet: &'a [u8]) -> Checked<Vec<Slots<'a>>> {
+    let mut rest = sheet;
+    let mut slots = Vec::new();
+    for (c, column) in columns.iter().enumerate() {
+        let valid = take_bits(&mut rest, n, c as u64)?;
+        let values = take_values(&mut rest, *column, n, c as u64)?;
+        let slot = |(i, value)| bit(valid, i).then_some(value);
+        slots.push(values.into_iter().enumerate().map(slot).collect());
+    }
+    let place = (sheet.len() - rest.len()) as u64;
+    refuse_if(!rest.is_empty(), [11, place, 0])?;
+    Ok(slots)
+}
+
+// ---- writing rows
+
+/// 0x00 for nulls first, 0xFF for last, never inverted.
+fn null_byte(column: Column) -> u8 {
+    match column.nulls_first {
+        true => 0x00,
+        false => 0xFF,
+    }
+}
+
+fn invert(bytes: &mut [u8]) {
+    bytes.iter_mut().for_each(|b| *b = !*b);
+}
+
+/// High byte first.
+fn unsigned_key(value: &[u8]) -> Vec<u8> {
+    value.iter().rev().copied().collect()
+}
+
+/// The same, top bit flipped.
+fn signed_key(value: &[u8]) -> Vec<u8> {
+    let mut key = unsigned_key(value);
+    key[0] ^= 0x80;
+    key
+}
+
+/// If the sign bit is set, invert all other bits; low byte first.
+fn invert_below_sign(bits: &mut [u8]) {
+    let top = bits.len() - 1;
+    if bits[top] & 0x80 != 0 {
+        invert(bits);
+        bits[top] ^= 0x80;
+    }
+}
+
+/// Sign bit and other bits as above; then as signed.
+fn float_key(value: &[u8]) -> Vec<u8> {
+    let mut bits = value.to_vec();
+    invert_below_sign(&mut bits);
+    signed_key(&bits)
+}
+
+/// A value of a fixed kind to its value bytes, or back, given how a signed number and a float go:
+/// unsigned numbers are reversed both ways, a bool and fixed binary stay as they stand.
+fn turned(
+    column: Column,
+    bytes: &[u8],
+    signed: fn(&[u8]) -> Vec<u8>,
+    float: fn(&[u8]) -> Vec<u8>,
+) -> Vec<u8> {
+    match column.kind {
+        2..=5 => signed(bytes),
+        6..=9 => unsigned_key(bytes),
+        10..=12 => float(bytes),
+        DAY_TIME => each_part(&[4, 4], bytes, signed),
+        MONTH_DAY_NANO => each_part(&[4, 4, 8], bytes, signed),
+        _ => bytes.to_vec(),
+    }
+}
+
+/// Parts of so many bytes each, each turned by `f`, joined.
+fn each_part(widths: &[usize], bytes: &[u8], f: fn(&[u8]) -> Vec<u8>) -> Vec<u8> {
+    let mut rest = bytes;
+    let mut joined = Vec::new();
+    for width in widths {
+        let (part, left) = rest.split_at(*width);
+        joined.extend(f(part));
+        rest = left;
+    }
+    joined
+}
+
+/// The first four blocks hold 8 bytes, all later ones 32.
+fn block_size(k: usize) -> usize {
+    match k {
+        0..=3 => 8,
+        _ => 32,
+    }
+}
+
+/// Empty is 01. Otherwise 02, then blocks: data, zeros up to the size, one end byte.
+fn variable_key(value: &[u8]) -> Vec<u8> {
+    if value.is_empty() {
+        return vec![1];
+    }
+    let (mut field, mut rest, mut k) = (vec![2], value, 0);
+    while !rest.is_empty() {
+        let size = block_size(k);
+        let (data, more) = rest.split_at(size.min(rest.len()));
+        field.extend(data);
+        field.extend(std::iter::repeat_n(0, size - data.len()));
+        field.push(if more.is_empty() {
+            data.len() as u8
+        } else {
+            0xFF
+        });
+        (rest, k) = (more, k + 1);
+    }
+    field
+}
+
+/// The field of one slot.
+fn field(column: Column, slot: Option<&[u8]>) -> Vec<u8> {
+    match slot {
+        None => {
+            let mut field = vec![0; 1 + column.width];
+            field[0] = null_byte(column);
+            field
+        }
+        Some(value) if column.kind == VARIABLE => {
+            let mut field = variable_key(value);
+            if column.descending {
+                invert(&mut field);
+            }
+            field
+        }
+        Some(value) => {
+            let mut key = turned(column, value, signed_key, float_key);
+            if column.descending {
+                invert(&mut key);
+            }
+            [vec![1], key].concat()
+        }
+    }
+}
+
+/// Field length, as document 01 gives it.
+fn field_length(column: Column, slot: Option<&[u8]>) -> u64 {
+    let length = slot.map_or(0, <[u8]>::len);
+    let bytes = match column.kind {
+        VARIABLE if length == 0 => 1,
+        VARIABLE if length <= 32 => 1 + 9 * length.div_ceil(8),
+        VARIABLE => 4 + 33 * length.div_ceil(32),
+        _ => 1 + column.width,
+    };
+    bytes as u64
+}
+
+// ---- measure and encode
+
+/// What measure knows.
+pub struct Measured<'a> {
+    pub columns: Vec<Column>,
+    pub slots: Vec<Slots<'a>>,
+    pub total: u64,
+    pub nulls: u64,
+}
+
+/// List, 6, sheet, 12.
+pub fn measure<'a>(list: &[u8], n: u64, sheet: &'a [u8]) -> Checked<Measured<'a>> {
+    let columns = read_list(list)?;
+    refuse_if(n > MAX_ROWS, [6, n, 0])?;
+    let slots = read_sheet(&columns, n as usize, sheet)?;
+    let (mut total, mut nulls) = (0, 0);
+    for (column, slots) in columns.iter().zip(&slots) {
+        for slot in slots {
+            total += field_length(*column, *slot);
+            nulls += slot.is_none() as u64;
+        }
+    }
+    refuse_if(total > MAX_TOTAL, [12, total, 0])?;
+    Ok(Measured {
+        columns,
+        slots,
+        total,
+        nulls,
+    })
+}
+
+/// Rows with their offsets, and the null total.
+pub struct Encoded {
+    pub rows: Vec<u8>,
+    pub offsets: Vec<u64>,
+    pub nulls: u64,
+}
+
+/// As measure, then 13, 14.
+pub fn encode(
+    list: &[u8],
+    n: u64,
+    sheet: &[u8],
+    row_room: usize,
+    offset_room: usize,
+) -> Checked<Encoded> {
+    let measured = measure(list, n, sheet)?;
+    let total = measured.total;
+    refuse_if((row_room as u64) < total, [13, total, 0])?;
+    refuse_if((offset_room as u64) < n + 1, [14, n + 1, 0])?;
+    let (mut rows, mut offsets) = (Vec::new(), vec![0]);
+    for r in 0..n as usize {
+        for (column, slots) in measured.columns.iter().zip(&measured.slots) {
+            rows.extend(field(*column, slots[r]));
+        }
+        offsets.push(rows.len() as u64);
+    }
+    assert_eq!(rows.len() as u64, total, "the lengths of document 01");
+    Ok(Encoded {
+        rows,
+        offsets,
+        nulls: measured.nulls,
+    })
+}
+
+// ---- reading rows
+
+/// Takes bytes off the front of a row's rest; cut is 16.
+fn take_row<'a>(rest: &mut &'a [u8], count: usize) -> Result<&'a [u8], u64> {
+    take(rest, count, 0).map_err(|_| 16)
+}
+
+/// The bytes, inverted back under descending.
+fn inverted_back(column: Column, bytes: &[u8]) -> Vec<u8> {
+    let mut bytes = bytes.to_vec();
+    if column.descending {
+        invert(&mut bytes);
+    }
+    bytes
+}
+
+/// After a lead byte that is allowed: fixed rest 16, 18, 19.
+fn read_fixed(column: Column, rest: &mut &[u8]) -> Result<Option<Vec<u8>>, u64> {
+    let lead = take_row(rest, 1)?[0];
+    if lead != null_byte(column) && lead != 1 {
+        return Err(17);
+    }
+    let bytes = take_row(rest, column.width)?;
+    if lead != 1 {
+        return match bytes.iter().all(|b| *b == 0) {
+            true => Ok(None),
+            false => Err(18),
+        };
+    }
+    let key = inverted_back(column, bytes);
+    if column.kind == BOOL && key[0] > 1 {
+        return Err(19);
+    }
+    Ok(Some(turned(column, &key, signed_unkey, float_unkey)))
+}
+
+/// The number whose signed key this is.
+fn signed_unkey(key: &[u8]) -> Vec<u8> {
+    let mut bytes = key.to_vec();
+    bytes[0] ^= 0x80;
+    unsigned_key(&bytes)
+}
+
+/// The float whose key this is.
+fn float_unkey(key: &[u8]) -> Vec<u8> {
+    let mut bits = signed_unkey(key);
+    invert_below_sign(&mut bits);
+    bits
+}
+
+/// Lead byte 16, 17; each block 16, 20, 21, 23.
+fn read_variable(column: Column, rest: &mut &[u8]) -> Result<Option<Vec<u8>>, u64> {
+    let lead = take_row(rest, 1)?;
+    if lead[0] == null_byte(column) {
+        return Ok(None);
+    }
+    match inverted_back(column, lead)[0] {
+        1 => return Ok(Some(Vec::new())),
+        2 => {}
+        _ => return Err(17),
+    }
+    let mut value = Vec::new();
+    for k in 0.. {
+        let size = block_size(k);
+        let block = inverted_back(column, take_row(rest, size + 1)?);
+        let (data, end) = (&block[..size], block[size] as usize);
+        let count = if end == 0xFF { size } else { end };
+        if count < 1 || count > size {
+            return Err(20);
+        }
+        if data[count..].iter().any(|b| *b != 0) {
+            return Err(21);
+        }
+        value.extend(&data[..count]);
+        if value.len() > MAX_SLOT {
+            return Err(23);
+        }
+        if end != 0xFF {
+            break;
+        }
+    }
+    Ok(Some(value))
+}
+
+/// The slots of one row, or the number and the column of its first fault.
+fn read_row(columns: &[Column], row: &[u8]) -> Result<Vec<Option<Vec<u8>>>, (u64, usize)> {
+    let mut rest = row;
+    let mut slots = Vec::new();
+    for (c, column) in columns.iter().enumerate() {
+        let slot = match column.kind {
+            VARIABLE => read_variable(*column, &mut rest),
+            _ => read_fixed(*column, &mut rest),
+        };
+        slots.push(slot.map_err(|number| (number, c))?);
+    }
+    match rest.is_empty() {
+        true => Ok(slots),
+        false => Err((22, columns.len())),
+    }
+}
+
+// ---- decode
+
+/// The cleared sheet and the null total.
+pub struct Decoded {
+    pub sheet: Vec<u8>,
+    pub nulls: u64,
+}
+
+/// 14, 15 (first, falling in order, last), 12.
+fn check_offsets(n: usize, rows: &[u8], offsets: &[u64]) -> Checked<()> {
+    refuse_if(offsets.len() < n + 1, [14, n as u64 + 1, 0])?;
+    refuse_if(offsets[0] != 0, [15, 0, 0])?;
+    for i in 1..=n {
+        refuse_if(offsets[i] < offsets[i - 1], [15, i as u64, 0])?;
+    }
+    let last = offsets[n];
+    refuse_if(last > rows.len() as u64, [15, n as u64, 0])?;
+    refuse_if(last > MAX_TOTAL, [12, last, 0])
+}
+
+/// List, 6, 14, 15, 12, rows, 24.
+pub fn decode(
+    list: &[u8],
+    n: u64,
+    rows: &[u8],
+    offsets: &[u64],
+    sheet_room: usize,
+) -> Checked<Decoded> {
+    let columns = read_list(list)?;
+    refuse_if(n > MAX_ROWS, [6, n, 0])?;
+    let n = n as usize;
+    check_offsets(n, rows, offsets)?;
+    let mut slots: Vec<Vec<Slot>> = vec![Vec::new(); columns.len()];
+    for r in 0..n {
+        let row = &rows[offsets[r] as usize..offsets[r + 1] as usize];
+        let row = read_row(&columns, row).map_err(|(number, c)| [number, r as u64, c as u64])?;
+        for ((slots, column), value) in slots.iter_mut().zip(&columns).zip(row) {
+            slots.push(Slot {
+                valid: value.is_some(),
+                bytes: value.unwrap_or_else(|| vec![0; column.width]),
+            });
+        }
+    }
+    let table = Table {
+        rows: n,
+        columns,
+        slots,
+    };
+    let sheet = table.sheet();
+    refuse_if(sheet_room < sheet.len(), [24, sheet.len() as u64, 0])?;
+    Ok(Decoded {
+        nulls: table.nulls(),
+        sheet,
+    })
+}
+
+#[cfg(test)]
+mod tests {
+    use super::*;
+
+    /// The numbers of a refusal.
+    fn refused<T>(answer: Checked<T>) -> Numbers {
+        match answer {
+            Ok(_) => panic!("accepted"),
+            Err(numbers) => numbers,
+        }
+    }
+
+    #[test]
+    fn a_list_is_read_left_to_right() {
+        assert_eq!(refused(read_list(&[])), [1, 0, 0]);
+        assert_eq!(refused(read_list(&[4, 0, 16])), [1, 2, 0]);
+        assert_eq!(refused(read_list(&[17])), [2, 0, 0]);
+        assert_eq!(refused(read_list(&[1, 0, 15, 4, 1, 4])), [3, 2, 0]);
+        assert_eq!(refused(read_list(&[15, 0, 1, 4])), [4, 0, 0]);
+        assert_eq!(
+            refused(read_list(&[&[1, 0].repeat(16)[..], &[99]].concat())),
+            [5, 32, 0]
+        );
+        assert_eq!(
+            read_list(&[15, 0, 0, 4]).map(|columns| columns[0].width),
+            Ok(1024)
+        );
+    }
+
+    #[test]
+    fn a_sheet_is_read_column_by_column() {
+        let names = |n, sheet: &[u8]| refused(measure(&[16, 0], n, sheet));
+        assert_eq!(names(4097, &[]), [6, 4097, 0]);
+        assert_eq!(names(1, &[1, 0, 0, 0, 0, 1, 0, 0]), [7, 0, 0]);
+        assert_eq!(names(1, &[2]), [8, 0, 0]);
+        assert_eq!(names(1, &[1, 1, 0, 0, 0, 1, 0, 0, 0]), [9, 0, 0]);
+        assert_eq!(
+            names(2, &[1, 0, 0, 0, 0, 1, 0, 0, 0, 0, 0, 0, 0]),
+            [9, 0, 1]
+        );
+        assert_eq!(names(1, &[1, 0, 0, 0, 0, 0, 0, 1, 0]), [10, 0, 0]);
+        assert_eq!(names(1, &[1, 0, 0, 0, 0, 1, 0, 0, 0]), [7, 0, 0]);
+        assert_eq!(names(1, &[1, 0, 0, 0, 0, 0, 0, 0, 0, 0]), [11, 9, 0]);
+    }
+
+    #[test]
+    fn rooms_come_last() {
+        let sheet = [1, 7];
+        assert_eq!(refused(encode(&[6, 0], 1, &sheet, 1, 1)), [13, 2, 0]);
+        assert_eq!(refused(encode(&[6, 0], 1, &sheet, 2, 1)), [14, 2, 0]);
+        let rows = [1, 7];
+        assert_eq!(refused(decode(&[6, 0], 1, &rows, &[0], 0)), [14, 2, 0]);
+        assert_eq!(refused(decode(&[6, 0], 1, &rows, &[1, 0], 0)), [15, 0, 0]);
+        assert_eq!(
+            refused(decode(&[6, 0], 2, &rows, &[0, 2, 1], 0)),
+            [15, 2, 0]
+        );
+        assert_eq!(refused(decode(&[6, 0], 1, &rows, &[0, 3], 0)), [15, 1, 0]);
+        assert_eq!(refused(decode(&[6, 0], 1, &rows, &[0, 2], 1)), [24, 2, 0]);
+    }
+
+    #[test]
+    fn a_row_is_read_field_by_field() {
+        // A bool, then variable bytes, both descending with nulls last.
+        let read = |row: &[u8]| refused(decode(&[1, 1, 16, 1], 1, row, &[0, row.len() as u64], 99));
+        assert_eq!(read(&[]), [16, 0, 0]);
+        assert_eq!(read(&[0]), [17, 0, 0]);
+        assert_eq!(read(&[1]), [16, 0, 0]);
+        assert_eq!(read(&[0xFF, 1]), [18, 0, 0]);
+        assert_eq!(read(&[1, 0]), [19, 0, 0]);
+        assert_eq!(read(&[1, 0xFE]), [16, 0, 1]);
+        assert_eq!(read(&[1, 0xFE, 0xFE, 0]), [22, 0, 2]);
+        let block = |data: u8, end: u8| [1, 0xFE, 0xFD, 0, 0, 0, 0, 0, 0, 0, data, end];
+        assert_eq!(read(&block(0, 0xFF)), [20, 0, 1]);
+        assert_eq!(read(&block(0, !9)), [20, 0, 1]);
+        assert_eq!(read(&block(0, !7)), [21, 0, 1]);
+        assert_eq!(read(&block(0, 0)), [16, 0, 1]);
+    }
+}

@@ -1,0 +1,174 @@
+//! The runs of the oracle on inputs that are refused, or nearly so: the station must answer the
+//! model's three numbers and leave every other byte as it was.
+
+use crate::call::Call;
+use crate::columns::{Column, FIXED_BINARY, VARIABLE};
+use crate::damage::{self, Good};
+use crate::document::one_slot_each;
+use crate::judge::Judge;
+use crate::make::{self, Nulls};
+use crate::rng::Rng;
+
+/// Every list of up to two bytes; every fault at every column up to the eighteenth; every cut.
+pub fn lists(judge: &mut Judge) {
+    judge.call(Call::check_list(&[]));
+    for a in 0..=255 {
+        judge.call(Call::check_list(&[a]));
+        for b in 0..=255 {
+            judge.call(Call::check_list(&[a, b]));
+        }
+    }
+    let faults: [&[u8]; 10] = [
+        &[0, 0],
+        &[17, 0],
+        &[1, 4],
+        &[1],
+        &[FIXED_BINARY, 0, 0],
+        &[FIXED_BINARY, 4, 1, 4],
+        &[FIXED_BINARY, 0, 0, 4],
+        &[FIXED_BINARY, 0, 1, 4],
+        &[FIXED_BINARY, 3, 0xFF, 0xFF],
+        &[VARIABLE, 3],
+    ];
+    for before in 0..18 {
+        for fault in faults {
+            let good = [1, 0].repeat(before);
+            let wide = [FIXED_BINARY, 3, 9, 0].repeat(before);
+            for start in [good, wide] {
+                judge.call(Call::check_list(&[&start, fault].concat()));
+                judge.call(Call::check_list(&[&start, fault, &[1, 0]].concat()));
+            }
+        }
+    }
+}
+
+/// Every byte of a short row set to every value, every cut of it, and a byte after it: one row of
+/// each kind and option, null and not.
+pub fn rows(judge: &mut Judge, rng: &mut Rng) {
+    for options in make::OPTIONS {
+        for column in make::every_column(options) {
+            judge.progress("damaged rows", options as usize, 4);
+            let lengths = match column.kind {
+                VARIABLE => &[1, 8, 9, 32, 33, 65][..],
+                _ => &[0],
+            };
+            for length in lengths {
+                for nulls in [Nulls::None, Nulls::All] {
+                    if column.width <= 16 {
+                        let table = make::one_column(rng, column, 1, nulls, &[*length]);
+                        every_change_to_row(judge, &Good::of(&table));
+                    }
+                }
+            }
+        }
+    }
+}
+
+fn every_change_to_row(judge: &mut Judge, good: &Good) {
+    let row = good.row(0);
+    for at in 0..row.len() {
+        judge.call(good.decode_with_row(0, &row[..at]));
+        for value in 0..=255 {
+            let mut changed = row.to_vec();
+            changed[at] = value;
+            judge.call(good.decode_with_row(0, &changed));
+        }
+    }
+    judge.call(good.decode_with_row(0, &[row, &[0]].concat()));
+}
+
+/// The last block of a value of 65,535 bytes, with other end bytes and other last bytes.
+pub fn long_values(judge: &mut Judge) {
+    for options in make::OPTIONS {
+        let column = Column::new(VARIABLE, options);
+        let good = Good::of(&one_slot_each(column, &[Some(&[b'a'; 65_535])]));
+        for end in [0, 30, 31, 32, 33, 0xFE, 0xFF] {
+            for last in [0, b'a'] {
+                let mut row = good.row(0).to_vec();
+                let at = row.len() - 2;
+                row[at..].copy_from_slice(&[last, end]);
+                if column.descending {
+                    row[at..].iter_mut().for_each(|b| *b = !*b);
+                }
+                judge.call(good.decode_with_row(0, &row));
+                judge.call(good.decode_with_row(0, &[row, good.row(0).to_vec()].concat()));
+            }
+        }
+    }
+}
+
+/// Every byte of a short sheet set to every value, every cut of it, and a byte after it: one column
+/// of each kind, on both sides of a byte boundary.
+pub fn sheets(judge: &mut Judge, rng: &mut Rng) {
+    for column in make::every_column(2) {
+        for rows in [0, 1, 3, 8] {
+            judge.progress("damaged sheets", column.kind as usize, 16);
+            if column.width <= 16 {
+                let table = make::one_column(rng, column, rows, Nulls::Random, &[0, 1, 9]);
+                every_change_to_sheet(judge, &Good::of(&table));
+            }
+        }
+    }
+}
+
+fn every_change_to_sheet(judge: &mut Judge, good: &Good) {
+    let mut with = |sheet: &[u8]| {
+        let room = 20 * (sheet.len() + 1);
+        judge.call(Call::encode(&good.list, good.n, sheet, room, 80));
+    };
+    for at in 0..good.sheet.len() {
+        with(&good.sheet[..at]);
+        for value in 0..=255 {
+            let mut changed = good.sheet.clone();
+            changed[at] = value;
+            with(&changed);
+        }
+    }
+    with(&[&good.sheet[..], &[0]].concat());
+}
+
+/// Rooms around what is needed, answers around 24 bytes, counts around the ceiling.
+pub fn rooms(judge: &mut Judge, rng: &mut Rng) {
+    for _ in 0..200 {
+        let good = Good::of(&make::small_table(rng));
+        for less in 0..18 {
+            let mut encode = good.encode();
+            encode.lent[0] = (encode.lent[0] + 9).saturating_sub(less);
+            judge.call(encode.clone());
+            encode.lent[1] = (encode.lent[1] + 9).saturating_sub(less);
+            judge.call(encode);
+            let mut decode = good.decode();
+            decode.lent[0] = (decode.lent[0] + 9).saturating_sub(less);
+            judge.call(decode.clone());
+            let offsets = decode.given[2].len().saturating_sub(less);
+            decode.given[2].truncate(offsets);
+            judge.call(decode);
+        }
+        for answer in [0, 1, 8, 16, 23, 24, 25, 32] {
+            judge.call(Call::check_list(&good.list).answer(answer));
+            judge.call(Call::measure(&good.list, good.n, &good.sheet).answer(answer));
+            judge.call(good.encode().answer(answer));
+            judge.call(good.decode().answer(answer));
+        }
+        for n in [4096, 4097, u64::MAX] {
+            judge.call(Call::measure(&good.list, n, &good.sheet));
+            judge.call(Call { n, ..good.encode() });
+            judge.call(Call { n, ..good.decode() });
+        }
+    }
+}
+
+/// Random damage to random tables.
+pub fn damaged(judge: &mut Judge, rng: &mut Rng, count: usize) {
+    for i in 0..count {
+        judge.progress("random damage", i, count);
+        let good = match rng.once_in(8) {
+            true => Good::of(&make::any_table(rng)),
+            false => Good::of(&make::small_table(rng)),
+        };
+        for _ in 0..4 {
+            judge.call(damage::encode(rng, &good));
+            judge.call(damage::decode(rng, &good));
+        }
+    }
+}

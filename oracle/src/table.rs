@@ -1,0 +1,96 @@
+//! Tables: columns of slots, and the sheets that hold them.
+
+use crate::columns::{list_of, Column, BOOL, VARIABLE};
+use crate::hex::hex_start;
+use std::fmt;
+
+/// A slot: whether it is valid, and the bytes it holds in the sheet (one byte, 0 or 1, for a bool).
+#[derive(Clone, Debug, PartialEq, Eq)]
+pub struct Slot {
+    pub valid: bool,
+    pub bytes: Vec<u8>,
+}
+
+impl Slot {
+    /// The value, or none if the slot is null.
+    pub fn value(&self) -> Option<&[u8]> {
+        self.valid.then_some(&self.bytes)
+    }
+}
+
+/// Columns with their slots, as many in each as there are rows.
+#[derive(Clone, PartialEq, Eq)]
+pub struct Table {
+    pub rows: usize,
+    pub columns: Vec<Column>,
+    pub slots: Vec<Vec<Slot>>,
+}
+
+impl Table {
+    pub fn list(&self) -> Vec<u8> {
+        list_of(&self.columns)
+    }
+
+    /// The null total: the clear validity bits of all rows and columns.
+    pub fn nulls(&self) -> u64 {
+        let slots = self.slots.iter().flatten();
+        slots.filter(|slot| !slot.valid).count() as u64
+    }
+
+    /// The sheet: the columns in list order.
+    pub fn sheet(&self) -> Vec<u8> {
+        let mut sheet = Vec::new();
+        for (column, slots) in self.columns.iter().zip(&self.slots) {
+            push_bits(&mut sheet, slots, |slot| slot.valid);
+            push_values(&mut sheet, *column, slots);
+        }
+        sheet
+    }
+
+    /// The same table with zeros, and length 0, in its null slots.
+    pub fn cleared(&self) -> Table {
+        let mut table = self.clone();
+        for (column, slots) in table.columns.iter().zip(&mut table.slots) {
+            for slot in slots.iter_mut().filter(|slot| !slot.valid) {
+                slot.bytes = vec![0; column.width];
+            }
+        }
+        table
+    }
+
+    /// The slots of one row.
+    pub fn row(&self, r: usize) -> impl Iterator<Item = (Column, Option<&[u8]>)> {
+        let columns = self.columns.iter().copied();
+        columns.zip(self.slots.iter().map(move |slots| slots[r].value()))
+    }
+}
+
+/// Bits packed in bytes, least bit first.
+fn push_bits(sheet: &mut Vec<u8>, slots: &[Slot], bit: impl Fn(&Slot) -> bool) {
+    for eight in slots.chunks(8) {
+        let bits = eight.iter().enumerate();
+        sheet.push(bits.map(|(i, slot)| (bit(slot) as u8) << i).sum());
+    }
+}
+
+fn push_values(sheet: &mut Vec<u8>, column: Column, slots: &[Slot]) {
+    if column.kind == BOOL {
+        return push_bits(sheet, slots, |slot| slot.bytes == [1]);
+    }
+    if column.kind == VARIABLE {
+        let mut end = 0u32;
+        sheet.extend(end.to_le_bytes());
+        for slot in slots {
+            end += slot.bytes.len() as u32;
+            sheet.extend(end.to_le_bytes());
+        }
+    }
+    slots.iter().for_each(|slot| sheet.extend(&slot.bytes));
+}
+
+impl fmt::Display for Table {
+    fn fmt(&self, f: &mut fmt::Formatter<'_>) -> fmt::Result {
+        let (list, sheet) = (hex_start(&self.list()), hex_start(&self.sheet()));
+        write!(f, "list {list} n {} sheet {sheet}", self.rows)
+    }
+}
