@@ -23,11 +23,16 @@ use Rattle.laws.proofs.Accept.{encode-answers, encode-rows, encode-offsets}
 use Rattle.laws.proofs.Append.{over-sets}
 use Rattle.laws.proofs.Lists.{length-each, length-ends}
 use Rattle.station.specs.declared.measure.Measuring.{Measuring}
-use Rattle.station.specs.Measuring.{Measures}
+use Rattle.station.specs.Measuring.{Found, Measures}
 
 -- a sheet of n rows gives n of them
 rows-many : (n : ℕ) (cols : List Column) (sheet : List ℕ) → length (sheetRows n cols sheet) ≡ n
 rows-many n cols sheet = length-map (turned n (sheetSlots n cols sheet)) (row cols) ∙ length-each 0 n _
+
+-- a batch that passes has room where its total has: what the writing walk asks
+pub row-room : (list : List ℕ) (n : ℕ) (sheet : List ℕ) (m : Measuring) → Found list n sheet m → (room : ℕ) → m .total ≤ room
+    → sheetTotal n (colsOf (m .schema)) sheet ≤ room
+row-room list n sheet m f room l = omega (arith, f .total, ap (λ (cs : List Column). sheetTotal n cs sheet) (f .sound .cols))
 
 module _ (list : List ℕ) (n : ℕ) (sheet rows offsets : List ℕ) where
   -- a refusal writes nothing
@@ -37,30 +42,21 @@ module _ (list : List ℕ) (n : ℕ) (sheet rows offsets : List ℕ) where
 
   module _ (m : Measuring) (h : Measures list n sheet m) where
     pub bad-batch : (x : Refusal) → m .check ≡ Refuse x → Encoded list n sheet rows offsets (Refused x) rows offsets
-    bad-batch x e = refused x check
-      where
-        check : encodeCheck list n sheet (length rows) (length offsets) ≡ Refuse x
-        unfolding encodeCheck
-        check = rw (← h .check, e)
+    unfolding encodeCheck
+    bad-batch x e = refused x (rw (← h .check, e))
 
     module _ (e : m .check ≡ Pass) where
       total : sheetTotal n (columns list) sheet ≡ m .total
       total = sym (h .found e .total)
 
       pub small-rows : length rows < m .total → Encoded list n sheet rows offsets (Refused (RowRoom (m .total))) rows offsets
-      small-rows l = refused (RowRoom (m .total)) check
-        where
-          check : encodeCheck list n sheet (length rows) (length offsets) ≡ Refuse (RowRoom (m .total))
-          unfolding encodeCheck
-          check = rw (← h .check, e, total, lt-ltb (length rows) (m .total) l)
+      unfolding encodeCheck
+      small-rows l = refused (RowRoom (m .total)) (rw (← h .check, e, total, lt-ltb (length rows) (m .total) l))
 
       module _ (r : m .total ≤ length rows) where
         pub few-offsets : length offsets < n + 1 → Encoded list n sheet rows offsets (Refused (OffsetRoom (n + 1))) rows offsets
-        few-offsets l = refused (OffsetRoom (n + 1)) check
-          where
-            check : encodeCheck list n sheet (length rows) (length offsets) ≡ Refuse (OffsetRoom (n + 1))
-            unfolding encodeCheck
-            check = rw (← h .check, e, total, le-ltb (length rows) (m .total) r, add-one n, lt-ltb (length offsets) (suc n) (omega arith))
+        unfolding encodeCheck
+        few-offsets l = refused (OffsetRoom (n + 1)) (rw (← h .check, e, total, le-ltb (length rows) (m .total) r, add-one n, lt-ltb (length offsets) (suc n) (omega arith)))
 
         module _ (o : n + 1 ≤ length offsets) where
           passes : encodeCheck list n sheet (length rows) (length offsets) ≡ Pass
@@ -69,10 +65,6 @@ module _ (list : List ℕ) (n : ℕ) (sheet rows offsets : List ℕ) where
 
           cols : colsOf (m .schema) ≡ columns list
           cols = h .found e .sound .cols
-
-          -- what the writing walk asks
-          pub row-room : sheetTotal n (colsOf (m .schema)) sheet ≤ length rows
-          row-room = omega (arith, r, ap (λ (cs : List Column). sheetTotal n cs sheet) cols, total)
 
           pub done : (rows′ offsets′ : List ℕ) → rows′ ≡ sets rows 0 (joined (sheetRows n (colsOf (m .schema)) sheet))
               → offsets′ ≡ sets offsets 0 (endsFrom 0 (sheetRows n (colsOf (m .schema)) sheet))

@@ -1,5 +1,6 @@
 // The row station: the public entries, a module each.
 pub mod compare;
+pub mod decode;
 pub mod encode;
 pub mod list;
 pub mod measure;
