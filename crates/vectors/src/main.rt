@@ -16,18 +16,22 @@ fn show(name: &[u8], a: Answer) {
     let r = format::numbers(a);
     io::write_all(STDOUT_FILENO, name);
     space();
-    io::number::print_decimal(STDOUT_FILENO, r.0);
+    io::print_decimal(STDOUT_FILENO, r.0);
     space();
-    io::number::print_decimal(STDOUT_FILENO, r.1);
+    io::print_decimal(STDOUT_FILENO, r.1);
     space();
-    io::number::print_decimal(STDOUT_FILENO, r.2);
+    io::print_decimal(STDOUT_FILENO, r.2);
+}
+
+fn wide(x: u8) -> u64 {
+    x as u64
 }
 
 fn show_bytes(bytes: &[u8]) {
     space();
     let mut i = 0;
     while i < bytes.len() {
-        io::number::print_hex(STDOUT_FILENO, bytes[i] as u64, 2);
+        io::print_hex(STDOUT_FILENO, wide(bytes[i]), 2);
         i += 1;
     }
 }
@@ -36,24 +40,21 @@ fn show_offsets(offsets: &[u64]) {
     let mut i = 0;
     while i < offsets.len() {
         space();
-        io::number::print_decimal(STDOUT_FILENO, offsets[i]);
+        io::print_decimal(STDOUT_FILENO, offsets[i]);
         i += 1;
     }
 }
 
-// One column of variable bytes, nulls first: the sheet encoded into rows of which `total` bytes are shown.
-fn encode_names(name: &[u8], n: usize, sheet: &[u8], total: usize) {
+// One column of variable bytes, nulls first: the sheet encoded, with the whole of both buffers shown, so that what is past the
+// written part is seen to stay.
+fn encode_names(name: &[u8], n: u64, sheet: &[u8]) {
     let list = [16u8, 2];
-    let mut rows = [0xEEu8; 32];
+    let mut rows = [0xEEu8; 20];
     let mut offsets = [9u64; 4];
-    let answer = station::encode::encode(&list, n as u64, sheet, &mut rows, &mut offsets);
+    let answer = station::encode::encode(&list, n, sheet, &mut rows, &mut offsets);
     show(name, answer);
-    if n < 4 {
-        show_offsets(&offsets[..n + 1]);
-    }
-    if total <= 32 {
-        show_bytes(&rows[..total]);
-    }
+    show_offsets(&offsets);
+    show_bytes(&rows);
     end_line();
 }
 
@@ -73,7 +74,7 @@ fn encode_longest() {
     let mut rows = [0u8; 67588];
     let mut offsets = [9u64; 2];
     let answer = station::encode::encode(&list, 1, &sheet, &mut rows, &mut offsets);
-    show(b"encode 65535", answer);
+    show(b"encode 65535 bytes:", answer);
     show_offsets(&offsets);
     show_bytes(&rows[67587..]);
     end_line();
@@ -91,34 +92,16 @@ fn decode_name(name: &[u8], row: &[u8]) {
 }
 
 fn main() {
-    encode_names(
-        b"encode a, null",
-        2,
-        &[1, 0, 0, 0, 0, 1, 0, 0, 0, 1, 0, 0, 0, 0x61],
-        11,
-    );
-    encode_names(
-        b"encode 8",
-        1,
-        &[1, 0, 0, 0, 0, 8, 0, 0, 0, 1, 2, 3, 4, 5, 6, 7, 8],
-        10,
-    );
-    encode_names(
-        b"encode 9",
-        1,
-        &[1, 0, 0, 0, 0, 9, 0, 0, 0, 1, 2, 3, 4, 5, 6, 7, 8, 9],
-        19,
-    );
+    encode_names(b"encode a, null:", 2, b"\x01\0\0\0\0\x01\0\0\0\x01\0\0\0a");
+    encode_names(b"encode 8 bytes:", 1, b"\x01\0\0\0\0\x08\0\0\0abcdefgh");
+    encode_names(b"encode 9 bytes:", 1, b"\x01\0\0\0\0\x09\0\0\0abcdefghi");
     encode_longest();
-    encode_names(b"encode 65536", 1, &[1, 0, 0, 0, 0, 0, 0, 1, 0], 0);
-    decode_name(b"decode a", &[0x02, 0x61, 0, 0, 0, 0, 0, 0, 0, 0x01]);
-    decode_name(b"decode null", &[0x00]);
-    decode_name(b"decode stray lead", &[0x03]);
-    decode_name(b"decode cut", &[0x02]);
-    decode_name(b"decode end 09", &[0x02, 0x61, 0, 0, 0, 0, 0, 0, 0, 0x09]);
-    decode_name(b"decode end 00", &[0x02, 0x61, 0, 0, 0, 0, 0, 0, 0, 0x00]);
-    decode_name(
-        b"decode padding",
-        &[0x02, 0x61, 0, 0, 0, 0, 0, 0, 0x01, 0x01],
-    );
+    encode_names(b"encode 65536 bytes:", 1, b"\x01\0\0\0\0\0\0\x01\0");
+    decode_name(b"decode a:", b"\x02a\0\0\0\0\0\0\0\x01");
+    decode_name(b"decode null:", b"\0");
+    decode_name(b"decode 03:", b"\x03");
+    decode_name(b"decode 02:", b"\x02");
+    decode_name(b"decode end 09:", b"\x02a\0\0\0\0\0\0\0\x09");
+    decode_name(b"decode end 00:", b"\x02a\0\0\0\0\0\0\0\0");
+    decode_name(b"decode padding:", b"\x02a\0\0\0\0\0\0\x01\x01");
 }
