@@ -3,8 +3,8 @@
 use Prim.Native.Nat.{ℕ, _-_, _*_, _≤_}
 use mathlib.Core.Path.{_∙_, ap}
 use native.Mathlib.Omega.{arith}
-use Rattle.laws.proofs.Bytes.{bytes-of}
-use Rattle.laws.proofs.Lists.{Adding, adding-begin, adding-more, adding-most, adding-end}
+use Rattle.basics.proofs.Bytes.{bytes-of}
+use Rattle.basics.proofs.Lists.{Adding, adding-begin, adding-more, adding-most, adding-end}
 use Rattle.laws.proofs.Totals.{maxField}
 use Rattle.sheet_reader.specs.Measures.{variableLength, variableTotal}
 use Rattle.sheet_reader.proofs.Measures.{variable-most}
