@@ -1,6 +1,5 @@
 // The C entries: a slice is a pointer and a length, and offsets and answers are lent as bytes, eight a number, low byte
 // first. Thin over crate `station`; include/station.h says how to call them.
-ghost use mathlib.Core.Path.{_≡_};
 ghost use Rattle.format.specs.Promises.{LentListChecked, LentMeasured, LentEncoded, LentDecoded, Compared};
 use crate::bytes::decode_bytes;
 use crate::bytes::encode_bytes;
@@ -9,12 +8,13 @@ use crate::bytes::used_offsets;
 
 mod bytes;
 
-// An answer is three numbers.
+// An answer is three numbers; one that cannot hold them, and no lent byte changes.
 const ANSWER_BYTES: usize = 24;
 
-// No batch has more offsets than that: one more than rows.
+// One more than there are rows: no batch uses more offsets.
 const MAX_OFFSETS: usize = 4097;
 
+// Checks a column list.
 #[no_mangle]
 pub extern "C" fn station_check_list(list: &[u8], answer: &mut [u8])
     ensures { λ _. ⌜ LentListChecked (now (list .entry)) (now (answer .entry)) (now (answer .exit)) ⌝ }
@@ -25,6 +25,7 @@ pub extern "C" fn station_check_list(list: &[u8], answer: &mut [u8])
     put_answer(answer, station::list::check_list(list));
 }
 
+// Checks list and sheet, and adds up the row bytes.
 #[no_mangle]
 pub extern "C" fn station_measure(list: &[u8], n: u64, sheet: &[u8], answer: &mut [u8])
     ensures { λ _. ⌜ LentMeasured (now (list .entry)) n (now (sheet .entry)) (now (answer .entry)) (now (answer .exit)) ⌝ }
@@ -35,6 +36,7 @@ pub extern "C" fn station_measure(list: &[u8], n: u64, sheet: &[u8], answer: &mu
     put_answer(answer, station::measure::measure(list, n, sheet));
 }
 
+// Writes the rows of a sheet, and their offsets.
 #[no_mangle]
 pub extern "C" fn station_encode(
     list: &[u8],
@@ -51,11 +53,12 @@ pub extern "C" fn station_encode(
         return;
     }
     let mut numbers = [0u64; MAX_OFFSETS];
-    let k = used_offsets(n, offsets.len() / 8);
+    let k = used_offsets(n, offsets.len());
     let r = encode_bytes(list, n, sheet, rows, offsets, &mut numbers[..k]);
     put_answer(answer, r);
 }
 
+// Checks rows, and writes their cleared sheet.
 #[no_mangle]
 pub extern "C" fn station_decode(
     list: &[u8],
@@ -72,11 +75,12 @@ pub extern "C" fn station_decode(
         return;
     }
     let mut numbers = [0u64; MAX_OFFSETS];
-    let k = used_offsets(n, offsets.len() / 8);
+    let k = used_offsets(n, offsets.len());
     let r = decode_bytes(list, n, rows, offsets, sheet, &mut numbers[..k]);
     put_answer(answer, r);
 }
 
+// Compares any bytes.
 #[no_mangle]
 pub extern "C" fn station_compare(a: &[u8], b: &[u8]) -> i32
     ensures { λ r. ⌜ Compared (now (a .entry)) (now (b .entry)) r ⌝ }

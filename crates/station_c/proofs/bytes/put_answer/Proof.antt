@@ -3,8 +3,6 @@ use borrow.Author.Needs.{needs}
 use Rattle.station_c.proofs.Eights.{three-stored}
 use Rattle.station_c.proofs.bytes.put_answer.Statement.{statement}
 use Rattle.station_c.proofs.bytes.put_answer.Tie as tie
-use Rattle.station_c.proofs.bytes.put_answer.Reads as reads
-use Rattle.station_c.proofs.bytes.put_answer.Lts as lts
 
 returns : tie.Need-returns
 returns c =

@@ -8,8 +8,6 @@ use lib.ListN.{length, length-set}
 use Rattle.station_c.proofs.Eights.{Read, read-more, read-end}
 use Rattle.station_c.proofs.bytes.read_offsets.Statement.{statement}
 use Rattle.station_c.proofs.bytes.read_offsets.Tie as tie
-use Rattle.station_c.proofs.bytes.read_offsets.Reads as reads
-use Rattle.station_c.proofs.bytes.read_offsets.Lts as lts
 
 abbrev Inv-loop : tie.InvT-loop
 Inv-loop offsets numbers₀ k i₀ numbers i = (i ≤ length numbers₀) × (length numbers ≡ length numbers₀) × Read offsets numbers i
@@ -41,13 +39,13 @@ loop-less c = omega arith
 loop-again : tie.Need-loop-again Inv-loop μ-loop
 loop-again c =
     let turn = c .before .before in
-    (omega arith, simp length-set (turn .loop .inv .1), read-more _ _ _ _ (turn .loop .inv .2) (omega arith) (c .low64 .ensures))
+    (omega arith, simp length-set (turn .loop .inv .1), read-more (turn .before .before .before .args .offsets .now) (turn .loop .numbers) _ _ (turn .loop .inv .2) (omega arith) (c .low64 .ensures))
 
 same-length : tie.Need-same-length Inv-loop μ-loop
 same-length c = c .before .loop .inv .1
 
 returns : tie.Need-returns Inv-loop μ-loop
-returns c = read-end _ _ _ _ (c .before .loop .inv .2) (c .loop-test .left) (c .before .loop .inv .1)
+returns c = read-end (c .before .before .before .before .args .offsets .now) _ _ _ (c .before .loop .inv .2) (c .loop-test .left) (c .before .loop .inv .1)
 
 pub read-offsets-spec : {M : Type 1} → statement M
 read-offsets-spec =

@@ -8,8 +8,6 @@ use Rattle.laws.proofs.Append.{turns-begin, turns-room}
 use Rattle.station_c.proofs.Eights.{Stored, stored-more, stored-end}
 use Rattle.station_c.proofs.bytes.write_offsets.Statement.{statement}
 use Rattle.station_c.proofs.bytes.write_offsets.Tie as tie
-use Rattle.station_c.proofs.bytes.write_offsets.Reads as reads
-use Rattle.station_c.proofs.bytes.write_offsets.Lts as lts
 
 abbrev Inv-loop : tie.InvT-loop
 Inv-loop numbers offsets₀ k i₀ offsets i = Stored numbers offsets₀ offsets i
@@ -42,13 +40,13 @@ loop-again : tie.Need-loop-again Inv-loop μ-loop
 loop-again c =
     let put = c .before .before in
     let turn = put .before .before .before in
-    stored-more _ _ _ _ _ (turn .before .loop .inv) (turn .loop-test .taken) (put .put64 .ensures)
+    stored-more (turn .before .before .before .before .args .numbers .now) _ _ _ _ (turn .before .loop .inv) (turn .loop-test .taken) (put .put64 .ensures)
 
 same-length : tie.Need-same-length Inv-loop μ-loop
 same-length c = c .before .loop .inv .1 .same
 
 returns : tie.Need-returns Inv-loop μ-loop
-returns c = stored-end _ _ _ _ (c .before .loop .inv) (c .loop-test .left) (c .before .before .before .before .pre)
+returns c = stored-end (c .before .before .before .before .args .numbers .now) _ _ _ (c .before .loop .inv) (c .loop-test .left) (c .before .before .before .before .pre)
 
 pub write-offsets-spec : {M : Type 1} → statement M
 write-offsets-spec =
