@@ -7,11 +7,10 @@ use mathlib.Core.List.{List, [], _∷_}
 use native.Mathlib.Omega.{arith}
 use lib.Dec.{ltb, eqb}
 use lib.ListN.{length, getD, take, drop, length-drop}
-use lib.Seq.{drop-cons}
 use borrow.Author.Tests.{lt-ltb, le-ltb, ltb-true, ltb-false, eqb-true, eqb-false}
 use Rattle.format.specs.declared.SortOptions.{SortOptions}
 use Rattle.format.specs.declared.FieldRead.{FieldRead}
-use Rattle.format.specs.declared.FieldRead.the-variants.{Null, Value, Fault}
+use Rattle.format.specs.declared.FieldRead.the-variants.{Value, Fault}
 use Rattle.format.specs.declared.RowFault.the-variants.{BoolByte, Cut, Lead, NullRest}
 use Rattle.format.specs.Kinds.{Slot, bool, plain}
 use Rattle.format.specs.Cleared.{valid}

@@ -24,6 +24,7 @@ pub record Taken : Type 0 where
   pub out : List ℕ
   pub at : ℕ
   pub whole : 1 + valueBytes kind ≤ length row
+  pub known : (i : ℕ) → Fits w8 (getD row i 0)
 
 module _ (h : Taken) where
   -- n value bytes of the row, inverted back
@@ -55,12 +56,12 @@ module _ (h : Taken) where
       took-key x last q p = took last (p ∙ ap (sets (h .out) (h .at)) (q ∙ sym (keyed (body (width k)))))
 
       -- x is the word in the row, y the same inverted back, z that of the value
-      pub took-code : ((i : ℕ) → Fits w8 (getD (h .row) i 0)) → (x y z : ℕ) (last : List ℕ) → x ≡ low (take (width k) (drop 1 (h .row)))
+      pub took-code : (x y z : ℕ) (last : List ℕ) → x ≡ low (take (width k) (drop 1 (h .row)))
           → lowBytes (width k) y ≡ directed (h .descending) (lowBytes (width k) x) → lowBytes (width k) z ≡ unk (lowBytes (width k) y)
           → last ≡ sets (h .out) (h .at) (lowBytes (width k) z) → Took last
-      took-code g x y z last a b c p =
+      took-code x y z last a b c p =
           took-key z last
-          (c ∙ ap unk (b ∙ ap (directed (h .descending)) (word-at (width k) (h .row) 1 x g (omega (arith, h .whole, bytes)) a)))
+          (c ∙ ap unk (b ∙ ap (directed (h .descending)) (word-at (width k) (h .row) 1 x (h .known) (omega (arith, h .whole, bytes)) a)))
           p
 
   -- fixed binary, as it stands: the part of the row from 1 to 1 + w

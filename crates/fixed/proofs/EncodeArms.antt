@@ -24,6 +24,7 @@ pub record Handed : Type 0 where
   pub val : List ℕ
   pub options : SortOptions
   pub long : length val ≡ valueBytes kind
+  pub known : (i : ℕ) → Fits w8 (getD val i 0)
 
 module _ (h : Handed) where
   -- what it owes, for a value of the kind k
@@ -61,6 +62,6 @@ module _ (h : Handed) where
           )
 
       -- x is the word of the value, y that of the key
-      pub wrote-code : ((i : ℕ) → Fits w8 (getD (h .val) i 0)) → (x y r : ℕ) (last : List ℕ) → x ≡ low (take n (drop 0 (h .val))) → lowBytes n y ≡ key (lowBytes n x)
+      pub wrote-code : (x y r : ℕ) (last : List ℕ) → x ≡ low (take n (drop 0 (h .val))) → lowBytes n y ≡ key (lowBytes n x)
           → Put y r last → Wrote (h .kind) r last
-      wrote-code g x y r last a q p = wrote-key y r last (q ∙ ap key (word-at n (h .val) 0 x g (omega (arith, fits)) a)) p
+      wrote-code x y r last a q p = wrote-key y r last (q ∙ ap key (word-at n (h .val) 0 x (h .known) (omega (arith, fits)) a)) p

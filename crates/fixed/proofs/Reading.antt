@@ -1,11 +1,10 @@
 -- What the readers share: what a row's field is, by its lead byte and its length. Assumes nothing.
-use Prim.Native.Nat.{ℕ, zero, suc, _+_, _-_, _<_, _≤_}
+use Prim.Native.Nat.{ℕ, _+_, _-_, _<_, _≤_}
 use mathlib.Core.Path.{_≡_, refl, sym, ap, ap₂, _∙_}
-use mathlib.Core.Bool.{Bool, true, false, cond}
-use mathlib.Core.Option.{none, some}
+use mathlib.Core.Bool.{Bool, true, false}
 use mathlib.Core.List.{List, [], _∷_}
 use native.Mathlib.Omega.{arith}
-use lib.Dec.{ltb, eqb}
+use lib.Dec.{ltb}
 use lib.ListN.{length, getD, take, drop, length-drop, length-map}
 use lib.Seq.{length-take-le, getD-take, getD-drop}
 use borrow.Author.Tests.{lt-ltb, le-ltb, eq-eqb, ne-eqb}
@@ -14,9 +13,9 @@ use Rattle.format.specs.declared.FieldRead.{FieldRead}
 use Rattle.format.specs.declared.FieldRead.the-variants.{Null, Value, Fault}
 use Rattle.format.specs.declared.RowFault.the-variants.{Cut, Lead, NullRest}
 use Rattle.format.specs.Kinds.{Fixed, bool, plain, number, integer, float, parts, width}
-use Rattle.format.specs.Key.{allowed, invert, unkey}
+use Rattle.format.specs.Key.{allowed, invert}
 use Rattle.format.specs.Field.{directed, nullByte}
-use Rattle.format.specs.Read.{got, fault, allZero, fromBad, fieldRead, readBytes, readFixed, readKey, readNull}
+use Rattle.format.specs.Read.{fault, fieldRead, readBytes, readFixed, readKey, readNull}
 use Rattle.laws.proofs.Unkey.{length-unkey}
 use Rattle.fixed.specs.Wide.{WideShape}
 use Rattle.fixed.proofs.Scan.{Clean, clean-bad, clean-end, clean-more}

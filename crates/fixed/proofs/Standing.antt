@@ -7,7 +7,7 @@ use mathlib.Core.List.{List, [], _∷_}
 use native.Mathlib.Omega.{arith}
 use lib.Dec.{ltb, eqb}
 use lib.ListN.{length, getD, take, drop, replicate}
-use lib.Seq.{drop-cons}
+use lib.Seq.{sets, drop-cons}
 use borrow.Author.Tests.{ltb-false, eq-eqb, ne-eqb, eqb-true, eqb-false}
 use Rattle.format.specs.declared.SortOptions.{SortOptions}
 use Rattle.format.specs.declared.Kind.{Kind}
@@ -89,18 +89,23 @@ module _ (kind : Kind) (k : Fixed) (says : shape kind ≡ fixed k) (o : SortOpti
   pub field-whole : 1 + valueBytes kind ≤ length s
   field-whole = omega (arith, stands k o s good-fixed .whole, bytes)
 
-  -- r says whether it is valid
-  module _ (r : Bool) (v : r ≡ valid (slotRead (readFixed k o s))) where
-    pub field-value : r ≡ true → unkey k (directed (o .descending) (take (valueBytes kind) (drop 1 s))) ≡ fixedSlot (valueBytes kind) (slotRead (readField (shape kind) o s))
-    field-value t = rw (says, stands k o s good-fixed .value other .0)
+  -- r says whether it is valid; what was written is the slot
+  module _ (r : Bool) (v : r ≡ valid (slotRead (readFixed k o s))) (out : List ℕ) (at : ℕ) (last : List ℕ) where
+    abbrev Slotted : Type 0
+    Slotted = last ≡ sets out at (fixedSlot (valueBytes kind) (slotRead (readField (shape kind) o s)))
+
+    pub field-value : r ≡ true → last ≡ sets out at (unkey k (directed (o .descending) (take (valueBytes kind) (drop 1 s)))) → Slotted
+    field-value t p = p ∙ rw (says, stands k o s good-fixed .value other .0)
       where
         other : getD s 0 0 ≡ nullByte o → ⊥
         other e =
             let n = ap valid (stands k o s good-fixed .null e .0) in
-            let z : _≡_ {A = ℕ} 0 1 = cc in omega arith
+            let z : _≡_ {A = ℕ} 0 1 = cc in
+            omega arith
 
-    pub field-null : r ≡ false → replicate (valueBytes kind) 0 ≡ fixedSlot (valueBytes kind) (slotRead (readField (shape kind) o s))
-    field-null f = rw says (ap (fixedSlot (width k)) (sym (none-of (slotRead (readFixed k o s)) (sym v ∙ f))))
+    pub field-null : (w : ℕ) → w ≡ valueBytes kind → r ≡ false → last ≡ sets out at (replicate w 0) → Slotted
+    field-null w q f p =
+        p ∙ rw (q, says) (ap (λ (x : Slot). sets out at (fixedSlot (width k) x)) (sym (none-of (slotRead (readFixed k o s)) (sym v ∙ f))))
       where
         none-of : (x : Slot) → valid x ≡ false → x ≡ none
         none-of none e = refl

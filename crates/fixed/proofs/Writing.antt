@@ -6,7 +6,7 @@ use mathlib.Core.List.{List, [], _∷_, _++_, map}
 use native.Mathlib.Nat.{mod-eq-of-lt}
 use native.Mathlib.Numerals.{add-one}
 use lib.ListN.{length, set}
-use lib.Seq.{sets, length-sets}
+use lib.Seq.{sets}
 use Rattle.format.specs.Lists.{lowBytes}
 use Rattle.format.specs.Field.{directed}
 use Rattle.laws.proofs.Append.{sets-append}
@@ -14,10 +14,6 @@ use Rattle.laws.proofs.Append.{sets-append}
 -- the byte a, then f
 pub lead-run : (out : List ℕ) (at a b : ℕ) (f last : List ℕ) → a ≡ b → last ≡ sets (set out at a) (at + 1) f → last ≡ sets out at (b ∷ f)
 lead-run out at a b f last q e = e ∙ rw (add-one at, q)
-
--- what is written over stays as long
-pub sets-long : (out : List ℕ) (at : ℕ) (f last : List ℕ) → last ≡ sets out at f → length last ≡ length out
-sets-long out at f last e = ap length e ∙ length-sets out at f
 
 -- 01, then the bytes of y, which are those of x, inverted under descending
 pub word-field : (n : ℕ) (out : List ℕ) (at : ℕ) (d : Bool) (x y : ℕ) (last : List ℕ) → lowBytes n y ≡ directed d (lowBytes n x)

@@ -105,6 +105,7 @@ fn decode_value(row: &[u8], kind: Kind, descending: bool, out: &mut [u8], at: us
             let end = 1 + w;
             copy_directed(out, at, &row[1..end], descending)
         }
+        // Not handed.
         Kind::Bool => {}
         Kind::Variable => {}
     }

@@ -170,6 +170,7 @@ pub fn encode(out: &mut [u8], at: usize, kind: Kind, val: &[u8], options: SortOp
         Kind::DayTime => encode_day_time(out, at, val, descending),
         Kind::MonthDayNano => encode_month_day_nano(out, at, val, descending),
         Kind::FixedBinary(_) => encode_fixed_size_binary(out, at, val, options),
+        // Not handed.
         Kind::Bool => at,
         Kind::Variable => at,
     }

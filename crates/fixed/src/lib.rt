@@ -1,5 +1,5 @@
-// The fields of the fixed kinds (fixed.rs of the Rust). A field is 01 and the value bytes, or the null byte and zeros; the
-// not-null twins of the Rust are its value writers, which read no validity.
+// The fields of the fixed kinds (fixed.rs of the Rust): 01 and the value bytes, or the null byte and zeros to the same
+// length. `encode_null` and the value writers each write one slot, so that the Rust's not-null twins are the same functions.
 mod decoder;
 mod encoder;
 mod reader;

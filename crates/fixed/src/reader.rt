@@ -39,7 +39,8 @@ pub fn read(row: &[u8], width: usize, options: SortOptions) -> FieldRead
         return FieldRead::Fault(RowFault::Cut, 0);
     }
     let lead = row[0];
-    if lead == null_sentinel(options) {
+    let null = null_sentinel(options);
+    if lead == null {
         return read_null(row, width);
     }
     if lead != 1 {

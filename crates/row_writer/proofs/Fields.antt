@@ -63,11 +63,12 @@ module _ (n : ℕ) (cols : List Column) (s : List ℕ) (facts : List Facts) (k :
   pub rows-known : sheetRows n cols s ≡ each 0 n (rowAt n s facts (length cols))
   rows-known = map-each (row cols) 0 n (slotsAt (sheetSlots n cols s)) ∙ each-same 0 n _ _ (λ r a b. row-known r (omega arith))
 
--- ---- the field of a column that stands where its facts say
+-- ---- the field of row r in a column that stands at a place
 module _ (n c r at : ℕ) (col : Column) (s : List ℕ) (g : Stands col n c at s) where
-  -- is as long as the table says
+  -- it is as long as the table says
   pub field-long : Bytes s → r < n → length (fieldIn n s r col at) ≡ fieldLength (columnShape col) (slotIn n s r col at)
   field-long b l = length-field (columnShape col) (col .options) (slotIn n s r col at) (slot-fits (columnShape col) n c (drop at s) (bytes-drop at s b) (g .passes) r l)
 
+  -- and the column passes there
   pub stands-passes : Passes (λ c. columnFault (layout col) n c (drop at s))
   stands-passes = record { c = c; pass = g .passes }

@@ -24,6 +24,7 @@ use Rattle.fixed.specs.Wide.{WideKind}
 abbrev pub Sort : Kind → Type 0
 Sort kind = (kind ≡ Bool) ⊎ (WideKind kind ⊎ (kind ≡ Variable))
 
+-- whether fixed values are bools, which alone are packed bits
 abbrev isBool : Fixed → Truth
 isBool bool = true
 isBool (plain w) = false
@@ -32,9 +33,11 @@ isBool (integer w) = false
 isBool (float w) = false
 isBool (parts ws) = false
 
+-- the second sort
 of-width : {kind : Kind} (k : Fixed) → shape kind ≡ fixed k → isBool k ≡ false → Sort kind
 of-width k e h = inr (inl (record { k = k; says = e; other = λ q. let z : _≡_ {A = ℕ} 0 1 = cc (ap isBool q) in omega arith }))
 
+-- the table of kinds, by sort
 pub sort : (kind : Kind) → Sort kind
 sort Bool = inl refl
 sort I8 = of-width (integer 1) refl refl

@@ -20,6 +20,7 @@ pub record Rows (piece : ℕ → List ℕ) (n : ℕ) (rows₀ offsets₀ rows of
   pub bytes : Turns piece n rows₀ 0 rows at r
   pub ends : Walk (endsFrom 0 (each 0 n piece)) (endsFrom at (each r (n - r) piece)) offsets₀ 0 offsets r
 
+-- no row is written yet
 pub rows-begin : (piece : ℕ → List ℕ) (n : ℕ) (rows offsets : List ℕ) → Rows piece n rows offsets rows offsets 0 0
 rows-begin piece n rows offsets = record {
   bytes = turns-begin piece n rows 0;

@@ -40,6 +40,7 @@ pub record Between (n : ℕ) (s : List ℕ) (r a b : ℕ) : Type 0 where
   pub value : take ((4 * (n + 1) + b) - (4 * (n + 1) + a)) (drop (4 * (n + 1) + a) s) ≡ valueAt ended n s r
   pub short : length (valueAt ended n s r) ≤ maxSlot
 
+-- where the two ends are read low byte first
 pub between : (n : ℕ) (s : List ℕ) (r a b : ℕ) → Ended n s → r < n → a ≡ low (take 4 (drop (4 * r) s)) → b ≡ low (take 4 (drop (4 * (r + 1)) s)) → Between n s r a b
 between n s r a b g l p q =
     let next : b ≡ end s (suc r) = q ∙ ap (end s) (add-one r) in
@@ -62,7 +63,7 @@ one-width s r w = ap (λ (k : ℕ). take k (drop (r * w) s)) {x = (r * w + w) - 
 pub wide-long : {kind : Kind} (s : Slot) → WideKind kind → fieldLength (shape kind) s ≡ 1 + valueBytes kind
 wide-long s k = rw (k .says)
 
--- ---- what a value's field comes to, by its kind
+-- ---- what a writer owes once its callee has written, by the kind
 module _ (o : SortOptions) (at next : ℕ) (entry exit : List ℕ) where
   -- the null of fixed values
   pub put-none : (kind : Kind) (w : ℕ) → OneOf (each 0 15 (λ k. k)) (tagOf the-type kind) → w ≡ valueBytes kind → next ≡ at + 1 + w
@@ -81,6 +82,7 @@ module _ (o : SortOptions) (at next : ℕ) (entry exit : List ℕ) where
     abbrev Promised : Kind → Type 0
     Promised kind = Put (shape kind) o (some (valueAt (layoutFor (shape kind)) n s r)) at entry exit next
 
+    -- the three sorts
     pub bool-promised : {kind : Kind} (b : Truth) → kind ≡ Bool → b ≡ bit s r → next ≡ at + 2 → exit ≡ sets entry at (fixedField bool o (some (boolByte b))) → Promised kind
     bool-promised b e h p q = rw e (record { place = p; bytes = rw (← h) q })
 
@@ -90,7 +92,7 @@ module _ (o : SortOptions) (at next : ℕ) (entry exit : List ℕ) where
     pub wide-promised : {kind : Kind} → WideKind kind → Put (shape kind) o (some (valueAt (wide (valueBytes kind)) 0 s r)) at entry exit next → Promised kind
     wide-promised w p = rw (wide-layout w) p
 
--- ---- what is asked for a value, by its kind
+-- ---- what the callee asks, from values that pass, by the kind
 module _ {kind : Kind} (n r : ℕ) (s : List ℕ) (l : r < n) (h : Passes (λ c. valuesFault (layoutFor (shape kind)) n c s)) where
   pub bool-asked : kind ≡ Bool → r / 8 < length s
   bool-asked e = omega (arith, bits-passed n (h .c) s (rw e at (h .pass)) .0)
@@ -107,9 +109,11 @@ module _ {kind : Kind} (n r : ℕ) (s : List ℕ) (l : r < n) (h : Passes (λ c.
 pub valid-bytes : (ly : Layout) (n : ℕ) (s : List ℕ) → Passes (λ c. columnFault ly n c s) → packed n ≤ length s
 valid-bytes ly n s h = bits-passed n (h .c) s (column-passed ly n (h .c) s (h .pass) .0) .0
 
+-- and the values after them pass
 pub values-pass : (ly : Layout) (n : ℕ) (s : List ℕ) → Passes (λ c. columnFault ly n c s) → Passes (λ c. valuesFault ly n c (drop (packed n) s))
 values-pass ly n s h = record { c = h .c; pass = column-passed ly n (h .c) s (h .pass) .1 }
 
+-- what the validity bit says
 pub slot-valid : (ly : Layout) (n : ℕ) (s : List ℕ) (r : ℕ) → bit s r ≡ true → slotAt ly n s r ≡ some (valueAt ly n (drop (packed n) s) r)
 slot-valid ly n s r e = ap (λ (b : Truth). cond b (some (valueAt ly n (drop (packed n) s) r)) none) e
 

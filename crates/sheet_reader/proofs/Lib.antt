@@ -5,3 +5,4 @@ pub mod Arms
 pub mod ListTurns
 pub mod EndTurns
 pub mod SheetTurns
+pub mod Measures

@@ -3,10 +3,8 @@ ghost use mathlib.Core.Path.{_≡_};
 ghost use Prim.Native.Nat.{_+_, _<_, _≤_};
 ghost use lib.ListN.{length, getD};
 ghost use Rattle.format.specs.Columns.{kindOf, optionsOf, descriptionBytes, widthAt, columnAt, descriptionFault};
-ghost use Rattle.format.specs.Entries.{checkListAnswer};
 ghost use Rattle.format.specs.Schemas.{noColumn};
 ghost use Rattle.sheet_reader.specs.Listing.{ListedAs};
-use format::Answer;
 use format::Check;
 use format::Column;
 use format::Kind;
@@ -172,19 +170,4 @@ pub fn read_list(list: &[u8]) -> Listed
         at += description_bytes(list[at]);
     }
     answered(Check::Pass, columns, count)
-}
-
-// The answer to a list check: the column count and 0, or the refusal.
-pub fn check_list(list: &[u8]) -> Answer
-    ensures { λ r. ⌜ r ≡ checkListAnswer (now (list .entry)) ⌝ }
-{
-    let listed = read_list(list);
-    let check = listed.check;
-    match check {
-        Check::Pass => {
-            let schema = listed.schema;
-            Answer::Done(schema.count as u64, 0)
-        }
-        Check::Refuse(r) => Answer::Refused(r),
-    }
 }

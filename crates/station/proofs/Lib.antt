@@ -1,2 +1,6 @@
--- What the walks of the station keep, and how each way out of a turn follows.
+-- What the walks of the station keep, and how each way out of an entry follows.
 pub mod Alike
+pub mod Begun
+pub mod Measuring
+pub mod Encoding
+pub mod Decoding

@@ -1,6 +1,5 @@
 // Comparing two rows as bytes.
-ghost use mathlib.Core.Path.{_≡_};
-ghost use Rattle.format.specs.Entries.{compareAnswer};
+ghost use Rattle.format.specs.Promises.{Compared};
 
 const LESS: i32 = -1;
 
@@ -10,7 +9,7 @@ const GREATER: i32 = 1;
 
 // −1, 0 or 1: unsigned bytes, a proper beginning first.
 pub fn compare(a: &[u8], b: &[u8]) -> i32
-    ensures { λ r. ⌜ r ≡ compareAnswer (now (a .entry)) (now (b .entry)) ⌝ }
+    ensures { λ r. ⌜ Compared (now (a .entry)) (now (b .entry)) r ⌝ }
 {
     let n = a.len();
     let m = b.len();

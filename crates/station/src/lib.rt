@@ -1,2 +1,6 @@
-// The row station: the public entries, and the walks that they are made of, a module each.
+// The row station: the public entries, a module each.
 pub mod compare;
+pub mod decode;
+pub mod encode;
+pub mod list;
+pub mod measure;

@@ -1,6 +1,6 @@
 -- Copying bytes of a row, inverted back, in steps of any count. Assumes nothing.
-use Prim.Native.Nat.{ℕ, zero, suc, _+_, _-_, _<_, _≤_}
-use mathlib.Core.Path.{_≡_, refl, sym, ap, ap₂, _∙_, subst}
+use Prim.Native.Nat.{ℕ, _+_, _-_, _<_, _≤_}
+use mathlib.Core.Path.{_≡_, refl, sym, ap, ap₂, _∙_}
 use mathlib.Core.Bool.{Bool, true, false}
 use mathlib.Core.List.{List, [], _∷_, _++_}
 use native.Mathlib.Nat.{add-zero, sub-zero, sub-eq-zero-of-le}
@@ -9,7 +9,7 @@ use lib.ListN.{length, getD, set, take, drop, length-drop}
 use lib.Seq.{sets, drop-cons, drop-drop, take-add, length-take-le}
 use Rattle.format.specs.Field.{directed}
 use Rattle.format.specs.Lists.{low, lowBytes}
-use Rattle.laws.proofs.Append.{sets-append, Walk, walk-first, walk-at, walk-piece, walk-room, walk-end}
+use Rattle.laws.proofs.Append.{sets-append, Walk, walk-first, walk-at, walk-piece, walk-end}
 use Rattle.laws.proofs.Directed.{length-directed, directed-append}
 use Rattle.number.proofs.Words.{read-back}
 use Rattle.variable.proofs.Direction.{directed-take, directed-drop}
@@ -19,6 +19,14 @@ pub record Copied (l : List ℕ) (q m : ℕ) (d : Bool) (out₀ : List ℕ) (at 
   pub few : i ≤ m
   pub wrote : Walk (directed d (take m (drop q l))) (directed d (take (m - i) (drop (q + i) l))) out₀ at out (at + i)
 
+-- so many bytes, then the others
+cut : (l : List ℕ) (q m w : ℕ) (d : Bool) → w ≤ m → directed d (take m (drop q l)) ≡ directed d (take w (drop q l)) ++ directed d (take (m - w) (drop (q + w) l))
+cut l q m w d h =
+    ap (λ (k : ℕ). directed d (take k (drop q l))) {x = m} {y = w + (m - w)} (omega arith)
+    ∙ ap (directed d) (take-add w (m - w) (drop q l))
+    ∙ directed-append d (take w (drop q l)) (take (m - w) (drop w (drop q l)))
+    ∙ ap (λ (z : List ℕ). directed d (take w (drop q l)) ++ directed d (take (m - w) z)) (drop-drop w q l)
+
 pub copy-start : (l : List ℕ) (q m : ℕ) (d : Bool) (out : List ℕ) (at : ℕ) → Copied l q m d out at out 0
 copy-start l q m d out at = record {
   few = omega arith;
@@ -27,16 +35,15 @@ copy-start l q m d out at = record {
 }
 
 module _ {l : List ℕ} {q m : ℕ} {d : Bool} {out₀ : List ℕ} {at : ℕ} {out : List ℕ} {i : ℕ} (t : Copied l q m d out₀ at out i) where
+  -- what is left begins with the next w bytes
   step : (w : ℕ) → i + w ≤ m → directed d (take (m - i) (drop (q + i) l)) ≡ directed d (take w (drop (q + i) l)) ++ directed d (take (m - (i + w)) (drop (q + (i + w)) l))
   step w h =
-      ap (λ (k : ℕ). directed d (take k (drop (q + i) l))) {x = m - i} {y = w + (m - (i + w))} (omega arith)
-      ∙ ap (directed d) (take-add w (m - (i + w)) (drop (q + i) l))
-      ∙ directed-append d (take w (drop (q + i) l)) (take (m - (i + w)) (drop w (drop (q + i) l)))
-      ∙ ap (λ (z : List ℕ). directed d (take w (drop (q + i) l)) ++ directed d (take (m - (i + w)) z))
-      (drop-drop w (q + i) l ∙ ap (λ (k : ℕ). drop k l) {x = q + i + w} {y = q + (i + w)} (omega arith))
+      cut l (q + i) (m - i) w d (omega arith)
+      ∙ ap (λ (k : ℕ). directed d (take w (drop (q + i) l)) ++ directed d (take k (drop (q + i + w) l))) {x = m - i - w} {y = m - (i + w)} (omega arith)
+      ∙ ap (λ (k : ℕ). directed d (take w (drop (q + i) l)) ++ directed d (take (m - (i + w)) (drop k l))) {x = q + i + w} {y = q + (i + w)} (omega arith)
 
   -- a piece of w bytes more
-  pub copy-piece : (w : ℕ) (piece : List ℕ) → i + w ≤ m → q + m ≤ length l → piece ≡ directed d (take w (drop (q + i) l)) → Copied l q m d out₀ at (sets out (at + i) piece) (i + w)
+  copy-piece : (w : ℕ) (piece : List ℕ) → i + w ≤ m → q + m ≤ length l → piece ≡ directed d (take w (drop (q + i) l)) → Copied l q m d out₀ at (sets out (at + i) piece) (i + w)
   copy-piece w piece h inside e = record {
     few = h;
     wrote =
@@ -62,6 +69,7 @@ module _ {l : List ℕ} {q m : ℕ} {d : Bool} {out₀ : List ℕ} {at : ℕ} {o
       ∙ sym (ap (take 1) (drop-cons (directed d l) (q + i) 0 (omega (arith, length-directed d l))))
       ∙ ap (take 1) (sym (directed-drop d (q + i) l)) ∙ sym (directed-take d 1 (drop (q + i) l)))
 
+  -- all are
   pub copy-end : m ≤ i → out ≡ sets out₀ at (directed d (take m (drop q l)))
   copy-end h = walk-end (t .wrote) (ap (λ (k : ℕ). directed d (take k (drop (q + i) l))) (sub-eq-zero-of-le h) ∙ none d) .1
     where
@@ -77,11 +85,4 @@ copy-two l q m w d out₀ at out out′ h inside e f =
     f ∙ ap (λ (z : List ℕ). sets z (at + w) (directed d (take (m - w) (drop (q + w) l)))) e
     ∙ ap (λ (k : ℕ). sets (sets out₀ at (directed d (take w (drop q l)))) k (directed d (take (m - w) (drop (q + w) l)))) {x = at + w} {y = at + length (directed d (take w (drop q l)))}
     (omega (arith, length-directed d (take w (drop q l)), length-take-le w (drop q l) (omega (arith, length-drop q l))))
-    ∙ sym (ap (sets out₀ at) whole ∙ sets-append (directed d (take w (drop q l))) (directed d (take (m - w) (drop (q + w) l))) out₀ at)
-  where
-    whole : directed d (take m (drop q l)) ≡ directed d (take w (drop q l)) ++ directed d (take (m - w) (drop (q + w) l))
-    whole =
-        ap (λ (k : ℕ). directed d (take k (drop q l))) {x = m} {y = w + (m - w)} (omega arith)
-        ∙ ap (directed d) (take-add w (m - w) (drop q l))
-        ∙ directed-append d (take w (drop q l)) (take (m - w) (drop w (drop q l)))
-        ∙ ap (λ (z : List ℕ). directed d (take w (drop q l)) ++ directed d (take (m - w) z)) (drop-drop w q l)
+    ∙ sym (ap (sets out₀ at) (cut l q m w d h) ∙ sets-append (directed d (take w (drop q l))) (directed d (take (m - w) (drop (q + w) l))) out₀ at)

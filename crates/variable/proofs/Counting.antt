@@ -2,7 +2,7 @@
 use Prim.Native.Nat.{ℕ, suc, _+_, _-_, _<_, _≤_}
 use mathlib.Core.Path.{_≡_, refl, sym, ap, _∙_}
 use mathlib.Core.Bool.{Bool}
-use mathlib.Core.List.{List, _++_}
+use mathlib.Core.List.{List}
 use native.Mathlib.Omega.{arith}
 use lib.ListN.{length, getD, take, drop, length-append, length-drop}
 use lib.Seq.{length-take-le}
@@ -17,6 +17,7 @@ use Rattle.laws.proofs.Directed.{length-directed}
 use Rattle.variable.specs.Counted.{blocksRead, blockAt, counted, Ended}
 use Rattle.variable.proofs.Reading.{Rest, rest-start, rest-cut, rest-block}
 
+-- at a place of the row, before block k, with c bytes of the value counted
 pub record Counting (d : Bool) (row : List ℕ) (at k c : ℕ) : Type 0 where
   pub few : k < at
   pub inside : at ≤ length row
@@ -32,10 +33,12 @@ counted-after n c m p (got v r) h = ap (Value (n - length r)) (omega (arith, len
 counted-after n c m p (fault f l) h = refl
 
 module _ {d : Bool} {row : List ℕ} {at k c : ℕ} (q : Counting d row at k c) (size : ℕ) (is : size ≡ blockSize k) where
+  -- no whole block is there
   pub counting-cut : length row - at ≤ size → Fault Cut 0 ≡ counted (length row) 0 (blocksRead d row)
   counting-cut h = sym (q .says ∙ ap (counted (length row) c) (rest-cut (directed d row) at k c (omega (arith, length-directed d row))))
 
   module _ (end : ℕ) (inside : at + size < length row) (e : end ≡ getD (directed d row) (at + size) 0) where
+    -- one is
     here : Rest (directed d row) at k c ≡ blockAt (directed d row) at size end c (Rest (directed d row) (at + (size + 1)) (k + 1) (c + size))
     here = rest-block (directed d row) at k c size end (q .few) is (omega (arith, length-directed d row)) e
 

@@ -16,10 +16,12 @@ use Rattle.format.specs.Lists.{lowBytes}
 abbrev pub turn : Bool → ℕ → ℕ
 turn d x = cond d (invert x) x
 
+-- byte by byte
 pub directed-cons : (d : Bool) (x : ℕ) (f : List ℕ) → directed d (x ∷ f) ≡ turn d x ∷ directed d f
 directed-cons true x f = refl
 directed-cons false x f = refl
 
+-- a part of it
 map-take : (g : ℕ → ℕ) (n : ℕ) (f : List ℕ) → map g (take n f) ≡ take n (map g f)
 map-take g zero f = refl
 map-take g (suc n) [] = refl
@@ -38,12 +40,13 @@ pub directed-drop : (d : Bool) (n : ℕ) (f : List ℕ) → directed d (drop n f
 directed-drop true n f = map-drop invert n f
 directed-drop false n f = refl
 
+-- the byte at a place
 pub directed-at : (d : Bool) (f : List ℕ) (i : ℕ) → i < length f → getD (directed d f) i 0 ≡ turn d (getD f i 0)
 directed-at d [] i h = absurd (omega arith)
 directed-at d (x ∷ f) zero h = ap (λ (z : List ℕ). getD z 0 0) (directed-cons d x f)
 directed-at d (x ∷ f) (suc i) h = ap (λ (z : List ℕ). getD z (suc i) 0) (directed-cons d x f) ∙ directed-at d f i (omega arith)
 
--- a byte that was turned as a number of one byte
+-- a byte that was turned as a number of one byte, and stored
 pub turned : (d : Bool) (x r : ℕ) → x < 256 → r < 256 → lowBytes 1 r ≡ directed d (lowBytes 1 x) → r ≡ turn d x
 turned d x r hx hr e =
     sym (mod-eq-of-lt hr) ∙ ap (λ (z : List ℕ). getD z 0 0) (e ∙ directed-cons d (x % 256) []) ∙ ap (turn d) (mod-eq-of-lt hx)
@@ -52,6 +55,5 @@ pub directed-one : (d : Bool) (x : ℕ) → directed d (x ∷ []) ≡ turn d x �
 directed-one true x = refl
 directed-one false x = refl
 
--- such a byte, stored
 pub stored-byte : (d : Bool) (x r : ℕ) (l : List ℕ) (i : ℕ) → x < 256 → r < 256 → lowBytes 1 r ≡ directed d (lowBytes 1 x) → set l i r ≡ sets l i (directed d (x ∷ []))
 stored-byte d x r l i hx hr e = ap (set l i) (turned d x r hx hr e) ∙ ap (sets l i) (sym (directed-one d x))

@@ -4,7 +4,7 @@ use mathlib.Core.Path.{_≡_, refl, sym, ap, ap₂, _∙_, subst}
 use mathlib.Core.Logic.{_⊎_, inl, inr}
 use mathlib.Core.Bool.{cond}
 use mathlib.Core.List.{List, [], _∷_, _++_}
-use native.Mathlib.Nat.{sub-self, mul-suc, suc-add, add-suc, add-zero}
+use native.Mathlib.Nat.{sub-self, mul-suc}
 use native.Mathlib.Omega.{arith}
 use lib.Dec.{ltb}
 use lib.ListN.{length, take, drop, replicate, take-append-drop, length-drop}
@@ -20,6 +20,7 @@ use Rattle.variable.specs.Even.{evenBlocks}
 abbrev pub even : ℕ → List ℕ → List ℕ
 even s x = stream (λ _. s) 0 0 x
 
+-- the blocks are that, and end so
 pub even-is : (s : ℕ) (x : List ℕ) → 0 < s → 0 < length x → evenBlocks s x ≡ even s x
 even-is s x h l = blocks-stream (λ _. s) (λ _. h) (length x) x 0 l (omega arith)
 
@@ -56,6 +57,7 @@ module _ (size : ℕ → ℕ) (s : ℕ) (room : 0 < s) where
     followed = rw (e, le-ltb u s (omega arith), lt-ltb 0 (size (suc k)) after);
   }
 
+  -- up to there
   split : (x r : List ℕ) (k j u m n : ℕ) → 0 < length r → ((i : ℕ) → 0 < size i) → ((i : ℕ) → k ≤ i → i ≤ k + m → size i ≡ s) → u ≤ s
       → u + length x ≡ s + s * m → n ≡ suc (k + m) → Split x r k j u n
   split [] r k j u zero n more after a h l e =
@@ -84,24 +86,28 @@ module _ (size : ℕ → ℕ) (s : ℕ) (room : 0 < s) where
 
 -- ---- blocks of one size
 
+-- their number does not matter
 shift : (s : ℕ) (x : List ℕ) (k j u : ℕ) → stream (λ _. s) k u x ≡ stream (λ _. s) j u x
 shift s [] k j u = refl
 shift s (y ∷ x) k j u = ap₂ (λ (a b : List ℕ). cond (ltb u s) (y ∷ a) (255 ∷ y ∷ b)) (shift s x k j (suc u)) (shift s x (suc k) (suc j) 1)
 
+-- a full block, and what follows
 pub even-more : (s : ℕ) (x : List ℕ) → 0 < s → s < length x → even s x ≡ block s (take s x) 255 ++ even s (drop s x)
 even-more s x room h = stream-more (λ _. s) (λ _. room) x 0 h ∙ ap (λ (z : List ℕ). block s (take s x) 255 ++ z) (shift s (drop s x) 1 0 0)
 
 -- ---- a field
 
+-- nothing
 pub field-empty : (x : List ℕ) → length x ≡ 0 → variableBytes x ≡ 1 ∷ []
 field-empty [] h = refl
 field-empty (y ∷ x) h = absurd (omega arith)
 
+-- something
 field-stream : (x : List ℕ) → 0 < length x → variableBytes x ≡ 2 ∷ stream blockSize 0 0 x
 field-stream [] h = absurd (omega arith)
 field-stream (y ∷ x) h = variable-stream y x
 
--- the first blocks only
+-- no more than the first blocks hold
 pub field-short : (x : List ℕ) → 0 < length x → length x ≤ 32 → variableBytes x ≡ 2 ∷ evenBlocks 8 x
 field-short x h l =
     field-stream x h

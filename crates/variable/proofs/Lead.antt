@@ -2,7 +2,7 @@
 use Prim.Native.Nat.{ℕ, suc, _+_, _-_, _<_, _≤_}
 use mathlib.Core.Path.{_≡_, refl, sym, ap, ap₂, _∙_, subst}
 use mathlib.Core.Bool.{Bool, true, false, cond}
-use mathlib.Core.Option.{none, some}
+use mathlib.Core.Option.{none}
 use mathlib.Core.List.{List, [], _∷_}
 use native.Mathlib.Omega.{arith}
 use lib.Dec.{eqb}
@@ -25,6 +25,7 @@ use Rattle.variable.specs.Counted.{blocksRead, counted, valueOf, restOf}
 abbrev Led : ℕ → List ℕ → ℕ → Parsed (List ℕ)
 Led x u n = cond (eqb x 1) (got [] u) (cond (eqb x 2) (readBlocks blockSize maxSlot (n - 1) 0 0 u) (fault Lead n))
 
+-- a value is read so
 led : (z : List ℕ) → 0 < length z → readValue maxSlot z ≡ Led (getD z 0 0) (drop 1 z) (length z)
 led [] h = absurd (omega arith)
 led (x ∷ u) h = ap (λ (n : ℕ). cond (eqb x 1) (got [] u) (cond (eqb x 2) (readBlocks blockSize maxSlot n 0 0 u) (fault Lead (suc (length u))))) {x = length u} {y = suc (length u) - 1} (omega arith)
@@ -34,10 +35,11 @@ lead-none : (o : SortOptions) (row : List ℕ) → length row ≡ 0 → readVari
 lead-none o [] h = refl
 lead-none o (b ∷ row) h = absurd (omega arith)
 
-pub lead-null : (o : SortOptions) (row : List ℕ) → 0 < length row → getD row 0 0 ≡ nullByte o → readVariable maxSlot o row ≡ got none (drop 1 row)
+lead-null : (o : SortOptions) (row : List ℕ) → 0 < length row → getD row 0 0 ≡ nullByte o → readVariable maxSlot o row ≡ got none (drop 1 row)
 lead-null o [] h e = absurd (omega arith)
 lead-null o (b ∷ row) h e = rw (eq-eqb b (nullByte o) e)
 
+-- a value
 past-null : (o : SortOptions) (row : List ℕ) → 0 < length row → (getD row 0 0 ≡ nullByte o → ⊥) → readVariable maxSlot o row ≡ valueSlot (o .descending) (readValue maxSlot (directed (o .descending) row))
 past-null o [] h n = absurd (omega arith)
 past-null o (b ∷ row) h n = rw (ne-eqb b (nullByte o) n)
@@ -46,17 +48,18 @@ module _ (o : SortOptions) (row : List ℕ) (some-lead : 0 < length row) (no-nul
   abbrev t : List ℕ
   t = directed (o .descending) row
 
+  -- as its lead byte says
   value : readVariable maxSlot o row ≡ valueSlot (o .descending) (Led (getD (directed (o .descending) row) 0 0) (drop 1 (directed (o .descending) row)) (length row))
   value =
       past-null o row some-lead no-null
       ∙ ap (valueSlot (o .descending)) (led t (omega (arith, length-directed (o .descending) row)) ∙ ap (Led (getD t 0 0) (drop 1 t)) (length-directed (o .descending) row))
 
   -- empty
-  pub lead-empty : getD (directed (o .descending) row) 0 0 ≡ 1 → readVariable maxSlot o row ≡ valueSlot (o .descending) (got [] (drop 1 (directed (o .descending) row)))
+  lead-empty : getD (directed (o .descending) row) 0 0 ≡ 1 → readVariable maxSlot o row ≡ valueSlot (o .descending) (got [] (drop 1 (directed (o .descending) row)))
   lead-empty e = value ∙ rw e
 
   -- blocks follow
-  pub lead-blocks : getD (directed (o .descending) row) 0 0 ≡ 2 → readVariable maxSlot o row ≡ valueSlot (o .descending) (blocksRead (o .descending) row)
+  lead-blocks : getD (directed (o .descending) row) 0 0 ≡ 2 → readVariable maxSlot o row ≡ valueSlot (o .descending) (blocksRead (o .descending) row)
   lead-blocks e = value ∙ rw e
 
   -- neither
@@ -64,10 +67,10 @@ module _ (o : SortOptions) (row : List ℕ) (some-lead : 0 < length row) (no-nul
   lead-other n m = value ∙ rw (ne-eqb (getD t 0 0) 1 n) (rw (ne-eqb (getD t 0 0) 2 m))
 
 -- the field is its lead byte
-pub lead-only : (row : List ℕ) → 0 < length row → 1 ≡ length row - length (drop 1 row)
+lead-only : (row : List ℕ) → 0 < length row → 1 ≡ length row - length (drop 1 row)
 lead-only row h = omega (arith, length-drop 1 row)
 
-pub lead-only-turned : (d : Bool) (row : List ℕ) → 0 < length row → 1 ≡ length row - length (directed d (drop 1 (directed d row)))
+lead-only-turned : (d : Bool) (row : List ℕ) → 0 < length row → 1 ≡ length row - length (directed d (drop 1 (directed d row)))
 lead-only-turned d row h = omega (arith, length-directed d (drop 1 (directed d row)), length-drop 1 (directed d row), length-directed d row)
 
 -- ---- what the count walk answers
@@ -77,6 +80,7 @@ value-counted : (d : Bool) (row : List ℕ) (m : Parsed (List ℕ)) → fieldRea
 value-counted d row (got v r) = ap₂ Value (ap (λ (n : ℕ). length row - n) (length-directed d r)) (omega arith)
 value-counted d row (fault f l) = refl
 
+-- a law for each lead byte
 pub read-none : (o : SortOptions) (row : List ℕ) → length row ≡ 0 → Fault Cut 0 ≡ fieldRead row (readVariable maxSlot o row)
 read-none o row h = sym (ap (fieldRead row) (lead-none o row h))
 
@@ -105,10 +109,12 @@ abbrev pub Wrote : List ℕ → List ℕ → ℕ → Parsed Slot → ℕ → ℕ
 Wrote row out₀ at m field value out =
     (field ≡ length row - length (leftAfter m)) × ((value ≡ length (variableSlot (slotRead m))) × (out ≡ sets out₀ at (variableSlot (slotRead m))))
 
+-- a field that was read has a lead byte
 pub good-lead : (o : SortOptions) (row : List ℕ) → Good (readVariable maxSlot o row) → 0 < length row
 good-lead o [] g = absurd g
 good-lead o (b ∷ row) g = omega arith
 
+-- a law for each lead byte
 pub wrote-null : (o : SortOptions) (row out : List ℕ) (at : ℕ) → 0 < length row → getD row 0 0 ≡ nullByte o → Wrote row out at (readVariable maxSlot o row) 1 0 out
 wrote-null o row out at h e = subst (λ (m : Parsed Slot). Wrote row out at m 1 0 out) (sym (lead-null o row h e)) (lead-only row h, (refl, refl))
 
@@ -125,6 +131,7 @@ module _ (o : SortOptions) (row : List ℕ) (some-lead : 0 < length row) (no-nul
       (lead-only-turned (o .descending) row some-lead, (refl, refl))
 
   module _ (good : Good (readVariable maxSlot o row)) (some-data : getD (directed (o .descending) row) 0 0 ≡ 1 → ⊥) where
+    -- the lead byte can only be 02
     blocks : readVariable maxSlot o row ≡ valueSlot (o .descending) (blocksRead (o .descending) row)
     blocks = go (eqb (getD (directed (o .descending) row) 0 0) 2) refl
       where

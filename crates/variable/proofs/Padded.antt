@@ -1,11 +1,11 @@
 -- Bytes with zeros past their end: a block's data and padding, and what a word of them spells. Assumes nothing.
 use Prim.Native.Nat.{ℕ, zero, suc, _+_, _-_, _*_, _^_, _<_, _≤_}
-use mathlib.Core.Path.{_≡_, refl, sym, ap, ap₂, _∙_}
+use mathlib.Core.Path.{_≡_, refl, sym, ap, _∙_}
 use mathlib.Core.List.{List, [], _∷_, _++_}
 use native.Mathlib.Nat.{zero-add, suc-add, sub-zero, suc-sub-suc, pow-succ'}
 use native.Mathlib.Omega.{arith}
 use lib.ListN.{length, getD, take, drop, replicate, length-drop}
-use lib.Seq.{drop-cons, drop-drop, take-nil}
+use lib.Seq.{drop-cons, drop-drop, drop-nil, take-nil}
 use Rattle.format.specs.Field.{block}
 use Rattle.format.specs.Lists.{Bytes, low, lowBytes}
 use Rattle.laws.proofs.Bytes.{bytes-drop}
@@ -17,6 +17,7 @@ padded zero x = []
 padded (suc n) [] = 0 ∷ padded n []
 padded (suc n) (y ∷ x) = y ∷ padded n x
 
+-- n bytes
 pub length-padded : (n : ℕ) (x : List ℕ) → length (padded n x) ≡ n
 length-padded zero x = refl
 length-padded (suc n) [] = ap suc (length-padded n [])
@@ -30,13 +31,10 @@ bytes-padded (suc n) (y ∷ x) b = (b .0, bytes-padded n x (b .1))
 -- so many, then so many more
 padded-more : (n m : ℕ) (x : List ℕ) → padded (n + m) x ≡ padded n x ++ padded m (drop n x)
 padded-more zero m x = ap (λ (k : ℕ). padded k x) (zero-add m)
-padded-more (suc n) m [] = ap (λ (k : ℕ). padded k []) (suc-add n m) ∙ ap (λ (z : List ℕ). 0 ∷ z) (padded-more n m [] ∙ ap (λ (z : List ℕ). padded n [] ++ padded m z) (nothing n))
-  where
-    nothing : (n : ℕ) → _≡_ {A = List ℕ} (drop n []) []
-    nothing zero = refl
-    nothing (suc n) = refl
+padded-more (suc n) m [] = ap (λ (k : ℕ). padded k []) (suc-add n m) ∙ ap (λ (z : List ℕ). 0 ∷ z) (padded-more n m [] ∙ ap (λ (z : List ℕ). padded n [] ++ padded m z) (drop-nil n))
 padded-more (suc n) m (y ∷ x) = ap (λ (k : ℕ). padded k (y ∷ x)) (suc-add n m) ∙ ap (λ (z : List ℕ). y ∷ z) (padded-more n m x)
 
+-- and at place i of a block
 pub padded-step : (size i w : ℕ) (x : List ℕ) → i + w ≤ size → padded (size - i) (drop i x) ≡ padded w (drop i x) ++ padded (size - (i + w)) (drop (i + w) x)
 padded-step size i w x h =
     ap (λ (k : ℕ). padded k (drop i x)) {x = size - i} {y = w + (size - (i + w))} (omega arith)
@@ -61,6 +59,7 @@ low-padded zero x = refl
 low-padded (suc n) [] = omega (arith, low-padded n [], ap low (take-nil {A = ℕ} n))
 low-padded (suc n) (y ∷ x) = ap (λ (k : ℕ). y + 256 * k) (low-padded n x)
 
+-- the bytes of a word that is read from x
 pub word-padded : (n : ℕ) (x : List ℕ) → Bytes x → lowBytes n (low (take n x)) ≡ padded n x
 word-padded n x b = spelled n (low (take n x)) (padded n x) (bytes-padded n x b) (length-padded n x) (low-padded n x)
 
@@ -77,5 +76,6 @@ word-more l i x h m e =
     let j : low (drop (suc (i - 1)) l) ≡ low (drop i l) = ap (λ (n : ℕ). low (drop n l)) {x = suc (i - 1)} {y = i} (omega arith) in
     sym (ap low (drop-cons l (i - 1) 0 k) ∙ omega arith)
 
+-- eight of them fit a word
 pub word-fits : (l : List ℕ) (i : ℕ) → Bytes l → length l ≤ i + 8 → low (drop i l) < 256 ^ 8
 word-fits l i b h = low-fits 8 (drop i l) (bytes-drop i l b) (omega (arith, length-drop i l))

@@ -12,6 +12,7 @@ use lib.Seq.{drop-cons, length-take-le}
 use borrow.Author.Tests.{eq-eqb, ne-eqb}
 use Rattle.format.specs.Read.{fromBad}
 
+-- no more than there are
 few : (n : ℕ) (l : List ℕ) → fromBad (take n l) ≤ n
 few zero l = omega arith
 few (suc n) [] = omega arith
@@ -24,7 +25,7 @@ few (suc n) (x ∷ l) = go (eqb x 0) (few n l)
 pub bad-few : (r n : ℕ) (l : List ℕ) → r ≡ fromBad (take n l) → r ≤ n
 bad-few r n l e = omega (arith, few n l)
 
--- from `from` to here
+-- from `from` to place i
 pub record Clear (t : List ℕ) (from to i : ℕ) : Type 0 where
   pub low : from ≤ i
   pub high : i ≤ to
@@ -34,6 +35,7 @@ pub clear-start : (t : List ℕ) (from to : ℕ) → from ≤ to → Clear t fro
 clear-start t from to h = record { low = omega arith; high = h; same = refl }
 
 module _ {t : List ℕ} {from to i : ℕ} (k : Clear t from to i) where
+  -- the byte at place i decides
   step : i < to → to ≤ length t
       → fromBad (take (to - from) (drop from t)) ≡ cond (eqb (getD t i 0) 0) (fromBad (take (to - (i + 1)) (drop (i + 1) t))) (suc (length (take (to - (i + 1)) (drop (i + 1) t))))
   step h l =
@@ -42,6 +44,7 @@ module _ {t : List ℕ} {from to i : ℕ} (k : Clear t from to i) where
       ∙ ap (λ (z : List ℕ). fromBad (take (suc (to - (i + 1))) z)) (drop-cons t i 0 (omega arith))
       ∙ rw (add-one i)
 
+  -- a zero, another byte, or the end
   pub clear-more : i < to → to ≤ length t → getD t i 0 ≡ 0 → Clear t from to (i + 1)
   clear-more h l z = record { low = omega (arith, k .low); high = omega arith; same = step h l ∙ rw (eq-eqb (getD t i 0) 0 z) }
 

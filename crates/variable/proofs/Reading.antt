@@ -1,31 +1,29 @@
 -- Reading the blocks of a field, from any place on. t is the row's bytes, inverted back. Assumes nothing.
 use Prim.Native.Nat.{ℕ, zero, suc, _+_, _-_, _%_, _<_, _≤_}
 use mathlib.Core.Path.{_≡_, refl, sym, ap, ap₂, _∙_, subst}
-use mathlib.Core.Logic.{_⊎_, inl, inr}
-use mathlib.Core.Bool.{Bool, true, false, cond, _||_}
-use mathlib.Core.List.{List, [], _∷_, _++_}
+use mathlib.Core.Bool.{Bool, true, false, cond}
+use mathlib.Core.List.{List, [], _∷_}
 use native.Mathlib.Nat.{sub-zero, suc-sub-suc}
 use native.Mathlib.Numerals.{add-one}
 use native.Mathlib.Omega.{arith}
-use lib.Dec.{ltb, leb, eqb}
-use lib.ListN.{length, getD, take, drop, length-drop, length-append}
+use lib.Dec.{ltb, eqb}
+use lib.ListN.{length, getD, take, drop, length-drop}
 use lib.Seq.{drop-drop, getD-drop, length-take-le, take-nil}
-use borrow.Author.Tests.{lt-ltb, le-ltb, le-leb, lt-leb, eq-eqb, ne-eqb}
+use borrow.Author.Tests.{lt-ltb, le-ltb, le-leb, lt-leb, ne-eqb}
 use Rattle.format.specs.declared.RowFault.{RowFault}
 use Rattle.format.specs.declared.RowFault.the-variants.{Cut, EndByte, Padding, TooLong}
-use Rattle.format.specs.declared.FieldRead.{FieldRead}
 use Rattle.format.specs.declared.FieldRead.the-variants.{Value, Fault}
 use Rattle.format.specs.Limits.{maxSlot}
 use Rattle.format.specs.Field.{directed, blockSize}
-use Rattle.format.specs.Read.{Parsed, got, fault, allZero, fromBad, after, readBlock, readBlocks}
+use Rattle.format.specs.Read.{Parsed, got, fault, allZero, fromBad, readBlock, readBlocks}
 use Rattle.laws.proofs.Directed.{length-directed}
-use Rattle.laws.proofs.Stream.{blockSize-room}
 use Rattle.variable.specs.Counted.{blocksRead, blockAt, counted, Ended}
 
 -- what is read from block k on, at a place of t, with c bytes of the value before
 abbrev pub Rest : List ℕ → ℕ → ℕ → ℕ → Parsed (List ℕ)
 Rest t at k c = readBlocks blockSize maxSlot (length t - 1 - k) k c (drop at t)
 
+-- from the first block on
 pub rest-start : (d : Bool) (row : List ℕ) → blocksRead d row ≡ Rest (directed d row) 1 0 0
 rest-start d row =
     ap (λ (n : ℕ). readBlocks blockSize maxSlot n 0 0 (drop 1 (directed d row))) {x = length row - 1} {y = length (directed d row) - 1 - 0}
@@ -41,6 +39,7 @@ size-words k size e = ap (λ (n : ℕ). n % 8) e ∙ go (ltb k 4)
     go true = refl
     go false = refl
 
+-- no whole block is there
 pub rest-cut : (t : List ℕ) (at k c : ℕ) → length t - at ≤ blockSize k → Rest t at k c ≡ fault Cut 0
 rest-cut t at k c h = go (length t - 1 - k)
   where
@@ -48,6 +47,7 @@ rest-cut t at k c h = go (length t - 1 - k)
     go zero = refl
     go (suc fuel) = rw (le-leb (length (drop at t)) (blockSize k) (omega (arith, length-drop at t)))
 
+-- one is
 pub rest-block : (t : List ℕ) (at k c size end : ℕ) → k < at → size ≡ blockSize k → at + size < length t → end ≡ getD t (at + size) 0
     → Rest t at k c ≡ blockAt t at size end c (Rest t (at + (size + 1)) (k + 1) (c + size))
 rest-block t at k c size end few is inside e =
@@ -63,6 +63,7 @@ rest-block t at k c size end few is inside e =
 
 -- ---- the last block
 
+-- the test for zeros, by the count from the first other byte on
 zero-clear : (x : List ℕ) → fromBad x ≡ 0 → allZero x ≡ true
 zero-clear [] h = refl
 zero-clear (y ∷ x) h = go (eqb y 0) refl h (zero-clear x)
@@ -79,16 +80,19 @@ bad-clear (y ∷ x) h = go (eqb y 0) refl h (bad-clear x)
     go true e h ih = rw e (ih h)
     go false e h ih = rw e
 
+-- the padding, as the padding's walk has it
 drop-take : (n m : ℕ) (l : List ℕ) → n ≤ m → drop n (take m l) ≡ take (m - n) (drop n l)
 drop-take zero m l h = ap (λ (k : ℕ). take k l) (sym (sub-zero m))
 drop-take (suc n) zero l h = absurd (omega arith)
 drop-take (suc n) (suc m) [] h = sym (take-nil (suc m - suc n))
 drop-take (suc n) (suc m) (x ∷ l) h = drop-take n m l (omega arith) ∙ ap (λ (k : ℕ). take k (drop n l)) (sym (suc-sub-suc m n))
 
+-- a fault is counted as itself
 faulty : (n c : ℕ) (f : RowFault) (l k : ℕ) (m : Parsed (List ℕ)) → l ≡ k → m ≡ fault f k → Fault f l ≡ counted n c m
 faulty n c f l k m h e = ap (Fault f) h ∙ sym (ap (counted n c) e)
 
 module _ (t : List ℕ) (n at size end c : ℕ) (long : length t ≡ n) (inside : at + size < n) (last : end ≡ 255 → ⊥) where
+  -- the bytes from the end byte on
   left : n - at - size ≡ suc (length (drop (at + (size + 1)) t))
   left = omega (arith, length-drop (at + (size + 1)) t)
 
@@ -100,6 +104,7 @@ module _ (t : List ℕ) (n at size end c : ℕ) (long : length t ≡ n) (inside 
   ended-over o h more = faulty n c EndByte _ _ (blockAt t at size end c more) left (rw (ne-eqb end 255 last) (rw (le-ltb end 1 o) (rw (lt-ltb size end h))))
 
   module _ (o : 1 ≤ end) (h : end ≤ size) (bad : ℕ) (b : bad ≡ fromBad (take (at + size - (at + end)) (drop (at + end) t))) where
+    -- a last block that may be: its padding, its length
     padding : bad ≡ fromBad (drop end (take size (drop at t)))
     padding =
         b ∙ ap₂ (λ (k : ℕ) (z : List ℕ). fromBad (take k z)) {x = at + size - (at + end)} {y = size - end} (omega arith) (sym (drop-drop end at t))
@@ -111,6 +116,7 @@ module _ (t : List ℕ) (n at size end c : ℕ) (long : length t ≡ n) (inside 
         (fault Padding (fromBad (drop end (take size (drop at t))) + suc (length (drop (at + (size + 1)) t))))
     ended more = rw (ne-eqb end 255 last) (rw (le-ltb end 1 o) (rw (le-ltb size end h)))
 
+    -- padding that is not zero
     pub ended-padding : 0 < bad → Ended t n at size end c (Fault Padding (bad + (n - at - size)))
     ended-padding p more =
         faulty n c Padding _ _ (blockAt t at size end c more) (ap₂ _+_ padding left)
@@ -119,6 +125,7 @@ module _ (t : List ℕ) (n at size end c : ℕ) (long : length t ≡ n) (inside 
     clean : bad ≤ 0 → allZero (drop end (take size (drop at t))) ≡ true
     clean p = zero-clear (drop end (take size (drop at t))) (omega (arith, padding))
 
+    -- too much, or a value
     pub ended-long : bad ≤ 0 → maxSlot < c + end → Ended t n at size end c (Fault TooLong (n - at - size))
     ended-long p l more = faulty n c TooLong _ _ (blockAt t at size end c more) left (ended more ∙ rw (clean p) (rw (lt-ltb maxSlot (c + end) l)))
 

@@ -1,13 +1,13 @@
 -- The copying walk over the blocks of a field that is read without fault: what is left of the value, written from here, is
 -- the whole value, written from the start. Assumes nothing.
-use Prim.Native.Nat.{ℕ, suc, _+_, _-_, _<_, _≤_}
-use mathlib.Core.Path.{_≡_, refl, sym, ap, ap₂, _∙_, subst}
+use Prim.Native.Nat.{ℕ, _+_, _-_, _<_, _≤_}
+use mathlib.Core.Path.{_≡_, refl, sym, ap, _∙_}
 use mathlib.Core.Logic.{_⊎_, inl, inr}
-use mathlib.Core.Bool.{Bool, true, false, cond, _||_}
-use mathlib.Core.List.{List, [], _∷_, _++_, append-nil}
+use mathlib.Core.Bool.{Bool, _||_}
+use mathlib.Core.List.{List, [], _++_, append-nil}
 use native.Mathlib.Omega.{arith}
-use lib.Dec.{ltb, leb, eqb}
-use lib.ListN.{length, getD, take, drop, length-append, length-drop}
+use lib.Dec.{ltb}
+use lib.ListN.{length, getD, take, drop, length-drop}
 use lib.Seq.{sets, length-take-le, take-take}
 use borrow.Author.Tests.{ltb-false, ne-eqb}
 use Rattle.format.specs.Limits.{maxSlot}
@@ -21,6 +21,7 @@ use Rattle.variable.specs.Counted.{blocksRead, blockAt, valueOf, restOf}
 use Rattle.variable.proofs.Direction.{directed-take, directed-drop}
 use Rattle.variable.proofs.Reading.{Rest, rest-start, rest-cut, rest-block}
 
+-- at a place of the row, before block k, with c bytes of the value written
 pub record Taking (d : Bool) (row out₀ : List ℕ) (at : ℕ) (out : List ℕ) (from k c : ℕ) : Type 0 where
   pub few : k < from
   pub rest : List ℕ
@@ -32,6 +33,7 @@ after-got : (p : List ℕ) (m : Parsed (List ℕ)) {v r : List ℕ} → after p 
 after-got p (got w s) e = (w, cc, cc)
 after-got p (fault f l) e = absurd (fault-got e)
 
+-- at the first block
 pub taking-start : (d : Bool) (row out : List ℕ) (at : ℕ) → Good (blocksRead d row) → Taking d row out at out 1 0 0
 taking-start d row out at g = record {
   few = omega arith;
@@ -56,6 +58,7 @@ module _ {d : Bool} {row out₀ : List ℕ} {at : ℕ} {out : List ℕ} {from k 
       go (inl h) = h
       go (inr h) = absurd (fault-got (sym (rest-cut (directed d row) from k c (omega (arith, length-directed d row))) ∙ q .read))
 
+  -- its first n bytes, as they are copied
   long : (n : ℕ) → n ≤ size → length (directed d (take n (drop from row))) ≡ n
   long n h = length-directed d (take n (drop from row)) ∙ length-take-le n (drop from row) (omega (arith, length-drop from row, taking-there))
 
@@ -63,10 +66,11 @@ module _ {d : Bool} {row out₀ : List ℕ} {at : ℕ} {out : List ℕ} {from k 
   turned n = directed-take d n (drop from row) ∙ ap (take n) (directed-drop d from row)
 
   module _ (end : ℕ) (e : end ≡ getD (directed d row) (from + size) 0) where
+    -- what is read of it
     here : blockAt (directed d row) from size end c (Rest (directed d row) (from + (size + 1)) (k + 1) (c + size)) ≡ got (q .rest) (restOf (blocksRead d row))
     here = sym (rest-block (directed d row) from k c size end (q .few) is (omega (arith, length-directed d row, taking-there)) e) ∙ q .read
 
-    -- a full block, and what is left after its data
+    -- a full block: its data come before what is left after it
     module _ (f : end ≡ 255) where
       full : (w : List ℕ) × (Rest (directed d row) (from + (size + 1)) (k + 1) (c + size) ≡ got w (restOf (blocksRead d row))) × (q .rest ≡ take size (drop from (directed d row)) ++ w)
       full =
@@ -76,6 +80,7 @@ module _ {d : Bool} {row out₀ : List ℕ} {at : ℕ} {out : List ℕ} {from k 
       parted : q .rest ≡ directed d (take size (drop from row)) ++ full .0
       parted = full .2 ∙ ap (λ (z : List ℕ). z ++ full .0) (sym (turned size))
 
+      -- there is room for them, and the walk goes on
       pub full-room : at + length (valueOf (blocksRead d row)) ≤ length out₀ → at + c + size ≤ length out
       full-room fits = omega (arith, long size (omega arith), walk-room (q .wrote) (directed d (take size (drop from row))) (full .0) parted fits)
 
@@ -104,6 +109,7 @@ module _ {d : Bool} {row out₀ : List ℕ} {at : ℕ} {out : List ℕ} {from k 
           sym (last .1) ∙ take-take end size (drop from t) (last .0) ∙ sym (turned end)
           ∙ sym (append-nil (directed d (take end (drop from row))))
 
+      -- there is room for them, and the walk ends
       pub last-room : at + length (valueOf (blocksRead d row)) ≤ length out₀ → (from + end ≤ length row) × (at + c + end ≤ length out)
       last-room fits = (
         omega (arith, last .0, taking-there),
@@ -113,7 +119,8 @@ module _ {d : Bool} {row out₀ : List ℕ} {at : ℕ} {out : List ℕ} {from k 
       pub last-field : from + size + 1 ≡ length row - length (restOf (blocksRead d row))
       last-field = omega (arith, ap length (last .2), length-drop (from + (size + 1)) t, length-directed d row, taking-there)
 
-      pub last-value : (c + end ≡ length (valueOf (blocksRead d row))) × (sets out (at + c) (directed d (take end (drop from row))) ≡ sets out₀ at (valueOf (blocksRead d row)))
-      last-value =
+      pub last-value : (out′ : List ℕ) → out′ ≡ sets out (at + c) (directed d (take end (drop from row)))
+          → (c + end ≡ length (valueOf (blocksRead d row))) × (out′ ≡ sets out₀ at (valueOf (blocksRead d row)))
+      last-value out′ e =
           let w = walk-end (walk-piece end (directed d (take end (drop from row))) [] (q .wrote) ended (long end (last .0))) refl in
-          (omega (arith, w .0), w .1)
+          (omega (arith, w .0), e ∙ w .1)

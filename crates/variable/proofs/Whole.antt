@@ -1,5 +1,5 @@
 -- The field of a value, written part by part: the lead byte, the first blocks, the later ones. Assumes nothing.
-use Prim.Native.Nat.{ℕ, suc, _+_, _-_, _*_, _/_, _<_, _≤_}
+use Prim.Native.Nat.{ℕ, _+_, _-_, _*_, _/_, _<_, _≤_}
 use mathlib.Core.Path.{_≡_, refl, sym, ap, ap₂, _∙_, subst, subst₂}
 use mathlib.Core.Bool.{Bool, true, false, cond}
 use mathlib.Core.List.{List, [], _∷_, _++_, append-assoc, append-nil}
@@ -30,6 +30,7 @@ again d f a b l i =
         ∙ ap₂ (λ (n : ℕ) (z : List ℕ). sets (sets l i (directed d f)) (i + n) z) (length-directed d f) (directed-one d x)
 
 module _ (val out₀ : List ℕ) (at : ℕ) (d : Bool) (fits : at + paddedLength (length val) ≤ length out₀) where
+  -- the whole field
   long : length (directed d (variableBytes val)) ≡ paddedLength (length val)
   long = length-directed d (variableBytes val) ∙ length-variable val
 
@@ -54,10 +55,12 @@ module _ (val out₀ : List ℕ) (at : ℕ) (d : Bool) (fits : at + paddedLength
   room-last : {out : List ℕ} {p : ℕ} (a : List ℕ) → Walk (directed d (variableBytes val)) (directed d a) out₀ at out p → p + length a ≤ length out
   room-last {out} {p} a w = omega (arith, length-directed d a, walk-room w (directed d a) [] (sym (append-nil (directed d a))) (omega (arith, long)))
 
+  -- the same, said another way
   from : {rest out : List ℕ} {p : ℕ} (rest′ out′ : List ℕ) → rest ≡ rest′ → out′ ≡ out → Walk (directed d (variableBytes val)) (directed d rest) out₀ at out p
       → Walk (directed d (variableBytes val)) (directed d rest′) out₀ at out′ p
   from {p = p} rest′ out′ e f w = subst₂ (λ (z y : List ℕ). Walk (directed d (variableBytes val)) (directed d z) out₀ at y p) e (sym f) w
 
+  -- nothing is written
   start : Walk (directed d (variableBytes val)) (directed d (variableBytes val)) out₀ at out₀ at
   start = walk-start (directed d (variableBytes val)) out₀ at
 
@@ -74,6 +77,7 @@ module _ (val out₀ : List ℕ) (at : ℕ) (d : Bool) (fits : at + paddedLength
   one-empty out h e = part-last (1 ∷ []) out (from (1 ∷ []) out₀ (field-empty val h) refl start) e
 
   module _ (out₁ : List ℕ) (e₁ : out₁ ≡ sets out₀ at (directed d (2 ∷ []))) where
+    -- after the lead byte of a value that is not empty
     led : (f : List ℕ) → variableBytes val ≡ 2 ∷ f → Walk (directed d (variableBytes val)) (directed d f) out₀ at out₁ (at + 1)
     led f e = from f out₁ refl e₁ (part (2 ∷ []) f (from (2 ∷ f) out₀ e refl start))
 
@@ -110,6 +114,7 @@ module _ (val out₀ : List ℕ) (at : ℕ) (d : Bool) (fits : at + paddedLength
         again-room = (omega arith, omega (arith, first-room, ap length e₂, length-sets out₁ (at + 1) (directed d (evenBlocks 8 (take 32 val)))))
 
         module _ (out₃ : List ℕ) (e₃ : out₃ ≡ sets out₂ (place - 1) (directed d (255 ∷ []))) where
+          -- the fourth block ends in FF
           fourth : out₃ ≡ sets out₁ (at + 1) (directed d (L .front ++ (255 ∷ [])))
           fourth =
               e₃

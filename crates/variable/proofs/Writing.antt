@@ -1,27 +1,28 @@
--- The writers of a field: a block word by word, a run of blocks, and the whole. Assumes nothing.
-use Prim.Native.Nat.{ℕ, zero, suc, _+_, _-_, _<_, _≤_}
+-- Writing a block word by word, and a run of blocks. Assumes nothing.
+use Prim.Native.Nat.{ℕ, _+_, _-_, _<_, _≤_}
 use mathlib.Core.Path.{_≡_, refl, sym, ap, ap₂, _∙_, subst}
 use mathlib.Core.Bool.{Bool}
 use mathlib.Core.List.{List, [], _∷_, _++_, append-nil, append-assoc}
-use native.Mathlib.Nat.{add-zero, sub-zero, sub-eq-zero-of-le}
+use native.Mathlib.Nat.{sub-zero, sub-eq-zero-of-le}
 use native.Mathlib.Omega.{arith}
-use lib.ListN.{length, take, drop, set, length-append, length-drop}
-use lib.Seq.{sets, set-set, length-take-le, take-all, drop-drop}
-use Rattle.format.specs.Field.{block, directed, paddedLength, variableBytes}
+use lib.ListN.{length, take, drop, length-append, length-drop}
+use lib.Seq.{sets, length-take-le, take-all, drop-drop}
+use Rattle.format.specs.Field.{block, directed}
 use Rattle.format.specs.Lists.{Bytes, low, lowBytes}
-use Rattle.laws.proofs.Append.{sets-append, Walk, walk-start, walk-first, walk-at, walk-more, walk-piece, walk-room, walk-end}
+use Rattle.laws.proofs.Append.{Walk, walk-start, walk-first, walk-at, walk-piece, walk-room, walk-end}
 use Rattle.laws.proofs.Bytes.{bytes-drop}
 use Rattle.laws.proofs.Directed.{length-directed, directed-append}
-use Rattle.laws.proofs.Lengths.{length-variable}
 use Rattle.variable.specs.Even.{evenBlocks}
 use Rattle.variable.proofs.Padded.{padded, length-padded, padded-step, block-padded, word-padded}
-use Rattle.variable.proofs.Even.{even, even-is, even-last, even-more, field-empty, field-short, Long, field-long}
+use Rattle.variable.proofs.Even.{even, even-is, even-last, even-more}
 
+-- as long as its size, and the end byte
 length-block : (size : ℕ) (x : List ℕ) (end : ℕ) → length x ≤ size → length (block size x end) ≡ size + 1
 length-block size x end h = ap length (block-padded size x end h) ∙ length-append (padded size x) (end ∷ []) ∙ omega (arith, length-padded size x)
 
--- ---- one block: i of its bytes are written
+-- ---- one block
 
+-- i of its bytes are written
 pub record Filling (x : List ℕ) (size end : ℕ) (d : Bool) (out₀ : List ℕ) (at : ℕ) (out : List ℕ) (i : ℕ) : Type 0 where
   pub few : i ≤ size
   pub wrote : Walk (directed d (block size x end)) (directed d (padded (size - i) (drop i x) ++ (end ∷ []))) out₀ at out (at + i)
@@ -61,8 +62,9 @@ module _ {x : List ℕ} {size end : ℕ} {d : Bool} {out₀ : List ℕ} {at : �
       e ∙ ap₂ (λ (k : ℕ) (z : List ℕ). sets out (at + k) (directed d (z ++ (end ∷ [])))) {x = size} {y = i} (omega (arith, t .few)) (sym (ap (λ (k : ℕ). padded k (drop i x)) (sub-eq-zero-of-le h)))
       ∙ t .wrote .says
 
--- ---- a run of blocks of one size: i bytes of the value are written
+-- ---- a run of blocks of one size
 
+-- i bytes of the value are written
 pub record Spreading (val : List ℕ) (size : ℕ) (d : Bool) (out₀ : List ℕ) (at : ℕ) (out : List ℕ) (place i : ℕ) : Type 0 where
   pub some-left : i < length val
   pub wrote : Walk (directed d (evenBlocks size val)) (directed d (even size (drop i val))) out₀ at out place
@@ -87,6 +89,7 @@ module _ {val : List ℕ} {size : ℕ} {d : Bool} {out₀ : List ℕ} {at : ℕ}
         length-directed d (block size (take size (drop i val)) 255)
         ∙ length-block size (take size (drop i val)) 255 (omega (arith, length-take-le size (drop i val) (omega (arith, length-drop i val))))
 
+    -- there is room for it, and the walk goes on
     pub more-room : at + length (evenBlocks size val) ≤ length out₀ → place + size < length out
     more-room fits =
         omega (arith, long, walk-room (t .wrote) (directed d (block size (take size (drop i val)) 255)) (directed d (even size (drop (i + size) val))) parted (omega (arith, length-directed d (evenBlocks size val))))
@@ -110,6 +113,7 @@ module _ {val : List ℕ} {size : ℕ} {d : Bool} {out₀ : List ℕ} {at : ℕ}
     last : length (directed d (block size (drop i val) (length val - i))) ≡ size + 1
     last = length-directed d (block size (drop i val) (length val - i)) ∙ length-block size (drop i val) (length val - i) (omega (arith, length-drop i val))
 
+    -- there is room for it, and the walk ends
     pub last-room : at + length (evenBlocks size val) ≤ length out₀ → place + size < length out
     last-room fits =
         omega (arith, last, walk-room (t .wrote) (directed d (block size (drop i val) (length val - i))) [] ended (omega (arith, length-directed d (evenBlocks size val))))

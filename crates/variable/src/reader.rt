@@ -1,7 +1,6 @@
 // The count walk: what the field in front of a row is, how long it and its value are, or what is wrong with it. Total on
 // any bytes; bytes are inverted back as they are read.
 ghost use mathlib.Core.Path.{_≡_};
-ghost use mathlib.Core.List.{_∷_};
 ghost use Prim.Native.Nat.{_+_, _-_, _<_, _≤_};
 ghost use lib.ListN.{length, take, drop};
 ghost use Rattle.format.specs.Limits.{maxSlot};

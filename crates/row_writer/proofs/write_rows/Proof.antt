@@ -37,6 +37,7 @@ abbrev μ-loop : tie.MeasureT-loop
 μ-loop n sheet rows₀ offsets₀ facts count at₀ r₀ rows offsets at r = n - r
 
 -- ---- at the entry
+
 abbrev Start : Type 0
 Start = tie.Start Inv-loop2 μ-loop2 Inv-loop μ-loop
 
@@ -57,15 +58,19 @@ room : (c : Start) → 0 + length (joined (each 0 (c .args .n) (rowAt (c .args .
 room c = omega (arith, c .pre .1 .1 .1 .0, ap (λ (xs : List (List ℕ)). length (joined xs)) (whole c))
 
 -- ---- in a turn of the inner loop
+
 abbrev Turn : Type 0
 Turn = tie.In-loop2 Inv-loop2 μ-loop2 Inv-loop μ-loop
 
+-- what was known at the entry
 abbrev entry : Turn → Start
 entry c = c .before .before .before .before .before .before .before
 
+-- the facts of column c
 abbrev facts : Turn → Facts
 facts c = getD (entry c .args .t4) (c .before .loop2 .c) noFacts
 
+-- column c is one of them
 below : (c : Turn) → c .before .loop2 .c < entry c .args .schema .count
 below c = omega arith
 
@@ -73,13 +78,14 @@ below c = omega arith
 stands : (c : Turn) → Stands (facts c .column) (entry c .args .n) (c .before .loop2 .c) (facts c .base) (entry c .args .sheet .now)
 stands c = entry c .pre .1 .1 .0 (c .before .loop2 .c) (omega (arith, many (entry c), below c)) .stands
 
+-- its field in row r is as long as the table says
 long : (c : Turn) → length (fieldAt (entry c .args .n) (entry c .args .sheet .now) (entry c .args .t4) (c .before .before .before .loop .r) (c .before .loop2 .c))
     ≡ fieldLength (columnShape (facts c .column)) (slotIn (entry c .args .n) (entry c .args .sheet .now) (c .before .before .before .loop .r) (facts c .column) (facts c .base))
 long c =
     field-long (entry c .args .n) (c .before .loop2 .c) (c .before .before .before .loop .r) (facts c .base) (facts c .column) (entry c .args .sheet .now) (stands c)
     (bytes-of (entry c .args .sheet .now) (λ i. c .before .before .before .before .before .before .shared-slice-known .given i .fits)) (c .before .before .loop-test .taken)
 
--- the field has room
+-- and has room
 fits : (c : Turn) → c .before .loop2 .at + fieldLength (columnShape (facts c .column)) (slotIn (entry c .args .n) (entry c .args .sheet .now) (c .before .before .before .loop .r) (facts c .column) (facts c .base)) ≤ length (c .before .loop2 .rows)
 fits c =
     let o = c .before .before .before .loop in

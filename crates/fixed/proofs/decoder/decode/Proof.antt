@@ -1,15 +1,16 @@
 -- `fixed::decoder::decode` meets its contract: the slot is the value that is written, or null. Assumes nothing.
 use borrow.Author.Needs.{needs}
-use Prim.Native.Nat.{ℕ, _+_, _≤_}
-use mathlib.Core.Path.{ap, _∙_}
-use mathlib.Core.List.{List}
+use Prim.Native.Nat.{_+_, _≤_}
 use native.Mathlib.Omega.{arith}
-use lib.ListN.{length, replicate}
-use lib.Seq.{sets}
+use lib.ListN.{length}
 use Rattle.format.specs.Kinds.{valueBytes}
+use Rattle.format.specs.Read.{Good, readFixed}
 use Rattle.fixed.proofs.Standing.{good-fixed, field-whole, field-value, field-null}
 use Rattle.fixed.proofs.decoder.decode.Statement.{statement}
 use Rattle.fixed.proofs.decoder.decode.Tie as tie
+
+good : (s : tie.Start) → Good (readFixed (s .pre .0 .k) (s .args .options) (s .args .row .now))
+good s = good-fixed (s .args .kind) (s .pre .0 .k) (s .pre .0 .says) (s .args .options) (s .args .row .now) (s .pre .1 .0)
 
 whole : (s : tie.Start) → 1 + valueBytes (s .args .kind) ≤ length (s .args .row .now)
 whole s = field-whole (s .args .kind) (s .pre .0 .k) (s .pre .0 .says) (s .args .options) (s .args .row .now) (s .pre .1 .0)
@@ -21,9 +22,8 @@ returns c =
     let s = test .before .before .before .before in
     let A = s .args in
     let w = s .pre .0 in
-    let g = good-fixed (A .kind) (w .k) (w .says) (A .options) (A .row .now) (s .pre .1 .0) in
-    put .decode-value .ensures (w .k) (w .says)
-    ∙ ap (sets (A .out .now) (A .at)) (field-value (A .kind) (w .k) (w .says) (A .options) (A .row .now) (s .pre .1 .0) _ (test .before .is-valid .ensures (w .k) g) (test .if1 .taken))
+    field-value (A .kind) (w .k) (w .says) (A .options) (A .row .now) (s .pre .1 .0) _ (test .before .is-valid .ensures (w .k) (good s)) (A .out .now) (A .at) _
+    (test .if1 .taken) (put .decode-value .ensures (w .k) (w .says))
 
 returns-2 : tie.Need-returns-2
 returns-2 c =
@@ -32,9 +32,8 @@ returns-2 c =
     let s = test .before .before .before .before in
     let A = s .args in
     let w = s .pre .0 in
-    let g = good-fixed (A .kind) (w .k) (w .says) (A .options) (A .row .now) (s .pre .1 .0) in
-    put .zeros .ensures ∙ ap (λ (n : ℕ). sets (A .out .now) (A .at) (replicate n 0)) (put .before .width .ensures)
-    ∙ ap (sets (A .out .now) (A .at)) (field-null (A .kind) (w .k) (w .says) (A .options) (A .row .now) (s .pre .1 .0) _ (test .before .is-valid .ensures (w .k) g) (test .if1 .left))
+    field-null (A .kind) (w .k) (w .says) (A .options) (A .row .now) (s .pre .1 .0) _ (test .before .is-valid .ensures (w .k) (good s)) (A .out .now) (A .at) _
+    (put .before .width .result) (put .before .width .ensures) (test .if1 .left) (put .zeros .ensures)
 
 pub decode-spec : {M : Type 1} → statement M
 decode-spec =

@@ -12,16 +12,20 @@ use Rattle.fixed.proofs.DecodeArms.{Taken, took, took-key, took-code, t
 use Rattle.fixed.proofs.decoder.decode_value.Statement.{statement}
 use Rattle.fixed.proofs.decoder.decode_value.Tie as tie
 
-abbrev taken : tie.Start → Taken
-taken s = record {
-  row = s .args .row .now;
-  kind = s .args .kind;
-  descending = s .args .descending;
-  out = s .args .out .now;
-  at = s .args .at;
-  whole = s .pre .1 .0;
-}
+abbrev taken : tie.After-slice-known → Taken
+taken c =
+    let s = c .before .before in
+    record {
+      row = s .args .row .now;
+      kind = s .args .kind;
+      descending = s .args .descending;
+      out = s .args .out .now;
+      at = s .args .at;
+      whole = s .pre .1 .0;
+      known = c .before .shared-slice-known .given;
+    }
 
+-- the needs of the calls in each arm, then what each arm returns, in the order of the source
 pub decode-value-spec : {M : Type 1} → statement M
 decode-value-spec =
     tie.close
@@ -84,80 +88,96 @@ decode-value-spec =
     (λ c. omega (arith, ap valueBytes (c .before .before .kind .given .1)))
     (λ c κs.
     let arm = c .before .before .before in
-    let start = arm .before .before .before .before in
-    plain-room (taken start) _ (arm .kind .given .1) (start .pre .1 .1))
+    plain-room (taken (arm .before .before)) _ (arm .kind .given .1) (arm .before .before .before .before .pre .1 .1))
     (λ c. search needs)
     (λ c. search needs)
     (λ c. search needs)
     (λ c.
     let arm = c .before in
-    let start = arm .before .before .before .before in
-    took-key (taken start) (arm .enum-told .given .1) (integer 1) refl signedUnkey (λ f. refl) _ _ (c .unkey8 .ensures) (byte-set (start .args .out .now) (start .args .at) _ (c .unkey8 .ok)))
+    let t = taken (arm .before .before) in
+    took-key t (arm .enum-told .given .1) (integer 1) refl signedUnkey (λ f. refl) _ _
+    (c .unkey8 .ensures) (byte-set (t .out) (t .at) _ (c .unkey8 .ok)))
     (λ c. search needs)
     (λ c.
     let put = c .before .before in
     let arm = put .before .before .before in
-    took-key (taken (arm .before .before .before .before)) (arm .enum-told2 .given .1) (integer 2) refl signedUnkey (λ f. refl) _ _ (put .before .unkey16 .ensures) (put .put16 .ensures))
+    took-key (taken (arm .before .before)) (arm .enum-told2 .given .1) (integer 2) refl signedUnkey (λ f. refl) _ _
+    (put .before .unkey16 .ensures) (put .put16 .ensures))
     (λ c. search needs)
     (λ c.
     let put = c .before .before in
     let arm = put .before .before .before in
-    took-key (taken (arm .before .before .before .before)) (arm .enum-told3 .given .1) (integer 4) refl signedUnkey (λ f. refl) _ _ (put .before .unkey32 .ensures) (put .put32 .ensures))
+    took-key (taken (arm .before .before)) (arm .enum-told3 .given .1) (integer 4) refl signedUnkey (λ f. refl) _ _
+    (put .before .unkey32 .ensures) (put .put32 .ensures))
     (λ c. search needs)
     (λ c.
     let put = c .before .before in
     let arm = put .before .before .before in
-    took-key (taken (arm .before .before .before .before)) (arm .enum-told4 .given .1) (integer 8) refl signedUnkey (λ f. refl) _ _ (put .before .unkey64 .ensures) (put .put64 .ensures))
+    took-key (taken (arm .before .before)) (arm .enum-told4 .given .1) (integer 8) refl signedUnkey (λ f. refl) _ _
+    (put .before .unkey64 .ensures) (put .put64 .ensures))
     (λ c. search needs)
     (λ c.
     let arm = c .before .before .before in
-    let start = arm .before .before .before .before in
-    took-code (taken start) (arm .enum-told5 .given .1) (number 1) refl reverse (λ f. refl) (arm .before .before .before .shared-slice-known .given) _ _ _ _
-    (byte (start .args .row .now) 1 (omega (arith, ap valueBytes (arm .enum-told5 .given .1)))) (c .before .directed8 .ensures) (c .decode-u8 .ensures) (byte-set (start .args .out .now) (start .args .at) _ (c .decode-u8 .ok)))
+    let t = taken (arm .before .before) in
+    took-code t (arm .enum-told5 .given .1) (number 1) refl reverse (λ f. refl) _ _ _ _
+    (byte (t .row) 1 (omega (arith, ap valueBytes (arm .enum-told5 .given .1)))) (c .before .directed8 .ensures)
+    (c .decode-u8 .ensures) (byte-set (t .out) (t .at) _ (c .decode-u8 .ok)))
     (λ c. search needs)
     (λ c.
     let put = c .before .before in
     let arm = put .before .before .before .before .before in
-    took-code (taken (arm .before .before .before .before)) (arm .enum-told6 .given .1) (number 2) refl reverse (λ f. refl) (arm .before .before .before .shared-slice-known .given) _ _ _ _ (put .before .before .before .low16 .ensures) (put .before .before .directed16 .ensures) (put .before .decode-u16 .ensures) (put .put162 .ensures))
+    took-code (taken (arm .before .before)) (arm .enum-told6 .given .1) (number 2) refl reverse (λ f. refl) _ _ _ _
+    (put .before .before .before .low16 .ensures) (put .before .before .directed16 .ensures)
+    (put .before .decode-u16 .ensures) (put .put162 .ensures))
     (λ c. search needs)
     (λ c.
     let put = c .before .before in
     let arm = put .before .before .before .before .before in
-    took-code (taken (arm .before .before .before .before)) (arm .enum-told7 .given .1) (number 4) refl reverse (λ f. refl) (arm .before .before .before .shared-slice-known .given) _ _ _ _ (put .before .before .before .low32 .ensures) (put .before .before .directed32 .ensures) (put .before .decode-u32 .ensures) (put .put322 .ensures))
+    took-code (taken (arm .before .before)) (arm .enum-told7 .given .1) (number 4) refl reverse (λ f. refl) _ _ _ _
+    (put .before .before .before .low32 .ensures) (put .before .before .directed32 .ensures)
+    (put .before .decode-u32 .ensures) (put .put322 .ensures))
     (λ c. search needs)
     (λ c.
     let put = c .before .before in
     let arm = put .before .before .before .before .before in
-    took-code (taken (arm .before .before .before .before)) (arm .enum-told8 .given .1) (number 8) refl reverse (λ f. refl) (arm .before .before .before .shared-slice-known .given) _ _ _ _ (put .before .before .before .low64 .ensures) (put .before .before .directed64 .ensures) (put .before .decode-u64 .ensures) (put .put642 .ensures))
+    took-code (taken (arm .before .before)) (arm .enum-told8 .given .1) (number 8) refl reverse (λ f. refl) _ _ _ _
+    (put .before .before .before .low64 .ensures) (put .before .before .directed64 .ensures)
+    (put .before .decode-u64 .ensures) (put .put642 .ensures))
     (λ c. search needs)
     (λ c.
     let put = c .before .before in
     let arm = put .before .before .before .before .before in
-    took-code (taken (arm .before .before .before .before)) (arm .enum-told9 .given .1) (float 2) refl floatUnkey (λ f. refl) (arm .before .before .before .shared-slice-known .given) _ _ _ _ (put .before .before .before .low162 .ensures) (put .before .before .directed162 .ensures) (put .before .decode-f16 .ensures) (put .put163 .ensures))
+    took-code (taken (arm .before .before)) (arm .enum-told9 .given .1) (float 2) refl floatUnkey (λ f. refl) _ _ _ _
+    (put .before .before .before .low162 .ensures) (put .before .before .directed162 .ensures)
+    (put .before .decode-f16 .ensures) (put .put163 .ensures))
     (λ c. search needs)
     (λ c.
     let put = c .before .before in
     let arm = put .before .before .before .before .before in
-    took-code (taken (arm .before .before .before .before)) (arm .enum-told10 .given .1) (float 4) refl floatUnkey (λ f. refl) (arm .before .before .before .shared-slice-known .given) _ _ _ _ (put .before .before .before .low322 .ensures) (put .before .before .directed322 .ensures) (put .before .decode-f32 .ensures) (put .put323 .ensures))
+    took-code (taken (arm .before .before)) (arm .enum-told10 .given .1) (float 4) refl floatUnkey (λ f. refl) _ _ _ _
+    (put .before .before .before .low322 .ensures) (put .before .before .directed322 .ensures)
+    (put .before .decode-f32 .ensures) (put .put323 .ensures))
     (λ c. search needs)
     (λ c.
     let put = c .before .before in
     let arm = put .before .before .before .before .before in
-    took-code (taken (arm .before .before .before .before)) (arm .enum-told11 .given .1) (float 8) refl floatUnkey (λ f. refl) (arm .before .before .before .shared-slice-known .given) _ _ _ _ (put .before .before .before .low642 .ensures) (put .before .before .directed642 .ensures) (put .before .decode-f64 .ensures) (put .put643 .ensures))
+    took-code (taken (arm .before .before)) (arm .enum-told11 .given .1) (float 8) refl floatUnkey (λ f. refl) _ _ _ _
+    (put .before .before .before .low642 .ensures) (put .before .before .directed642 .ensures)
+    (put .before .decode-f64 .ensures) (put .put643 .ensures))
     (λ c. search needs)
     (λ c.
     let put = c .before .before in
     let arm = put .before .before in
-    took (taken (arm .before .before .before .before)) (arm .enum-told12 .given .1) (parts (4 ∷ 4 ∷ [])) refl _ (put .decode-day-time .ensures))
+    took (taken (arm .before .before)) (arm .enum-told12 .given .1) (parts (4 ∷ 4 ∷ [])) refl _ (put .decode-day-time .ensures))
     (λ c. search needs)
     (λ c.
     let put = c .before .before in
     let arm = put .before .before in
-    took (taken (arm .before .before .before .before)) (arm .enum-told13 .given .1) (parts (4 ∷ 4 ∷ 8 ∷ [])) refl _ (put .decode-month-day-nano .ensures))
+    took (taken (arm .before .before)) (arm .enum-told13 .given .1) (parts (4 ∷ 4 ∷ 8 ∷ [])) refl _ (put .decode-month-day-nano .ensures))
     (λ c. search needs)
     (λ c.
     let put = c .before .before in
     let arm = put .before .before .before .before in
-    took-plain (taken (arm .before .before .before .before)) _ (arm .kind .given .1) _ (put .copy-directed .ensures))
+    took-plain (taken (arm .before .before)) _ (arm .kind .given .1) _ (put .copy-directed .ensures))
     (λ c. absurd (not-bool (c .before .before .before .before .pre .0) (c .enum-told14 .given .1)))
     (λ c. absurd (not-variable (c .before .before .before .before .pre .0) (c .enum-told15 .given .1))))

@@ -1,16 +1,11 @@
 -- `fixed::encoder::put_word8` meets its contract: 01 is set, then the byte. Assumes nothing.
 use borrow.Author.Needs.{needs}
-use mathlib.Core.Path.{refl, ap}
-use mathlib.Core.List.{List}
-use Prim.Native.Nat.{ℕ, _+_}
+use mathlib.Core.Path.{refl}
 use native.Mathlib.Omega.{arith}
-use lib.ListN.{length-set, set}
-use lib.Seq.{sets}
+use lib.ListN.{length-set}
 use Rattle.fixed.proofs.Writing.{byte-field}
 use Rattle.fixed.proofs.encoder.put_word8.Statement.{statement}
 use Rattle.fixed.proofs.encoder.put_word8.Tie as tie
-use Rattle.fixed.proofs.encoder.put_word8.Reads as reads
-use Rattle.fixed.proofs.encoder.put_word8.Lts as lts
 
 returns : tie.Need-returns
 returns c =

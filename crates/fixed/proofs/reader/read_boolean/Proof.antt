@@ -5,9 +5,7 @@ use Prim.Native.Nat.{ℕ}
 use mathlib.Core.Path.{_≡_, refl}
 use lib.ListN.{getD}
 use native.Mathlib.Omega.{arith}
-use Rattle.format.specs.declared.FieldRead.{FieldRead}
-use Rattle.format.specs.declared.FieldRead.the-variants.{Null, Value, Fault}
-use Rattle.format.specs.Kinds.{bool, plain}
+use Rattle.format.specs.Kinds.{plain}
 use Rattle.fixed.specs.Wide.{WideShape}
 use Rattle.fixed.proofs.Writing.{turn, byte-turn}
 use Rattle.fixed.proofs.Beside.{bool-alike, bool-whole, bool-bad, bool-good}
@@ -17,15 +15,12 @@ use Rattle.fixed.proofs.reader.read_boolean.Tie as tie
 byte : WideShape 1 (plain 1)
 byte = record { bytes = refl; other = λ e. absurd (let z : _≡_ {A = ℕ} 0 1 = cc in omega arith) }
 
-shared-slice-read-directed8 : tie.Need-shared-slice-read-directed8
-shared-slice-read-directed8 c =
+index : tie.Need-shared-slice-read-directed8
+index c =
     let arm = c .before in
     let said = arm .before .before in
     let A = said .before .before .args in
     bool-whole (A .options) (A .row .now) _ (said .read .ensures (plain 1) byte) _ _ (arm .enum-told2 .given .1)
-
-sub-t11 : tie.Need-sub-t11
-sub-t11 c = omega (arith, shared-slice-read-directed8 (c .before .before))
 
 -- the value byte, inverted back
 turned : (c : tie.After-directed8) → let A = c .before .before .before .before .before .before .args in c .directed8 .result ≡ turn (A .options .descending) (getD (A .row .now) 1 0)
@@ -33,28 +28,28 @@ turned c =
     let A = c .before .before .before .before .before .before .args in
     byte-turn (A .options .descending) (getD (A .row .now) 1 0) _ (c .before .shared-slice-known2 .given 1 .fits) (c .directed8 .ok) (c .directed8 .ensures)
 
-returns : tie.Need-returns
-returns c =
+bad : tie.Need-returns
+bad c =
     let arm = c .before .before .before in
     let said = arm .before .before in
     let A = said .before .before .args in
     bool-bad (A .options) (A .row .now) _ (said .read .ensures (plain 1) byte) _ _ (arm .enum-told2 .given .1) _ (turned (c .before)) (c .if1 .taken)
 
-returns-2 : tie.Need-returns-2
-returns-2 c =
+null : tie.Need-returns-2
+null c =
     let said = c .before .before in
     let A = said .before .before .args in
     bool-alike (A .options) (A .row .now) _ (said .read .ensures (plain 1) byte) (λ m n e. let t = c .enum-told .given .1 in absurd (let z : _≡_ {A = ℕ} 0 1 = cc in omega arith))
 
-returns-3 : tie.Need-returns-3
-returns-3 c =
+good : tie.Need-returns-3
+good c =
     let arm = c .before .before .before in
     let said = arm .before .before in
     let A = said .before .before .args in
     bool-good (A .options) (A .row .now) _ (said .read .ensures (plain 1) byte) _ _ (arm .enum-told2 .given .1) _ (turned (c .before)) (c .if1 .left)
 
-returns-4 : tie.Need-returns-4
-returns-4 c =
+fault : tie.Need-returns-4
+fault c =
     let said = c .before .before in
     let A = said .before .before .args in
     bool-alike (A .options) (A .row .now) _ (said .read .ensures (plain 1) byte) (λ m n e. let t = c .enum-told3 .given .1 in absurd (let z : _≡_ {A = ℕ} 0 1 = cc in omega arith))
@@ -66,11 +61,11 @@ read-boolean-spec =
     (λ c κs. search needs)
     (λ c. search needs)
     (λ c. search needs)
-    shared-slice-read-directed8
+    index
     (λ c κs. search needs)
-    sub-t11
-    returns
+    (λ c. omega (arith, index (c .before .before)))
+    bad
     (λ c. search needs)
-    returns-2
-    returns-3
-    returns-4)
+    null
+    good
+    fault)

@@ -1,5 +1,5 @@
 -- `fixed::runs::copy_directed` meets its contract: each turn appends a byte of those still to be copied. Assumes nothing.
-use Prim.Native.Nat.{ℕ, _+_, _-_, _≤_}
+use Prim.Native.Nat.{_+_, _-_, _≤_}
 use mathlib.Core.Path.{refl, sym, ap, _∙_}
 use mathlib.Core.List.{map}
 use native.Mathlib.Omega.{arith}
@@ -10,8 +10,6 @@ use Rattle.laws.proofs.Append.{Walk, walk-first, walk-byte, walk-end, copy-step
 use Rattle.fixed.proofs.Writing.{turn, directed-map, byte-turn}
 use Rattle.fixed.proofs.runs.copy_directed.Statement.{statement}
 use Rattle.fixed.proofs.runs.copy_directed.Tie as tie
-use Rattle.fixed.proofs.runs.copy_directed.Reads as reads
-use Rattle.fixed.proofs.runs.copy_directed.Lts as lts
 
 abbrev Inv-loop : tie.InvT-loop
 Inv-loop out₀ at src descending i₀ out i =
@@ -20,38 +18,14 @@ Inv-loop out₀ at src descending i₀ out i =
 abbrev μ-loop : tie.MeasureT-loop
 μ-loop out₀ at src descending i₀ out i = length src - i
 
-loop-holds : tie.Need-loop-holds Inv-loop μ-loop
-loop-holds c = (omega arith, walk-first _ _ _ _ refl)
-
-shared-slice-read-directed8 : tie.Need-shared-slice-read-directed8 Inv-loop μ-loop
-shared-slice-read-directed8 c = omega arith
-
-directed8-requires : tie.Need-directed8-requires Inv-loop μ-loop
-directed8-requires c κs = search needs
-
-add-out : tie.Need-add-out Inv-loop μ-loop
-add-out c = omega arith
-
-slice-write-out : tie.Need-slice-write-out Inv-loop μ-loop
-slice-write-out c = omega (arith, c .before .before .before .loop .inv .1 .same)
-
-add-i : tie.Need-add-i Inv-loop μ-loop
-add-i c = omega arith
-
-loop-less : tie.Need-loop-less Inv-loop μ-loop
-loop-less c = omega arith
-
-loop-again : tie.Need-loop-again Inv-loop μ-loop
-loop-again c =
+again : tie.Need-loop-again Inv-loop μ-loop
+again c =
     let at = c .before .before .before in
     let A = at .before .before .before .args in
     let i = at .loop .i in
     let x = getD (A .src .now) i 0 in
     let e = byte-turn (A .descending) x (c .directed8 .result) (c .before .shared-slice-known2 .given i .fits) (c .directed8 .ok) (c .directed8 .ensures) in
     (omega arith, rw e (walk-byte (A .at) i _ _ (at .loop .inv .1) (copy-step (turn (A .descending)) (A .src .now) i (c .before .before .loop-test .taken))))
-
-same-length : tie.Need-same-length Inv-loop μ-loop
-same-length c = c .before .loop .inv .1 .same
 
 returns : tie.Need-returns Inv-loop μ-loop
 returns c =
@@ -66,13 +40,13 @@ copy-directed-spec =
     (tie.spec
     Inv-loop
     μ-loop
-    loop-holds
-    shared-slice-read-directed8
-    directed8-requires
-    add-out
-    slice-write-out
-    add-i
-    loop-less
-    loop-again
-    same-length
+    (λ c. (omega arith, walk-first _ _ _ _ refl))
+    (λ c. omega arith)
+    (λ c κs. search needs)
+    (λ c. omega arith)
+    (λ c. omega (arith, c .before .before .before .loop .inv .1 .same))
+    (λ c. omega arith)
+    (λ c. omega arith)
+    again
+    (λ c. c .before .loop .inv .1 .same)
     returns)

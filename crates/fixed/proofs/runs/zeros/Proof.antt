@@ -14,30 +14,17 @@ Inv-loop out₀ at m i₀ out i = (i ≤ m) × Walk (replicate m 0) (replicate (
 abbrev μ-loop : tie.MeasureT-loop
 μ-loop out₀ at m i₀ out i = m - i
 
-loop-holds : tie.Need-loop-holds Inv-loop μ-loop
-loop-holds c = (omega arith, walk-first _ _ _ _ (ap (λ (k : ℕ). replicate {A = ℕ} k 0) (sub-zero (c .args .m))))
-
-add-out : tie.Need-add-out Inv-loop μ-loop
-add-out c = omega arith
-
-slice-write-out : tie.Need-slice-write-out Inv-loop μ-loop
-slice-write-out c = omega (arith, c .before .loop .inv .1 .same)
-
-add-i : tie.Need-add-i Inv-loop μ-loop
-add-i c = omega arith
-
-loop-less : tie.Need-loop-less Inv-loop μ-loop
-loop-less c = omega arith
-
-loop-again : tie.Need-loop-again Inv-loop μ-loop
-loop-again c = (omega arith, walk-byte _ _ _ _ (c .before .loop .inv .1) (zeros-step _ _ (c .loop-test .taken)))
-
-same-length : tie.Need-same-length Inv-loop μ-loop
-same-length c = c .before .loop .inv .1 .same
-
-returns : tie.Need-returns Inv-loop μ-loop
-returns c = walk-end (c .before .loop .inv .1) (zeros-end _ _ (c .loop-test .left)) .1
-
 pub zeros-spec : {M : Type 1} → statement M
 zeros-spec =
-    tie.close (tie.spec Inv-loop μ-loop loop-holds add-out slice-write-out add-i loop-less loop-again same-length returns)
+    tie.close
+    (tie.spec
+    Inv-loop
+    μ-loop
+    (λ c. (omega arith, walk-first _ _ _ _ (ap (λ (k : ℕ). replicate {A = ℕ} k 0) (sub-zero (c .args .m)))))
+    (λ c. omega arith)
+    (λ c. omega (arith, c .before .loop .inv .1 .same))
+    (λ c. omega arith)
+    (λ c. omega arith)
+    (λ c. (omega arith, walk-byte _ _ _ _ (c .before .loop .inv .1) (zeros-step _ _ (c .loop-test .taken))))
+    (λ c. c .before .loop .inv .1 .same)
+    (λ c. walk-end (c .before .loop .inv .1) (zeros-end _ _ (c .loop-test .left)) .1))

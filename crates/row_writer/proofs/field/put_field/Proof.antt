@@ -17,9 +17,11 @@ use Rattle.row_writer.proofs.field.put_field.Tie as tie
 there : (s : tie.Start) → packed (s .args .n) ≤ length (s .args .part .now)
 there s = valid-bytes (layout (s .args .column)) (s .args .n) (s .args .part .now) (s .pre .1 .0)
 
+-- what was known at the entry
 abbrev entry : tie.After-bit → tie.Start
 entry c = c .before .before .before
 
+-- the slot of row r
 abbrev slot : tie.Start → Slot
 slot s = slotAt (layout (s .args .column)) (s .args .n) (s .args .part .now) (s .args .r)
 

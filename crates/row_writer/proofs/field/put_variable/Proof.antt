@@ -5,6 +5,7 @@ use Rattle.row_writer.proofs.Values.{Between, between}
 use Rattle.row_writer.proofs.field.put_variable.Statement.{statement}
 use Rattle.row_writer.proofs.field.put_variable.Tie as tie
 
+-- what was known at the entry
 abbrev entry : tie.After-low322 → tie.Start
 entry c = c .before .before .before .before
 

@@ -1,5 +1,4 @@
 -- `variable::block::padded_length` meets its contract: each arm is the definition's. Assumes nothing.
-use mathlib.Core.Path.{refl}
 use borrow.Author.Needs.{needs}
 use borrow.Author.Tests.{le-leb, lt-leb}
 use Rattle.variable.proofs.block.padded_length.Statement.{statement}

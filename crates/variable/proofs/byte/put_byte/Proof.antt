@@ -1,5 +1,4 @@
 -- `variable::byte::put_byte` meets its contract: what is stored is the byte, turned. Assumes nothing.
-use mathlib.Core.Path.{_∙_, sym}
 use borrow.Author.Needs.{needs}
 use Rattle.variable.proofs.Direction.{stored-byte}
 use Rattle.variable.proofs.byte.put_byte.Statement.{statement}

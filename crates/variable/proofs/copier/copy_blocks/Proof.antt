@@ -59,8 +59,8 @@ returns c =
     let s = w .before .before .before in
     let e = w .wide .ensures ∙ w .before .before .byte-at .ensures in
     let n : w .wide .result ≡ 255 → ⊥ = λ x. w .before .if1 .taken (sym (w .wide .ensures) ∙ x) in
-    let v = last-value (s .before .loop .inv) (s .block-size .result) (s .block-size .ensures) (w .wide .result) e n in
-    (last-field (s .before .loop .inv) (s .block-size .result) (s .block-size .ensures) (w .wide .result) e n, (v .0, c .before .before .copy-bytes .ensures ∙ v .1))
+    let v = last-value (s .before .loop .inv) (s .block-size .result) (s .block-size .ensures) (w .wide .result) e n _ (c .before .before .copy-bytes .ensures) in
+    (last-field (s .before .loop .inv) (s .block-size .result) (s .block-size .ensures) (w .wide .result) e n, v)
 
 add-copy-words : tie.Need-add-copy-words Inv-loop μ-loop
 add-copy-words c = omega (arith, full (c .before))

@@ -1,5 +1,4 @@
 -- `variable::copier::copy_bytes` meets its contract: words, then the rest. Assumes nothing.
-use native.Mathlib.Omega.{arith}
 use borrow.Author.Needs.{needs}
 use Rattle.variable.proofs.Copying.{copy-two}
 use Rattle.variable.proofs.copier.copy_bytes.Statement.{statement}

@@ -1,6 +1,6 @@
 -- `variable::copier::copy_words` meets its contract: each turn copies a word. Assumes nothing.
 use Prim.Native.Nat.{_-_, _%_}
-use mathlib.Core.Path.{_≡_, refl, sym, ap, _∙_}
+use mathlib.Core.Path.{_≡_, refl}
 use native.Mathlib.Omega.{arith}
 use borrow.Author.Needs.{needs}
 use Rattle.variable.proofs.Copying.{Copied, copy-start, copy-word, copy-end}

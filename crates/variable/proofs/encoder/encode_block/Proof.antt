@@ -47,7 +47,7 @@ same-length : tie.Need-same-length Inv-loop μ-loop
 same-length c = c .before .before .put-byte .kept .0 ∙ c .before .before .before .before .before .loop .inv .0 .wrote .same
 
 returns : tie.Need-returns Inv-loop μ-loop
-returns c = fill-end (c .before .before .before .before .before .loop .inv .0) _ (c .before .before .before .before .loop-test .left) (c .before .before .put-byte .ensures)
+returns c = fill-end (c .before .before .before .before .before .loop .inv .0) _ (omega arith) (c .before .before .put-byte .ensures)
 
 pub encode-block-spec : {M : Type 1} → statement M
 encode-block-spec =

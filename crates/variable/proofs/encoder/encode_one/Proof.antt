@@ -1,9 +1,9 @@
 -- `variable::encoder::encode_one` meets its contract: the parts are written one after the other. Assumes nothing.
 use Prim.Native.Nat.{_-_, _<_, _≤_}
-use mathlib.Core.Path.{_≡_, refl, sym, _∙_}
+use mathlib.Core.Path.{refl, sym}
 use native.Mathlib.Omega.{arith}
 use borrow.Author.Needs.{needs}
-use lib.ListN.{length, take, drop, length-drop}
+use lib.ListN.{length, drop, length-drop}
 use lib.Seq.{length-take-le}
 use Rattle.variable.proofs.Whole.{lead-room, one-empty, short-room, one-short, first-room, again-room, later-room, one-long}
 use Rattle.variable.proofs.encoder.encode_one.Statement.{statement}

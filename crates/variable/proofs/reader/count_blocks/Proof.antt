@@ -17,7 +17,7 @@ loop-holds : tie.Need-loop-holds Inv-loop μ-loop
 loop-holds c = counting-start _ _ (c .before .pre)
 
 returns : tie.Need-returns Inv-loop μ-loop
-returns c = counting-cut (c .before .before .loop .inv) _ (c .before .block-size .ensures) (c .if1 .taken)
+returns c = counting-cut (c .before .before .loop .inv) _ (c .before .block-size .ensures) (omega arith)
 
 last-block-requires : tie.Need-last-block-requires Inv-loop μ-loop
 last-block-requires c κs = (omega arith, (λ e. c .before .if2 .taken (sym (c .wide .ensures) ∙ e), c .before .before .before .before .before .loop .inv .within))
@@ -32,13 +32,13 @@ returns-3 : tie.Need-returns-3 Inv-loop μ-loop
 returns-3 c =
     let b = c .before .before in
     let s = b .before .before in
-    counting-long (s .before .loop .inv) _ (s .block-size .ensures) _ (omega arith) (b .byte-at .ensures) (c .before .if2 .left) (c .if3 .taken)
+    counting-long (s .before .loop .inv) _ (s .block-size .ensures) _ (omega arith) (b .byte-at .ensures) (c .before .if2 .left) (omega arith)
 
 loop-again : tie.Need-loop-again Inv-loop μ-loop
 loop-again c =
     let b = c .before .before in
     let s = b .before .before in
-    counting-next (s .before .loop .inv) _ (s .block-size .ensures) _ (omega arith) (b .byte-at .ensures) (c .before .if2 .left) (c .if3 .left)
+    counting-next (s .before .loop .inv) _ (s .block-size .ensures) _ (omega arith) (b .byte-at .ensures) (c .before .if2 .left) (omega arith)
 
 pub count-blocks-spec : {M : Type 1} → statement M
 count-blocks-spec =

@@ -13,12 +13,12 @@ use Rattle.variable.proofs.reader.last_block.Tie as tie
 returns : tie.Need-returns
 returns c =
     let s = c .before .before in
-    ended-none _ _ _ _ _ _ (length-directed (s .args .descending) (s .args .row .now)) (s .pre .0) (s .pre .1 .0) (c .if1 .taken)
+    ended-none _ _ _ _ _ _ (length-directed (s .args .descending) (s .args .row .now)) (s .pre .0) (s .pre .1 .0) (omega arith)
 
 returns-2 : tie.Need-returns-2
 returns-2 c =
     let s = c .before .before .before in
-    ended-over _ _ _ _ _ _ (length-directed (s .args .descending) (s .args .row .now)) (s .pre .0) (s .pre .1 .0) (c .before .if1 .left) (c .if2 .taken)
+    ended-over _ _ _ _ _ _ (length-directed (s .args .descending) (s .args .row .now)) (s .pre .0) (s .pre .1 .0) (omega arith) (omega arith)
 
 add-t15 : tie.Need-add-t15
 add-t15 c =
@@ -28,19 +28,17 @@ add-t15 c =
 returns-3 : tie.Need-returns-3
 returns-3 c =
     let s = c .before .before .before .before .before in
-    ended-padding _ _ _ _ _ _ (length-directed (s .args .descending) (s .args .row .now)) (s .pre .0) (s .pre .1 .0) (c .before .before .before .if1 .left) (c .before .before .if2 .left) _ (c .before .unpadded .ensures) (c .if3 .taken)
+    ended-padding _ _ _ _ _ _ (length-directed (s .args .descending) (s .args .row .now)) (s .pre .0) (s .pre .1 .0) (omega arith) (omega arith) _ (c .before .unpadded .ensures) (omega arith)
 
 returns-4 : tie.Need-returns-4
 returns-4 c =
     let s = c .before .before .before .before .before .before in
-    let u = c .before .before in
-    ended-long _ _ _ _ _ _ (length-directed (s .args .descending) (s .args .row .now)) (s .pre .0) (s .pre .1 .0) (u .before .before .if1 .left) (u .before .if2 .left) _ (u .unpadded .ensures) (c .before .if3 .left) (c .if4 .taken)
+    ended-long _ _ _ _ _ _ (length-directed (s .args .descending) (s .args .row .now)) (s .pre .0) (s .pre .1 .0) (omega arith) (omega arith) _ (c .before .before .unpadded .ensures) (omega arith) (omega arith)
 
 returns-5 : tie.Need-returns-5
 returns-5 c =
     let s = c .before .before .before .before .before .before in
-    let u = c .before .before in
-    ended-done _ _ _ _ _ _ (length-directed (s .args .descending) (s .args .row .now)) (s .pre .0) (s .pre .1 .0) (u .before .before .if1 .left) (u .before .if2 .left) _ (u .unpadded .ensures) (c .before .if3 .left) (c .if4 .left)
+    ended-done _ _ _ _ _ _ (length-directed (s .args .descending) (s .args .row .now)) (s .pre .0) (s .pre .1 .0) (omega arith) (omega arith) _ (c .before .before .unpadded .ensures) (omega arith) (omega arith)
 
 pub last-block-spec : {M : Type 1} → statement M
 last-block-spec =

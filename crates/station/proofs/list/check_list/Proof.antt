@@ -1,4 +1,4 @@
--- `sheet_reader::list::check_list` meets its contract: the answer is that of the check that `read_list` ensures. Assumes nothing.
+-- `station::list::check_list` meets its contract: the answer is that of the check that `read_list` ensures. Assumes nothing.
 use borrow.Author.Needs.{needs}
 use Prim.Native.Nat.{ℕ}
 use mathlib.Core.Path.{_≡_, sym, ap, _∙_}
@@ -11,20 +11,21 @@ use Rattle.format.specs.declared.Check.the-variants.{Pass, Refuse}
 use Rattle.format.specs.declared.Answer.the-variants.{Done, Refused}
 use Rattle.format.specs.Columns.{columns}
 use Rattle.format.specs.Entries.{answer, checkListAnswer}
+use Rattle.format.specs.Promises.{ListChecked}
 use Rattle.sheet_reader.specs.declared.list.Listed.{Listed}
 use Rattle.sheet_reader.specs.Listing.{ListedAs}
-use Rattle.sheet_reader.proofs.list.check_list.Statement.{statement}
-use Rattle.sheet_reader.proofs.list.check_list.Tie as tie
+use Rattle.station.proofs.list.check_list.Statement.{statement}
+use Rattle.station.proofs.list.check_list.Tie as tie
 
-done : (list : List ℕ) (r : Listed) → ListedAs list r → r .check ≡ Pass → Done (r .schema .count) 0 ≡ checkListAnswer list
+done : (list : List ℕ) (r : Listed) → ListedAs list r → r .check ≡ Pass → ListChecked list (Done (r .schema .count) 0)
 unfolding checkListAnswer
 done list r l e =
     let passes = sym (l .check) ∙ e in
-    ap (λ (s : Schema). Done (s .count) 0) (l .schema passes) ∙ ap (λ (x : Check). answer x (length (columns list)) 0) (sym passes)
+    record { answers = ap (λ (s : Schema). Done (s .count) 0) (l .schema passes) ∙ ap (λ (x : Check). answer x (length (columns list)) 0) (sym passes) }
 
-refused : (list : List ℕ) (r : Listed) (x : Refusal) → ListedAs list r → r .check ≡ Refuse x → Refused x ≡ checkListAnswer list
+refused : (list : List ℕ) (r : Listed) (x : Refusal) → ListedAs list r → r .check ≡ Refuse x → ListChecked list (Refused x)
 unfolding checkListAnswer
-refused list r x l e = ap (λ (y : Check). answer y (length (columns list)) 0) (sym e ∙ l .check)
+refused list r x l e = record { answers = ap (λ (y : Check). answer y (length (columns list)) 0) (sym e ∙ l .check) }
 
 returns : tie.Need-returns
 returns c =

@@ -1,0 +1,93 @@
+-- The measuring walk: the fields of a column that passes, and those of a sheet known by its facts. Assumes nothing.
+use Prim.Native.Nat.{ℕ, zero, suc, _+_, _-_, _*_, _/_, _<_, _≤_}
+use mathlib.Core.Path.{_≡_, refl, sym, ap, ap₂, _∙_}
+use mathlib.Core.Bool.{Bool, true, false, cond}
+use mathlib.Core.Option.{none, some}
+use mathlib.Core.List.{List}
+use native.Mathlib.Numerals.{add-one}
+use native.Mathlib.Omega.{arith}
+use lib.ListN.{length, getD, take, drop, length-drop}
+use lib.Seq.{length-take-le}
+use Rattle.format.specs.declared.Kind.the-variants.{Variable}
+use Rattle.format.specs.declared.Column.{Column}
+use Rattle.format.specs.declared.Check.the-variants.{Pass}
+use Rattle.format.specs.Limits.{maxSlot}
+use Rattle.format.specs.Lists.{Bytes, each, sum}
+use Rattle.format.specs.Kinds.{variable, columnShape}
+use Rattle.format.specs.Field.{paddedLength, fieldLength}
+use Rattle.format.specs.Sheet.{Layout, ended, layout, packed, bit, end, valueAt, slotIf, slotAt, sheetFault}
+use Rattle.format.specs.Schemas.{noColumn}
+use Rattle.format.specs.Entries.{sheetTotal}
+use Rattle.bits.proofs.Nulls.{bits-passed}
+use Rattle.laws.proofs.Lists.{each-same}
+use Rattle.laws.proofs.Places.{place}
+use Rattle.laws.proofs.Sheets.{Ended, column-passed, variable-passed}
+use Rattle.laws.proofs.Totals.{columnTotal, maxField, total-is, total-most}
+use Rattle.sheet_reader.specs.declared.sheet.Facts.{Facts}
+use Rattle.sheet_reader.specs.Sheets.{noFacts, Known}
+use Rattle.sheet_reader.specs.Measures.{Passed, variableLength, variableTotal}
+
+-- ---- variable bytes
+
+-- the validity bytes are there
+pub valid-bytes : (ly : Layout) (n : ℕ) (s : List ℕ) → Passed ly n s → packed n ≤ length s
+valid-bytes ly n s p = bits-passed n (p .c) s (column-passed ly n (p .c) s (p .passes) .0) .0
+
+-- no end is past the last
+pub last-end : (n : ℕ) (s : List ℕ) → Ended n s → (k j : ℕ) → j + k ≡ n → end s j ≤ end s n
+last-end n s g zero j e = omega (arith, ap (end s) (let z : j ≡ n = omega arith in z))
+last-end n s g (suc k) j e = omega (arith, g .step j (omega arith) .0, last-end n s g k (suc j) (omega arith))
+
+-- a value is as long as its ends are apart
+value-long : (n : ℕ) (s : List ℕ) (r : ℕ) → Ended n s → r < n → length (valueAt ended n s r) ≡ end s (suc r) - end s r
+value-long n s r g l =
+    length-take-le (end s (suc r) - end s r) (drop (end s r) (drop (4 * suc n) s))
+    (omega (arith, g .room, last-end n s g (n - suc r) (suc r) (omega arith), length-drop (end s r) (drop (4 * suc n) s), length-drop (4 * suc n) s))
+
+module _ (n : ℕ) (s : List ℕ) (p : Passed ended n s) where
+  pub ends : Ended n (drop (packed n) s)
+  ends = variable-passed n (p .c) (drop (packed n) s) (column-passed ended n (p .c) s (p .passes) .1)
+
+  -- the ends of all rows are there
+  pub ends-room : 4 * suc n ≤ length (drop (packed n) s)
+  ends-room = omega (arith, ends .room)
+
+  module _ (r : ℕ) (l : r < n) where
+    pub null-length : bit s r ≡ false → 1 ≡ variableLength n s r
+    null-length e = rw e
+
+    pub value-length : bit s r ≡ true → (a b : ℕ) → a ≡ end (drop (packed n) s) r → b ≡ end (drop (packed n) s) (r + 1) → paddedLength (b - a) ≡ variableLength n s r
+    value-length e a b f g =
+        ap₂ (λ (x y : ℕ). paddedLength (y - x)) f (g ∙ ap (end (drop (packed n) s)) (add-one r))
+        ∙ ap paddedLength (sym (value-long n (drop (packed n) s) r ends l))
+        ∙ ap (λ (t : Bool). fieldLength variable (slotIf t (valueAt ended n (drop (packed n) s) r))) (sym e)
+
+    -- the ends do not fall, and are no further apart than the limit
+    pub apart : (a b : ℕ) → a ≡ end (drop (packed n) s) r → b ≡ end (drop (packed n) s) (r + 1) → (a ≤ b) × (b - a ≤ maxSlot)
+    apart a b f g =
+        let next : b ≡ end (drop (packed n) s) (suc r) = g ∙ ap (end (drop (packed n) s)) (add-one r) in
+        let step = ends .step r l in
+        (omega arith, omega arith)
+
+-- the fields of n rows fit
+pub variable-most : (n : ℕ) (s : List ℕ) → Bytes s → Passed ended n s → variableTotal n s ≤ n * maxField
+variable-most n s b p = total-most (record { kind = Variable; options = noColumn .options }) n (p .c) s b (p .passes) (omega arith)
+
+-- ---- fields of one length
+pub sum-same : (f : ℕ → ℕ) (b i k : ℕ) → ((j : ℕ) → f j ≡ b) → sum (each i k f) ≡ k * b
+sum-same f b i zero h = omega arith
+sum-same f b i (suc k) h = omega (arith, h i, sum-same f b (suc i) k h)
+
+-- ---- the sheet
+
+-- what column c adds, by its facts
+abbrev pub factsTotal : ℕ → List ℕ → List Facts → ℕ → ℕ
+factsTotal n sheet facts c = columnTotal (getD facts c noFacts .column) n (drop (getD facts c noFacts .base) sheet)
+
+-- the facts of all columns give the total
+pub known-total : (n : ℕ) (cols : List Column) (sheet : List ℕ) (facts : List Facts) → Bytes sheet → sheetFault n cols sheet ≡ Pass → Known n cols sheet facts
+    → sum (each 0 (length cols) (factsTotal n sheet facts)) ≡ sheetTotal n cols sheet
+known-total n cols sheet facts b e k =
+    ap sum (each-same 0 (length cols) (factsTotal n sheet facts) (λ c. columnTotal (getD cols c noColumn) n (drop (place n cols sheet c) sheet)) (λ c x y.
+    ap₂ (λ (col : Column) (at : ℕ). columnTotal col n (drop at sheet)) (k c (omega arith) .column) (k c (omega arith) .base)))
+    ∙ sym (total-is n cols sheet noColumn b e)

@@ -1,0 +1,93 @@
+// The measuring walk: the total row bytes of a checked sheet, column by column.
+ghost use mathlib.Core.Path.{_≡_};
+ghost use Prim.Native.Nat.{_*_, _<_, _≤_};
+ghost use Rattle.format.specs.declared.Check.the-variants.{Pass};
+ghost use Rattle.format.specs.Limits.{maxRows, maxWidth};
+ghost use Rattle.format.specs.Kinds.{valueBytes};
+ghost use Rattle.format.specs.Sheet.{ended, layout, sheetFault};
+ghost use Rattle.format.specs.Schemas.{colsOf, Limited};
+ghost use Rattle.format.specs.Entries.{sheetTotal};
+ghost use Rattle.laws.proofs.Totals.{columnTotal, maxField};
+ghost use Rattle.sheet_reader.specs.Sheets.{Known};
+ghost use Rattle.sheet_reader.specs.Measures.{Passed, variableLength, variableTotal};
+use crate::sheet::Facts;
+use crate::sheet::end_at;
+use crate::sheet::packed;
+use format::Column;
+use format::Kind;
+use format::Schema;
+use variable::padded_length;
+
+// The field of a null of variable bytes: the null byte only.
+const NULL_LENGTH: u64 = 1;
+
+// The length of the field of a row in the column of variable bytes in front of the part: 1 for a null, and that of its value.
+fn variable_length(part: &[u8], n: usize, row: usize) -> u64
+    requires { ⌜ (n ≤ maxRows) × (row < n) ⌝ }
+    requires { ⌜ Passed ended n (now part) ⌝ }
+    ensures { λ r. ⌜ r ≡ variableLength n (now (part .entry)) row ⌝ }
+{
+    if bits::bit(part, row) {
+        let valid = packed(n);
+        let values = &part[valid..];
+        return padded_length(end_at(values, row + 1) - end_at(values, row)) as u64;
+    }
+    NULL_LENGTH
+}
+
+// The fields of n rows in the column of variable bytes in front of the part.
+fn measure_variable(part: &[u8], n: usize) -> u64
+    requires { ⌜ n ≤ maxRows ⌝ }
+    requires { ⌜ Passed ended n (now part) ⌝ }
+    ensures { λ r. ⌜ r ≡ variableTotal n (now (part .entry)) ⌝ }
+    ensures { λ r. ⌜ r ≤ maxRows * maxField ⌝ }
+{
+    let mut total: u64 = 0;
+    let mut row: usize = 0;
+    while row < n {
+        total += variable_length(part, n, row);
+        row += 1;
+    }
+    total
+}
+
+// The fields of n rows in the column in front of the part: fixed ones are of one length.
+fn measure_column(column: Column, part: &[u8], n: usize) -> u64
+    requires { ⌜ n ≤ maxRows ⌝ }
+    requires { ⌜ valueBytes (column .kind) ≤ maxWidth ⌝ }
+    requires { ⌜ Passed (layout column) n (now part) ⌝ }
+    ensures { λ r. ⌜ r ≡ columnTotal column n (now (part .entry)) ⌝ }
+    ensures { λ r. ⌜ r ≤ maxRows * maxField ⌝ }
+{
+    let kind = column.kind;
+    match kind {
+        Kind::Variable => measure_variable(part, n),
+        _ => (n * (1 + format::width(kind))) as u64,
+    }
+}
+
+// The total row bytes of a sheet whose columns are known by their facts.
+pub fn measure_sheet(
+    schema: Schema,
+    n: usize,
+    sheet: &[u8],
+    facts: [Facts; format::MAX_COLUMNS],
+) -> u64
+    requires { ⌜ n ≤ maxRows ⌝ }
+    requires { ⌜ Limited schema ⌝ }
+    requires { ⌜ sheetFault n (colsOf schema) (now sheet) ≡ Pass ⌝ }
+    requires { ⌜ Known n (colsOf schema) (now sheet) facts ⌝ }
+    ensures { λ r. ⌜ r ≡ sheetTotal n (colsOf schema) (now (sheet .entry)) ⌝ }
+{
+    let count = schema.count;
+    let mut total: u64 = 0;
+    let mut c: usize = 0;
+    while c < count {
+        let f = facts[c];
+        let base = f.base;
+        let column = f.column;
+        total += measure_column(column, &sheet[base..], n);
+        c += 1;
+    }
+    total
+}

@@ -1,0 +1,112 @@
+-- `sheet_writer::flags::pack_byte` meets its contract. The invariant: the byte has the flags of the rows passed.
+-- Assumes nothing.
+use Prim.Native.Nat.{ℕ, _+_, _-_, _^_, _<_, _≤_}
+use mathlib.Core.Path.{_≡_, refl, ap, ap₂, _∙_}
+use mathlib.Core.Bool.{Bool, cond}
+use mathlib.Core.List.{List, map}
+use native.Mathlib.Omega.{arith}
+use lib.ListN.{length, getD, take}
+use lib.Seq.{take-all}
+use borrow.Rule.Slice.PartAt.{part-to-end}
+use Rattle.format.specs.Cleared.{byteOf}
+use Rattle.format.specs.Read.{Good}
+use Rattle.sheet_writer.specs.Cursors.{fieldAt, flagAt}
+use Rattle.sheet_writer.proofs.Lead.{inside}
+use Rattle.sheet_writer.proofs.Eights.{byte-room, byte-more}
+use Rattle.sheet_writer.proofs.flags.pack_byte.Statement.{statement}
+use Rattle.sheet_writer.proofs.flags.pack_byte.Tie as tie
+
+abbrev Inv-loop : tie.InvT-loop
+Inv-loop rows cursors column which byte₀ k₀ byte k = (k ≤ length cursors) × (byte ≡ byteOf (map (flagAt which column rows) (take k cursors)))
+
+abbrev μ-loop : tie.MeasureT-loop
+μ-loop rows cursors column which byte₀ k₀ byte k = length cursors - k
+
+loop-holds : tie.Need-loop-holds Inv-loop μ-loop
+loop-holds c = (omega arith, refl)
+
+mul-p : tie.Need-mul-p Inv-loop μ-loop
+mul-p c = omega arith
+
+shared-slice-read-p : tie.Need-shared-slice-read-p Inv-loop μ-loop
+shared-slice-read-p c = omega arith
+
+-- a field can be read at the cursor of row k, and so it stands within the rows
+readable : (c : tie.In-loop Inv-loop μ-loop)
+    → let s = c .before .before .before .before in
+    Good (fieldAt (s .args .column) (s .args .rows .now) (getD (s .args .cursors .now) (c .before .loop .k) 0))
+readable c = c .before .before .before .before .pre .1 .0 (c .before .loop .k) (c .loop-test .taken)
+
+within : (c : tie.In-loop Inv-loop μ-loop)
+    → let s = c .before .before .before .before in
+    getD (s .args .cursors .now) (c .before .loop .k) 0 < length (s .args .rows .now)
+within c = let s = c .before .before .before .before in inside (s .args .column) (s .args .rows .now) (getD (s .args .cursors .now) (c .before .loop .k) 0) (readable c)
+
+sub-read-flag : tie.Need-sub-read-flag Inv-loop μ-loop
+sub-read-flag c = omega (arith, within (c .before))
+
+part-read-flag-start : tie.Need-part-read-flag-start Inv-loop μ-loop
+part-read-flag-start c = omega (arith, within (c .before))
+
+part-read-flag-end : tie.Need-part-read-flag-end Inv-loop μ-loop
+part-read-flag-end c = omega arith
+
+read-flag-requires : tie.Need-read-flag-requires Inv-loop μ-loop
+read-flag-requires c κs =
+    let s = c .before .before .before .before .before .before in
+    (rw (part-to-end (s .args .rows .now) (getD (s .args .cursors .now) (c .before .before .before .loop .k) 0)) (readable (c .before .before)), s .pre .1 .1)
+
+cast-put-bit : tie.Need-cast-put-bit Inv-loop μ-loop
+cast-put-bit c = omega arith
+
+put-bit-requires : tie.Need-put-bit-requires Inv-loop μ-loop
+put-bit-requires c κs =
+    let s = c .before .before .before .before .before .before .before in
+    let l = c .before .before .before .before .loop in
+    (omega arith, rw (l .inv .1) (byte-room (flagAt (s .args .which) (s .args .column) (s .args .rows .now)) (s .args .cursors .now) (l .k) (c .before .before .before .loop-test .taken)))
+
+add-k : tie.Need-add-k Inv-loop μ-loop
+add-k c = omega arith
+
+loop-less : tie.Need-loop-less Inv-loop μ-loop
+loop-less c = omega arith
+
+loop-again : tie.Need-loop-again Inv-loop μ-loop
+loop-again c =
+    let s = c .before .before .before .before .before .before .before .before in
+    let l = c .before .before .before .before .before .loop in
+    let f = flagAt (s .args .which) (s .args .column) (s .args .rows .now) in
+    let p = getD (s .args .cursors .now) (l .k) 0 in
+    let e : c .before .read-flag .result ≡ f p = rw (part-to-end (s .args .rows .now) p) at (c .before .read-flag .ensures) in (
+      omega arith,
+      c .put-bit .ensures
+          ∙ ap₂ (λ (b : ℕ) (on : Bool). b + cond on (2 ^ l .k) 0) (l .inv .1) e
+          ∙ byte-more f (s .args .cursors .now) (l .k) (c .before .before .before .before .loop-test .taken),
+    )
+
+returns : tie.Need-returns Inv-loop μ-loop
+returns c =
+    let s = c .before .before .before .before in
+    c .before .loop .inv .1
+    ∙ ap (λ (l : List ℕ). byteOf (map (flagAt (s .args .which) (s .args .column) (s .args .rows .now)) l))
+    (take-all (c .before .loop .k) (s .args .cursors .now) (c .loop-test .left))
+
+pub pack-byte-spec : {M : Type 1} → statement M
+pack-byte-spec =
+    tie.close
+    (tie.spec
+    Inv-loop
+    μ-loop
+    loop-holds
+    mul-p
+    shared-slice-read-p
+    sub-read-flag
+    part-read-flag-start
+    part-read-flag-end
+    read-flag-requires
+    cast-put-bit
+    put-bit-requires
+    add-k
+    loop-less
+    loop-again
+    returns)

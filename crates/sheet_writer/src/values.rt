@@ -1,0 +1,53 @@
+// The values of the fixed kinds but bool, each of as many bytes, and cursors that move by one length.
+ghost use mathlib.Core.Path.{_≡_};
+ghost use mathlib.Core.List.{map};
+ghost use Prim.Native.Nat.{ℕ, _+_, _^_, _<_, _≤_};
+ghost use lib.ListN.{length, getD};
+ghost use lib.Seq.{sets};
+ghost use Rattle.fixed.specs.Wide.{WideKind};
+ghost use Rattle.sheet_writer.specs.Cursors.{Readable, nextsAt, valuesAt};
+use fixed::decode;
+use format::Column;
+use format::width;
+
+// Each value decoded, and its cursor moved past the field.
+pub fn move_values(
+    rows: &[u8],
+    cursors: &mut [usize],
+    column: Column,
+    sheet: &mut [u8],
+    at: usize,
+) -> usize
+    requires { ⌜ WideKind (column .kind) ⌝ }
+    requires { ⌜ Readable column (now rows) (now cursors) ⌝ }
+    requires { ⌜ at + length (valuesAt column (now rows) (now cursors)) ≤ length (now sheet) ⌝ }
+    ensures { λ r. ⌜ r ≡ at + length (valuesAt column (now (rows .entry)) (now (cursors .entry))) ⌝ }
+    ensures { λ _. ⌜ now (sheet .exit) ≡ sets (now (sheet .entry)) at (valuesAt column (now (rows .entry)) (now (cursors .entry))) ⌝ }
+    ensures { λ _. ⌜ now (cursors .exit) ≡ nextsAt column (now (rows .entry)) (now (cursors .entry)) ⌝ }
+{
+    let kind = column.kind;
+    let options = column.options;
+    let w = width(kind);
+    let mut place = at;
+    let mut r = 0;
+    while r < cursors.len() {
+        let p = cursors[r];
+        decode(&rows[p..], kind, options, sheet, place);
+        cursors[r] = p + 1 + w;
+        place += w;
+        r += 1;
+    }
+    place
+}
+
+// Every cursor moved on.
+pub fn advance(cursors: &mut [usize], by: usize)
+    requires { ⌜ ((r : ℕ) → r < length (now cursors) → getD (now cursors) r 0 + by < 2 ^ 64) ⌝ }
+    ensures { λ _. ⌜ now (cursors .exit) ≡ map (λ p. p + by) (now (cursors .entry)) ⌝ }
+{
+    let mut r = 0;
+    while r < cursors.len() {
+        cursors[r] += by;
+        r += 1;
+    }
+}

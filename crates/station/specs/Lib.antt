@@ -1,0 +1,3 @@
+-- What the parts of the entries promise one another.
+pub mod Begun
+pub mod Measuring
