@@ -105,7 +105,7 @@ alike : (bs : List ℕ) (n room k : ℕ) → Used n room k → n ≤ maxRows →
 alike bs n room k u h = record {
   room = ap (λ (a : ℕ). ltb a (suc n)) (length-each 0 k (eightAt bs)) ∙ reach [] n [] room k u h ∙ ap (λ (a : ℕ). ltb a (suc n)) (sym (length-each 0 room (eightAt bs)));
   at = λ i l. ⊎-elim (λ p. ap (λ (m : ℕ). getD (firstEights m bs) i 0) (u .enough h p))
-    (λ p. each-at k (eightAt bs) 0 i (omega arith) ∙ sym (each-at room (eightAt bs) 0 i (omega (arith, u .there)))) (le-or-lt k n);
+      (λ p. each-at k (eightAt bs) 0 i (omega arith) ∙ sym (each-at room (eightAt bs) 0 i (omega (arith, u .there)))) (le-or-lt k n);
 }
 
 module _ (n : ℕ) (bytes os os′ : List ℕ) (a : Alike n os os′) where
