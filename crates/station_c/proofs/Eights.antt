@@ -1,16 +1,16 @@
 -- Numbers in bytes, eight bytes a number: stored one after the other, read one by one, and stored back as they were read.
 -- Assumes nothing.
-use Prim.Native.Nat.{ℕ, zero, suc, _+_, _-_, _*_, _/_, _<_, _≤_}
+use Prim.Native.Nat.{ℕ, zero, suc, _+_, _-_, _*_, _<_, _≤_}
 use mathlib.Core.Path.{_≡_, refl, sym, ap, ap₂, subst, _∙_}
-use mathlib.Core.List.{List, [], _∷_, _++_, map, append-assoc}
+use mathlib.Core.List.{List, [], _∷_, _++_, append-assoc}
 use native.Mathlib.Omega.{arith}
-use lib.ListN.{length, getD, set, take, drop, length-append, length-drop, length-set, take-append-drop}
+use lib.ListN.{length, getD, set, take, drop, length-append, length-drop, take-append-drop}
 use lib.Seq.{sets, drop-drop, length-take-le, getD-set-same, getD-set-other}
 use borrow.Author.Count.{below-more}
 use Rattle.format.specs.Lists.{Bytes, each, joined, over, lowBytes}
 use Rattle.format.specs.declared.Returned.{Returned}
 use Rattle.format.specs.Lent.{eightBytes, numberBytes}
-use Rattle.laws.proofs.Append.{Turns, Walk, over-sets, turns-more, turns-end}
+use Rattle.laws.proofs.Append.{Turns, over-sets, turns-more, turns-end}
 use Rattle.laws.proofs.Bytes.{bytes-take, bytes-drop}
 use Rattle.laws.proofs.Lists.{each-is, length-each, map-is}
 use Rattle.number.proofs.Words.{length-lowBytes, spelled}

@@ -1,26 +1,24 @@
 -- The offsets that a call uses are enough: with those alone it answers and writes as with all of them. Assumes nothing.
 use Prim.Native.Nat.{ℕ, zero, suc, _+_, _*_, _/_, _<_, _≤_}
-use mathlib.Core.Path.{_≡_, refl, sym, ap, ap₂, _∙_}
+use mathlib.Core.Path.{_≡_, refl, sym, ap, _∙_}
 use mathlib.Core.Logic.{⊎-elim, _⊎_, inl, inr}
 use mathlib.Core.Bool.{Bool, true, false, not}
-use mathlib.Core.List.{List, [], _∷_, _++_, append-nil}
+use mathlib.Core.List.{List, [], _++_, append-nil}
 use native.Mathlib.Omega.{arith}
-use lib.Dec.{ltb, eqb}
+use lib.Dec.{ltb}
 use lib.ListN.{length, getD}
 use lib.Seq.{drop-nil}
 use borrow.Author.Tests.{ltb-true, ltb-false, lt-ltb, le-ltb}
-use Rattle.format.specs.declared.Answer.{Answer}
 use Rattle.format.specs.declared.Check.{Check}
 use Rattle.format.specs.declared.Check.the-variants.{Pass, Refuse}
 use Rattle.format.specs.declared.Refusal.{Refusal}
-use Rattle.format.specs.declared.Refusal.the-variants.{ManyRows, RowRoom, OffsetRoom, Offsets, SheetRoom}
+use Rattle.format.specs.declared.Refusal.the-variants.{ManyRows}
 use Rattle.format.specs.Limits.{maxRows}
-use Rattle.format.specs.Check.{both, failIf}
-use Rattle.format.specs.Lists.{Bytes, each, endsFrom, over}
+use Rattle.format.specs.Check.{both}
+use Rattle.format.specs.Lists.{Bytes, endsFrom, over}
 use Rattle.format.specs.Columns.{listFault, columns}
-use Rattle.format.specs.Sheet.{sheetSlots, nulls}
-use Rattle.format.specs.Read.{rowsFault}
-use Rattle.format.specs.Entries.{answer, written, rowCountFault, totalFault, offsetRoomFault, sheetRows, sheetTotal, measureCheck, encodeCheck, encodeAnswer, encodeRows, encodeOffsets, fallFault, offsetsFault, rowBytes, cutRows, rowsSlots, decodedSheet, decodeCheck, decodeAnswer, decodeSheet}
+use Rattle.format.specs.Sheet.{sheetSlots}
+use Rattle.format.specs.Entries.{answer, written, sheetRows, sheetTotal, measureCheck, encodeCheck, encodeAnswer, encodeRows, encodeOffsets, fallFault, offsetsFault, rowBytes, cutRows, decodeCheck, decodeAnswer, decodeSheet}
 use Rattle.format.specs.Lent.{eights, eightBytes}
 use Rattle.laws.proofs.Checks.{enough, both-pass}
 use Rattle.laws.proofs.Lists.{each-same, each-at, length-each, length-ends}
@@ -28,7 +26,7 @@ use Rattle.laws.proofs.Turned.{rows-many}
 use Rattle.station_c.specs.Offsets.{eightAt, firstEights, Used}
 use Rattle.station_c.proofs.Eights.{stored-back}
 
--- ---- over 4,096 rows are refused before the offsets are looked at
+-- ---- over 4,096 rows are refused before the offsets are looked at: what comes after the refusal does not count
 many-both : (x : Check) (r : Refusal) (y z : Check) → both (both x (Refuse r)) y ≡ both (both x (Refuse r)) z
 many-both Pass r y z = refl
 many-both (Refuse s) r y z = refl
@@ -41,6 +39,7 @@ many-written : (x : Check) (r : Refusal) (new new′ old : List ℕ) → written
 many-written Pass r new new′ old = refl
 many-written (Refuse s) r new new′ old = refl
 
+-- one or the other
 le-or-lt : (a b : ℕ) → (a ≤ b) ⊎ (b < a)
 le-or-lt a b = by-test (ltb b a) refl
   where
@@ -48,18 +47,18 @@ le-or-lt a b = by-test (ltb b a) refl
     by-test true e = inr (ltb-true b a e)
     by-test false e = inl (ltb-false b a e)
 
+-- k reach offset n just where all do
+reach : (n room k : ℕ) → Used n room k → n ≤ maxRows → ltb k (suc n) ≡ ltb room (suc n)
+reach n room k u h =
+    ⊎-elim (λ l. ap (λ (m : ℕ). ltb m (suc n)) (u .enough h l))
+    (λ l. le-ltb k (suc n) (omega arith) ∙ sym (le-ltb room (suc n) (omega (arith, u .there)))) (le-or-lt k n)
+
 -- ---- encode
 module _ (list : List ℕ) (n : ℕ) (sheet : List ℕ) (room k : ℕ) (u : Used n room k) where
-  -- k reach offset n just where all do
-  reach : n ≤ maxRows → ltb k (suc n) ≡ ltb room (suc n)
-  reach h =
-      ⊎-elim (λ l. ap (λ (m : ℕ). ltb m (suc n)) (u .enough h l))
-      (λ l. le-ltb k (suc n) (omega arith) ∙ sym (le-ltb room (suc n) (omega (arith, u .there)))) (le-or-lt k n)
-
   encode-check : (rowRoom : ℕ) → encodeCheck list n sheet rowRoom k ≡ encodeCheck list n sheet rowRoom room
   unfolding encodeCheck measureCheck
   encode-check rowRoom =
-      ⊎-elim (λ h. rw (reach h)) (λ h. rw (lt-ltb maxRows n h) (many-both (listFault list) (ManyRows n) _ _)) (le-or-lt n maxRows)
+      ⊎-elim (λ h. rw (reach n room k u h)) (λ h. rw (lt-ltb maxRows n h) (many-both (listFault list) (ManyRows n) _ _)) (le-or-lt n maxRows)
 
   pub encode-answer : (rowRoom : ℕ) → encodeAnswer list n sheet rowRoom k ≡ encodeAnswer list n sheet rowRoom room
   unfolding encodeAnswer
@@ -81,7 +80,9 @@ ends-fit list n sheet rowRoom k e =
 -- a success writes in front of the offsets, a refusal writes nothing: either way those that were only read come back as they were
 back : (m : Check) (new bs : List ℕ) (k : ℕ) → Bytes bs → 8 * k ≤ length bs → (m ≡ Pass → length new ≤ k)
     → over (eightBytes (written m new (firstEights k bs))) bs ≡ over (eightBytes (written m new [])) bs
-back Pass new bs k b h l = stored-back bs b new k (l refl) h ∙ ap (λ (x : List ℕ). over (eightBytes x) bs) (sym (ap (λ (x : List ℕ). new ++ x) (drop-nil (length new)) ∙ append-nil new))
+back Pass new bs k b h l =
+    stored-back bs b new k (l refl) h
+    ∙ ap (λ (x : List ℕ). over (eightBytes x) bs) (sym (ap (λ (x : List ℕ). new ++ x) (drop-nil (length new)) ∙ append-nil new))
 back (Refuse r) new bs k b h l = stored-back bs b [] k (omega arith) h
 
 pub encode-offsets : (list : List ℕ) (n : ℕ) (sheet : List ℕ) (rowRoom : ℕ) (bs : List ℕ) (k : ℕ) → Bytes bs → Used n (length bs / 8) k
@@ -103,7 +104,7 @@ record Alike (n : ℕ) (os os′ : List ℕ) : Type 0 where
 
 alike : (bs : List ℕ) (n room k : ℕ) → Used n room k → n ≤ maxRows → Alike n (firstEights k bs) (firstEights room bs)
 alike bs n room k u h = record {
-  room = ap (λ (a : ℕ). ltb a (suc n)) (length-each 0 k (eightAt bs)) ∙ reach [] n [] room k u h ∙ ap (λ (a : ℕ). ltb a (suc n)) (sym (length-each 0 room (eightAt bs)));
+  room = ap (λ (a : ℕ). ltb a (suc n)) (length-each 0 k (eightAt bs)) ∙ reach n room k u h ∙ ap (λ (a : ℕ). ltb a (suc n)) (sym (length-each 0 room (eightAt bs)));
   at = λ i l. ⊎-elim (λ p. ap (λ (m : ℕ). getD (firstEights m bs) i 0) (u .enough h p))
       (λ p. each-at k (eightAt bs) 0 i (omega arith) ∙ sym (each-at room (eightAt bs) 0 i (omega (arith, u .there)))) (le-or-lt k n);
 }

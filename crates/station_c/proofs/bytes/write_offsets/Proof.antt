@@ -1,10 +1,9 @@
 -- `station_c::bytes::write_offsets` meets its contract. The invariant: the first i numbers are stored. The measure is the numbers
 -- left. Assumes nothing.
 use Prim.Native.Nat.{_-_}
-use borrow.Author.Needs.{needs}
 use native.Mathlib.Omega.{arith}
 use lib.ListN.{length}
-use Rattle.laws.proofs.Append.{turns-begin, turns-room}
+use Rattle.laws.proofs.Append.{turns-begin}
 use Rattle.station_c.proofs.Eights.{Stored, stored-more, stored-end}
 use Rattle.station_c.proofs.bytes.write_offsets.Statement.{statement}
 use Rattle.station_c.proofs.bytes.write_offsets.Tie as tie
@@ -24,17 +23,8 @@ mul-put64 c = omega (arith, c .before .before .before .before .before .pre, c .b
 mul-put64-2 : tie.Need-mul-put64-2 Inv-loop μ-loop
 mul-put64-2 c = omega (arith, c .before .before .before .before .before .pre, c .before .before .before .before .before .good .1 .0)
 
-shared-slice-read-put64 : tie.Need-shared-slice-read-put64 Inv-loop μ-loop
-shared-slice-read-put64 c = omega arith
-
 put64-requires : tie.Need-put64-requires Inv-loop μ-loop
 put64-requires c κs = omega (arith, c .before .before .before .before .before .before .pre, c .before .before .before .loop .inv .1 .same)
-
-add-i : tie.Need-add-i Inv-loop μ-loop
-add-i c = omega arith
-
-loop-less : tie.Need-loop-less Inv-loop μ-loop
-loop-less c = omega arith
 
 loop-again : tie.Need-loop-again Inv-loop μ-loop
 loop-again c =
@@ -57,10 +47,10 @@ write-offsets-spec =
     loop-holds
     mul-put64
     mul-put64-2
-    shared-slice-read-put64
+    (λ c. omega arith)
     put64-requires
-    add-i
-    loop-less
+    (λ c. omega arith)
+    (λ c. omega arith)
     loop-again
     same-length
     returns)
