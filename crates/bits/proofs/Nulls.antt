@@ -19,6 +19,8 @@ use Rattle.format.specs.Sheet.{Layout, packed, bit, anyBit, spareSet, bitsFault
 use Rattle.bits.specs.Ones.{onesIn}
 use Rattle.bits.proofs.Bits.{bit-take}
 use Rattle.bits.proofs.Digits.{setIn, byte-digits, set-digits}
+use Rattle.basics.proofs.Bytes.{bytes-take}
+use Rattle.basics.proofs.Checks.{failIf-pass}
 
 -- ---- the set bits of bytes
 -- j of them, and then k
@@ -81,22 +83,11 @@ ones-from bs b a (suc d) e =
     ∙ sym (ap onesIn (drop-cons bs a 0 (omega arith)))
 
 -- ---- validity bytes of n rows in front of s
--- a check that passes
-passed : (b : Bool) (r : Refusal) (x : Check) → failIf b r x ≡ Pass → (b ≡ false) × (x ≡ Pass)
-passed true r x e = absurd (let z : _≡_ {A = ℕ} 0 1 = cc in omega arith)
-passed false r x e = (refl, e)
-
 -- what passes: the bytes are there, and no spare bit is set
 pub bits-passed : (n c : ℕ) (s : List ℕ) → bitsFault n c s ≡ Pass → (packed n ≤ length s) × (spareSet (take (packed n) s) n ≡ false)
 bits-passed n c s e =
-    let cut = passed (ltb (length s) (packed n)) _ _ e in
-    (ltb-false (length s) (packed n) (cut .0), passed (spareSet (take (packed n) s) n) _ _ (cut .1) .0)
-
--- the first of some bytes are bytes
-bytes-take : (m : ℕ) (s : List ℕ) → Bytes s → Bytes (take m s)
-bytes-take zero s b = tt
-bytes-take (suc m) [] b = tt
-bytes-take (suc m) (x ∷ s) b = (b .0, bytes-take m s (b .1))
+    let cut = failIf-pass (ltb (length s) (packed n)) _ _ e in
+    (ltb-false (length s) (packed n) (cut .0), failIf-pass (spareSet (take (packed n) s) n) _ _ (cut .1) .0)
 
 -- with the spare bits zero, the ones are the valid rows
 valid-ones : (n : ℕ) (s : List ℕ) → Bytes s → packed n ≤ length s → spareSet (take (packed n) s) n ≡ false

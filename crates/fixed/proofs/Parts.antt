@@ -9,7 +9,7 @@ use lib.Seq.{sets, length-take-le, drop-drop, take-take}
 use Rattle.format.specs.Lists.{lowBytes, sum}
 use Rattle.format.specs.Key.{invert, partsKey, partsUnkey, signedKey, signedUnkey, topFlipped}
 use Rattle.format.specs.Field.{directed}
-use Rattle.laws.proofs.Bytes.{length-topFlipped, long-signed}
+use Rattle.basics.proofs.Bytes.{length-topFlipped, long-signed}
 use Rattle.fixed.proofs.Writing.{run-next}
 use Rattle.fixed.proofs.Reading.{length-directed}
 

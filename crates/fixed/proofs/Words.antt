@@ -13,7 +13,7 @@ use mir.Facts.{toZ-ofZ, ofZ-toZ}
 use Rattle.format.specs.Lists.{Bytes, low, lowBytes}
 use Rattle.format.specs.Key.{signedKey, signedUnkey}
 use Rattle.format.specs.Field.{directed}
-use Rattle.laws.proofs.Bytes.{bytes-take, bytes-drop, bytes-of}
+use Rattle.basics.proofs.Bytes.{bytes-take, bytes-drop, bytes-of}
 use Rattle.number.proofs.Words.{spelled, byte}
 
 -- a slice's elements are bytes

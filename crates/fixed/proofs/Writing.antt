@@ -9,7 +9,7 @@ use lib.ListN.{length, set}
 use lib.Seq.{sets}
 use Rattle.format.specs.Lists.{lowBytes}
 use Rattle.format.specs.Field.{directed}
-use Rattle.laws.proofs.Append.{sets-append}
+use Rattle.basics.proofs.Append.{sets-append}
 
 -- the byte a, then f
 pub lead-run : (out : List ℕ) (at a b : ℕ) (f last : List ℕ) → a ≡ b → last ≡ sets (set out at a) (at + 1) f → last ≡ sets out at (b ∷ f)

@@ -13,7 +13,7 @@ use Rattle.format.specs.Columns.{listFault, columns}
 use Rattle.format.specs.Sheet.{sheetFault, sheetSlots, nulls}
 use Rattle.format.specs.Read.{rowsFault}
 use Rattle.format.specs.Entries.{rowCountFault, sheetRows, sheetTotal, measureCheck, encodeCheck, encodeAnswer, encodeRows, encodeOffsets, offsetsFault, cutRows, rowsSlots, decodedSheet, decodeCheck, decodeAnswer, decodeSheet}
-use Rattle.laws.proofs.Checks.{enough, pass-enough, both-pass, pass-both, answer-done}
+use Rattle.basics.proofs.Checks.{enough, pass-enough, both-pass, pass-both, answer-done}
 use Rattle.laws.proofs.Cuts.{Cuts, offsets-passed, cuts-pass}
 
 -- an accepted sheet: encode, with room enough, does not refuse it

@@ -19,8 +19,8 @@ use Rattle.format.specs.Fits.{SlotFits, AllSlots, SheetFits}
 use Rattle.format.specs.Sheet.{Layout, bits, ended, wide, layoutFor, layout, packed, bit, end, endsFault, valuesFault, valuesBytes, boolByte, valueAt, slotIf, columnFault, columnBytes, slotAt, columnSlots, sheetFaultFrom, sheetFault, sheetSlots}
 use Rattle.format.specs.Cleared.{pack, valid, isTrue, fixedSlot, variableSlot, clearedValues, clearedColumn, clearedSheet}
 use Rattle.bits.proofs.Bits.{length-pack, bit-before, bits-pass}
-use Rattle.laws.proofs.Lists.{Every, each-is, length-joined, long-at, endAt, length-ends, end-first, end-next, end-last, end-most, cut-at}
-use Rattle.laws.proofs.Checks.{pass-enough, pass-both}
+use Rattle.basics.proofs.Lists.{Every, each-is, length-joined, long-at, endAt, length-ends, end-first, end-next, end-last, end-most, cut-at}
+use Rattle.basics.proofs.Checks.{pass-enough, pass-both}
 use Rattle.laws.proofs.Sheets.{Step}
 use Rattle.laws.proofs.Turned.{slot-in}
 

@@ -15,8 +15,8 @@ use Rattle.format.specs.Limits.{maxColumns, maxWidth}
 use Rattle.format.specs.Check.{both}
 use Rattle.format.specs.Kinds.{valueBytes}
 use Rattle.format.specs.Columns.{kindOf, descriptionBytes, widthAt, columnAt, descriptionFault, listFaultFrom, columnsFrom, listFault, columns}
-use Rattle.laws.proofs.Lists.{Every}
-use Rattle.laws.proofs.Checks.{failIf-pass, enough, both-pass}
+use Rattle.basics.proofs.Lists.{Every}
+use Rattle.basics.proofs.Checks.{failIf-pass, enough, both-pass}
 
 -- ---- one description
 

@@ -13,9 +13,9 @@ use Rattle.format.specs.declared.Check.the-variants.{Pass}
 use Rattle.format.specs.Limits.{maxTotal}
 use Rattle.format.specs.Lists.{Bytes, each, endsFrom, joined}
 use Rattle.format.specs.Entries.{offsetRoomFault, fallFault, offsetsFault, rowBytes, cutRows}
-use Rattle.laws.proofs.Bytes.{bytes-take, bytes-drop}
-use Rattle.laws.proofs.Lists.{Every, every-each, each-is, endAt, length-ends, end-first, end-next, end-last, cut-at}
-use Rattle.laws.proofs.Checks.{failIf-pass, enough, pass-enough, both-pass, pass-both}
+use Rattle.basics.proofs.Bytes.{bytes-take, bytes-drop}
+use Rattle.basics.proofs.Lists.{Every, every-each, each-is, endAt, length-ends, end-first, end-next, end-last, cut-at}
+use Rattle.basics.proofs.Checks.{failIf-pass, enough, pass-enough, both-pass, pass-both}
 
 -- offsets 0 to n cut rows out of the bytes
 pub record Cuts (n : ℕ) (bytes offsets : List ℕ) : Type 0 where

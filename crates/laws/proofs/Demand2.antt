@@ -25,8 +25,8 @@ use Rattle.format.specs.Sheet.{Layout, layout, packed, bit, valueAt, slotIf, sl
 use Rattle.format.specs.Cleared.{clearedSheet}
 use Rattle.format.specs.Read.{rowSlots, rowsFault}
 use Rattle.format.specs.Entries.{answer, rowCountFault, offsetsFault, rowBytes, rowsSlots, decodeCheck, sheetRows, measureCheck, encodeCheck, encodeAnswer, encodeRows, encodeOffsets, cutRows, decodedSheet, decodeAnswer, decodeSheet}
-use Rattle.laws.proofs.Checks.{refuse-pass}
-use Rattle.laws.proofs.Lists.{each-at, each-same, every-at, length-each}
+use Rattle.basics.proofs.Checks.{refuse-pass}
+use Rattle.basics.proofs.Lists.{each-at, each-same, every-at, length-each}
 use Rattle.laws.proofs.Places.{place}
 use Rattle.laws.proofs.Totals.{nulls-is}
 use Rattle.laws.proofs.Cuts.{cut-bytes}

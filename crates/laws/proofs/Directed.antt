@@ -8,7 +8,7 @@ use Rattle.format.specs.Field.{directed}
 use Rattle.format.specs.Key.{invert}
 use Rattle.format.specs.Lists.{Bytes}
 use Rattle.format.specs.Order.{swap}
-use Rattle.laws.proofs.Bytes.{bytes-invert}
+use Rattle.basics.proofs.Bytes.{bytes-invert}
 use Rattle.laws.proofs.Invert.{invert-invert, ranks-invert}
 use Rattle.laws.proofs.Sep.{Ranks}
 

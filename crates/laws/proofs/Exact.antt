@@ -23,8 +23,8 @@ use Rattle.format.specs.Fits.{RowFits}
 use Rattle.format.specs.Row.{row}
 use Rattle.format.specs.Read.{Parsed, got, fault, readField, fieldCheck, rowFault, rowSlots, rowsFault}
 use Rattle.format.specs.Entries.{rowCountFault, offsetRoomFault, fallFault, offsetsFault, rowBytes, cutRows}
-use Rattle.laws.proofs.Lists.{Every}
-use Rattle.laws.proofs.Checks.{refuse-pass, both-pass, pass-both}
+use Rattle.basics.proofs.Lists.{Every}
+use Rattle.basics.proofs.Checks.{refuse-pass, both-pass, pass-both}
 use Rattle.laws.proofs.ReadRow.{row-passes, passed-row, refused-none}
 
 -- ---- refusals by content: 16 to 23

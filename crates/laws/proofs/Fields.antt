@@ -18,8 +18,8 @@ use Rattle.format.specs.Lists.{Bytes}
 use Rattle.format.specs.Row.{row}
 use Rattle.format.specs.declared.Column.{Column}
 use Rattle.format.specs.declared.SortOptions.{SortOptions}
-use Rattle.laws.proofs.Bytes.{bytes-append, bytes-key, bytes-zeros}
-use Rattle.laws.proofs.Compare.{choose}
+use Rattle.basics.proofs.Bytes.{bytes-append, bytes-key, bytes-zeros}
+use Rattle.basics.proofs.Compare.{choose}
 use Rattle.laws.proofs.Directed.{bytes-directed, length-directed}
 use Rattle.laws.proofs.Lengths.{length-variable}
 use Rattle.laws.proofs.Stream.{stream, variable-stream, blockSize-room, blockSize-small}

@@ -8,7 +8,7 @@ use lib.ListN.{length, getD, length-map}
 use Rattle.format.specs.Key.{invert, inverted}
 use Rattle.format.specs.Lists.{Bytes}
 use Rattle.format.specs.Order.{cmp, swap, then}
-use Rattle.laws.proofs.Compare.{Tri, below, same, above, tri, compare-of, swap-then, swap-eq}
+use Rattle.basics.proofs.Compare.{Tri, below, same, above, tri, compare-of, swap-then, swap-eq}
 use Rattle.laws.proofs.Sep.{sep, Ranks, ranks-even, ranks-cmp}
 
 turned : (x y : ℕ) (o : Ordering) → x < 256 → y < 256 → Tri x y o → Tri (255 - x) (255 - y) (swap o)

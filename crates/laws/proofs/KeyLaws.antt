@@ -15,9 +15,9 @@ use Rattle.format.specs.Key.{flip, floatKey, invert, inverted, restInverted, si
 use Rattle.format.specs.Lists.{Bytes, low}
 use Rattle.format.specs.Order.{cmp, cmpℤ, swap, then}
 use Rattle.format.specs.Value.{floatRank, half, signed}
-use Rattle.laws.proofs.Compare.{choose, Tri, below, same, above, tri, compare-of, compare-lt, compare-gt}
+use Rattle.basics.proofs.Compare.{choose, Tri, below, same, above, tri, compare-of, compare-lt, compare-gt}
 use borrow.Author.Tests.{lt-ltb, le-ltb}
-use Rattle.laws.proofs.Bytes.{flip-byte, bytes-restInverted, bytes-reverse, bytes-topFlipped, length-restInverted, length-topFlipped}
+use Rattle.basics.proofs.Bytes.{flip-byte, bytes-restInverted, bytes-reverse, bytes-topFlipped, length-restInverted, length-topFlipped}
 
 -- the number that bytes spell, high byte first
 abbrev pub high : List ℕ → ℕ

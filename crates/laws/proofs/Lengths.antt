@@ -9,7 +9,7 @@ use lib.Dec.{ltb, leb}
 use lib.ListN.{length, take, drop, replicate, length-append, length-drop, length-replicate}
 use lib.Seq.{length-take-le}
 use Rattle.format.specs.Field.{block, blockSize, paddedLength, variableBytes}
-use Rattle.laws.proofs.Compare.{choose}
+use Rattle.basics.proofs.Compare.{choose}
 use Rattle.laws.proofs.Stream.{stream, stream-last, stream-more, variable-stream, blockSize-room}
 use borrow.Author.Tests.{lt-ltb, le-ltb, le-leb, lt-leb}
 

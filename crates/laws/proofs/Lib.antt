@@ -1,10 +1,7 @@
 -- Theorems about the definitions of crate format.
 pub mod Table
 pub mod Run
-pub mod Append
-pub mod Compare
 pub mod Sep
-pub mod Bytes
 pub mod Invert
 pub mod KeyLaws
 pub mod Unkey
@@ -21,9 +18,7 @@ pub mod ReadFixed
 pub mod ReadField
 pub mod ReadRow
 pub mod FaultPlace
-pub mod Lists
 pub mod Parts
-pub mod Checks
 pub mod Columns
 pub mod Sheets
 pub mod Places

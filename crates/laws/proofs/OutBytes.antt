@@ -20,9 +20,9 @@ use Rattle.format.specs.Sheet.{layoutFor, layout, packed, sheetSlots, turned}
 use Rattle.format.specs.Cleared.{byteOf, pack, valid, isTrue, fixedSlot, variableSlot, clearedValues, clearedColumn, clearedSheet}
 use Rattle.format.specs.Entries.{written, sheetRows, encodeCheck, encodeRows, cutRows, rowsSlots, decodedSheet, decodeCheck, decodeSheet}
 use Rattle.bits.proofs.Flags.{byte-small}
-use Rattle.laws.proofs.Bytes.{bytes-append, bytes-drop, bytes-zeros}
+use Rattle.basics.proofs.Bytes.{bytes-append, bytes-drop, bytes-zeros}
 use Rattle.laws.proofs.Fields.{bytes-row}
-use Rattle.laws.proofs.Lists.{Every}
+use Rattle.basics.proofs.Lists.{Every}
 use Rattle.laws.proofs.Sheets.{sheet-fits}
 use Rattle.laws.proofs.Turned.{rows-fit}
 use Rattle.laws.proofs.Accept.{encoded, decoded}

@@ -6,7 +6,7 @@ use mathlib.Core.Logic.{_⊎_, inl, inr}
 use native.Mathlib.Omega.{arith}
 use lib.ListN.{length, getD, set, take, drop, length-drop}
 use lib.Seq.{take-all, getD-set-same, getD-set-other}
-use Rattle.laws.proofs.Compare.{choose}
+use Rattle.basics.proofs.Compare.{choose}
 
 -- what `&s[at..]` holds
 pub part-rest : {A : Type 0} (s : List A) (at : ℕ) → take (length s - at) (drop at s) ≡ drop at s

@@ -11,8 +11,8 @@ use Rattle.format.specs.declared.Check.the-variants.{Pass}
 use Rattle.format.specs.declared.Column.{Column}
 use Rattle.format.specs.Kinds.{Slot}
 use Rattle.format.specs.Sheet.{Layout, layout, columnFault, columnBytes, slotAt, columnSlots, sheetFaultFrom, sheetFault, sheetSlots}
-use Rattle.laws.proofs.Lists.{each-at}
-use Rattle.laws.proofs.Checks.{enough, both-pass}
+use Rattle.basics.proofs.Lists.{each-at}
+use Rattle.basics.proofs.Checks.{enough, both-pass}
 use Rattle.laws.proofs.Sheets.{column-room}
 
 -- the place of column c of a sheet s of n rows, where column 0 stands at `at`; past the last column, the end of the last

@@ -12,7 +12,7 @@ use borrow.Author.Tests.{le-ltb, lt-leb, ne-eqb, ltb-false, leb-false, eqb-true}
 use Rattle.format.specs.Field.{block}
 use Rattle.format.specs.Read.{Parsed, got, fault, after, allZero, fromBad, readBlock, readBlocks}
 use Rattle.format.specs.declared.RowFault.the-variants.{EndByte, Padding, TooLong}
-use Rattle.laws.proofs.Compare.{choose}
+use Rattle.basics.proofs.Compare.{choose}
 use Rattle.laws.proofs.Parsed.{fault-got, not-fault, yes-got, or-false, zeros-zero, zero-zeros}
 use Rattle.laws.proofs.Stream.{stream, stream-last, stream-more, stream-full, full-block}
 

@@ -17,7 +17,7 @@ use Rattle.format.specs.Lists.{Bytes}
 use Rattle.format.specs.Read.{Parsed, got, fault, allZero, fromBad, readBytes, readFixed, readKey, readNull}
 use Rattle.format.specs.declared.RowFault.the-variants.{Lead, NullRest}
 use Rattle.format.specs.declared.SortOptions.{SortOptions}
-use Rattle.laws.proofs.Bytes.{bytes-key, bytes-take}
+use Rattle.basics.proofs.Bytes.{bytes-key, bytes-take}
 use Rattle.laws.proofs.Directed.{bytes-directed, directed-twice, length-directed}
 use Rattle.laws.proofs.Fields.{not-null}
 use Rattle.laws.proofs.Parsed.{fault-got, not-fault, yes-got, zeros-zero, zero-zeros}

@@ -13,8 +13,8 @@ use Rattle.format.specs.declared.Check.{Check}
 use Rattle.format.specs.declared.Check.the-variants.{Pass, Refuse}
 use Rattle.format.specs.declared.Column.{Column}
 use Rattle.format.specs.declared.Refusal.{Refusal}
-use Rattle.laws.proofs.Bytes.{bytes-right}
-use Rattle.laws.proofs.Checks.{refuse-pass}
+use Rattle.basics.proofs.Bytes.{bytes-right}
+use Rattle.basics.proofs.Checks.{refuse-pass}
 use Rattle.laws.proofs.Fields.{bytes-row}
 use Rattle.laws.proofs.ReadField.{field-read, read-field}
 

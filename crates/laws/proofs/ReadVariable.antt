@@ -16,7 +16,7 @@ use Rattle.format.specs.Lists.{Bytes}
 use Rattle.format.specs.Read.{Parsed, got, fault, readBlocks, readValue, readVariable, valueSlot}
 use Rattle.format.specs.declared.RowFault.the-variants.{Lead}
 use Rattle.format.specs.declared.SortOptions.{SortOptions}
-use Rattle.laws.proofs.Compare.{choose}
+use Rattle.basics.proofs.Compare.{choose}
 use Rattle.laws.proofs.Directed.{bytes-directed, directed-append, directed-back, directed-twice}
 use Rattle.laws.proofs.Fields.{bytes-value, bytes-variable, Led, led-variable, not-null}
 use Rattle.laws.proofs.Parsed.{fault-got, yes-got}

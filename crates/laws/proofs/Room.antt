@@ -13,7 +13,7 @@ use Rattle.format.specs.Kinds.{Slot, columnShape}
 use Rattle.format.specs.Fits.{RowFits}
 use Rattle.format.specs.Sheet.{Layout, bits, ended, wide, layout, packed, nullsIn, nulls, turned}
 use Rattle.format.specs.Cleared.{clearedColumn, clearedSheet}
-use Rattle.laws.proofs.Lists.{Every}
+use Rattle.basics.proofs.Lists.{Every}
 use Rattle.laws.proofs.Turned.{slotsAt, first-fits, tails-fit, turned-tails}
 use Rattle.laws.proofs.Cleared.{slotLength, columnLength, column-length}
 

@@ -18,8 +18,8 @@ use Rattle.format.specs.Row.{row}
 use Rattle.format.specs.Value.{fixedOrder, partsOrder, rowOrder, signedOrder, slotOrder}
 use Rattle.format.specs.declared.Column.{Column}
 use Rattle.format.specs.declared.SortOptions.{SortOptions}
-use Rattle.laws.proofs.Bytes.{bytes-drop, bytes-key, bytes-take, long-float, long-signed}
-use Rattle.laws.proofs.Compare.{compare-lt, compare-gt, lt≢eq, gt≢eq}
+use Rattle.basics.proofs.Bytes.{bytes-drop, bytes-key, bytes-take, long-float, long-signed}
+use Rattle.basics.proofs.Compare.{compare-lt, compare-gt, lt≢eq, gt≢eq}
 use Rattle.laws.proofs.Directed.{ranks-directed}
 use Rattle.laws.proofs.Fields.{bytes-variable, Led, led-variable}
 use Rattle.laws.proofs.KeyLaws.{unsigned-order, signed-order, float-order}

@@ -16,8 +16,8 @@ use Rattle.format.specs.Sheet.{layout, sheetSlots, nullsIn, nulls, turned}
 use Rattle.format.specs.Cleared.{clearedSheet}
 use Rattle.format.specs.Read.{rowFault, rowSlots, rowsFault}
 use Rattle.format.specs.Entries.{sheetRows, sheetTotal, rowBytes, cutRows, rowsSlots, decodedSheet}
-use Rattle.laws.proofs.Lists.{Every, length-each, map-each, map-is}
-use Rattle.laws.proofs.Checks.{both-pass, pass-both}
+use Rattle.basics.proofs.Lists.{Every, length-each, map-each, map-is}
+use Rattle.basics.proofs.Checks.{both-pass, pass-both}
 use Rattle.laws.proofs.Sheets.{sheet-fits}
 use Rattle.laws.proofs.Turned.{turned-turned, rows-many, rows-fit, sheet-count, rows-count, columns-fit}
 use Rattle.laws.proofs.Cleared.{cleared-passes, cleared-slots}

@@ -6,7 +6,7 @@ use native.Mathlib.Omega.{arith}
 use native.Mathlib.Nat.{suc-inj, suc-ne-zero}
 use lib.ListN.{length}
 use Rattle.format.specs.Order.{Begins, cmp, swap, then}
-use Rattle.laws.proofs.Compare.{Tri, below, same, above, tri, compare-of, compare-self, compare-swap, eq-of-compare, lt≢eq, gt≢eq, then-assoc, then-eq-left, then-eq-right, swap-then, swap-eq}
+use Rattle.basics.proofs.Compare.{Tri, below, same, above, tri, compare-of, compare-self, compare-swap, eq-of-compare, lt≢eq, gt≢eq, then-assoc, then-eq-left, then-eq-right, swap-then, swap-eq}
 
 -- the order at the first byte that both have and that differs; a tie where there is none
 abbrev pub sep : List ℕ → List ℕ → Ordering

@@ -18,10 +18,10 @@ use Rattle.format.specs.Key.{allowed}
 use Rattle.format.specs.Fits.{Fits, SlotFits, AllSlots, SheetFits}
 use Rattle.format.specs.Sheet.{Layout, bits, ended, wide, layoutFor, layout, packed, bit, bitsFault, end, endsFault, variableFault, valuesFault, valuesBytes, boolByte, valueAt, slotIf, columnFault, columnBytes, slotAt, columnSlots, sheetFaultFrom, sheetFault, sheetSlots}
 use Rattle.bits.proofs.Nulls.{bits-passed}
-use Rattle.laws.proofs.Compare.{choose}
-use Rattle.laws.proofs.Bytes.{bytes-take, bytes-drop}
-use Rattle.laws.proofs.Lists.{length-each}
-use Rattle.laws.proofs.Checks.{failIf-pass, enough, both-pass}
+use Rattle.basics.proofs.Compare.{choose}
+use Rattle.basics.proofs.Bytes.{bytes-take, bytes-drop}
+use Rattle.basics.proofs.Lists.{length-each}
+use Rattle.basics.proofs.Checks.{failIf-pass, enough, both-pass}
 
 -- ---- the ends of a column of variable bytes
 

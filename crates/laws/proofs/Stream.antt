@@ -14,7 +14,7 @@ use Rattle.format.specs.Field.{block, blockSize, blocks, variableBytes}
 use Rattle.format.specs.Key.{inverted}
 use Rattle.format.specs.Lists.{Bytes}
 use Rattle.format.specs.Order.{cmp, swap, then}
-use Rattle.laws.proofs.Compare.{choose, Tri, below, same, above, tri, compare-of, compare-lt, compare-gt, compare-self, compare-swap, swap-then}
+use Rattle.basics.proofs.Compare.{choose, Tri, below, same, above, tri, compare-of, compare-lt, compare-gt, compare-self, compare-swap, swap-then}
 use Rattle.laws.proofs.Sep.{sep, sep-self, Ranks, cmp-same, ranks-cmp}
 use borrow.Author.Tests.{lt-ltb, le-ltb, le-leb, lt-leb}
 

@@ -19,7 +19,7 @@ use Rattle.format.specs.Row.{row}
 use Rattle.format.specs.Sheet.{layout, columnFault, columnBytes, slotAt, columnSlots, sheetFault, sheetSlots, nullsIn, nulls}
 use Rattle.format.specs.Entries.{sheetTotal}
 use Rattle.laws.proofs.Fields.{length-field}
-use Rattle.laws.proofs.Lists.{each-at, each-next, each-same, sum-most}
+use Rattle.basics.proofs.Lists.{each-at, each-next, each-same, sum-most}
 use Rattle.laws.proofs.Places.{placeFrom, place, past-column}
 use Rattle.laws.proofs.Sheets.{slot-fits, sheet-fits}
 use Rattle.laws.proofs.Turned.{slotsAt, slot-in}

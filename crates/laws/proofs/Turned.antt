@@ -11,7 +11,7 @@ use Rattle.format.specs.Kinds.{Shape, Slot, columnShape}
 use Rattle.format.specs.Fits.{SlotFits, RowFits, AllSlots, SheetFits}
 use Rattle.format.specs.Row.{row}
 use Rattle.format.specs.Sheet.{turned}
-use Rattle.laws.proofs.Lists.{Every, every-at, every-each, each-at, each-is, each-same, each-next, length-each, map-each}
+use Rattle.basics.proofs.Lists.{Every, every-at, every-each, each-at, each-is, each-same, each-next, length-each, map-each}
 
 -- slot i of each list
 abbrev pub slotsAt : List (List Slot) → ℕ → List Slot

@@ -11,9 +11,9 @@ use Rattle.format.specs.Key.{flip, floatKey, inverted, key, partsKey, partsUnke
 use Rattle.format.specs.Kinds.{Fixed, bool, float, integer, number, parts, plain, width}
 use Rattle.format.specs.Lists.{Bytes, sum}
 use Rattle.laws.proofs.Invert.{invert-invert}
-use Rattle.laws.proofs.Compare.{choose}
+use Rattle.basics.proofs.Compare.{choose}
 use borrow.Author.Tests.{lt-ltb, le-ltb}
-use Rattle.laws.proofs.Bytes.{bytes-append, bytes-drop, bytes-restInverted, bytes-reverse, bytes-take, bytes-topFlipped, length-restInverted, length-topFlipped, long-float, long-signed}
+use Rattle.basics.proofs.Bytes.{bytes-append, bytes-drop, bytes-restInverted, bytes-reverse, bytes-take, bytes-topFlipped, length-restInverted, length-topFlipped, long-float, long-signed}
 
 flip-flip : (x : ℕ) → x < 256 → flip (flip x) ≡ x
 flip-flip x b = go (choose x 128)

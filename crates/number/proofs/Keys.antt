@@ -12,12 +12,9 @@ use borrow.Author.Tests.{lt-ltb, le-ltb, ltb-true, ltb-false}
 use Rattle.format.specs.Lists.{Bytes, low, lowBytes}
 use Rattle.format.specs.Key.{invert, inverted, topFlipped, restInverted}
 use Rattle.number.proofs.Words.{powers, length-lowBytes, bytes-lowBytes, low-lowBytes, spelled, join}
+use Rattle.basics.proofs.Bytes.{bytes-invert}
 
 -- ---- every byte inverted
-
-bytes-inverted : (b : List ℕ) → Bytes (inverted b)
-bytes-inverted [] = tt
-bytes-inverted (x ∷ b) = (omega (arith, sub-le 255 x), bytes-inverted b)
 
 -- a number and its inverse make the largest
 low-inverted : (b : List ℕ) → Bytes b → low (inverted b) + low b + 1 ≡ 256 ^ length b
@@ -27,7 +24,7 @@ low-inverted (x ∷ b) h = omega (arith, low-inverted b (h .1), h .0, pow-succ' 
 -- the largest number less x has the inverted bytes
 pub invert-all : (n x : ℕ) → x < 256 ^ n → lowBytes n ((256 ^ n - 1) - x) ≡ inverted (lowBytes n x)
 invert-all n x h =
-    spelled n ((256 ^ n - 1) - x) (inverted (lowBytes n x)) (bytes-inverted (lowBytes n x))
+    spelled n ((256 ^ n - 1) - x) (inverted (lowBytes n x)) (bytes-invert (lowBytes n x))
     (length-map (lowBytes n x) invert ∙ length-lowBytes n x)
     (omega (arith, low-inverted (lowBytes n x) (bytes-lowBytes n x), low-lowBytes n x h, ap (λ (k : ℕ). 256 ^ k) (length-lowBytes n x)))
 

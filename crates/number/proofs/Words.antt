@@ -10,6 +10,8 @@ use lib.Arith.{digits-div, digits-mod, lt-one}
 use lib.ListN.{length, getD, take, drop, set, length-append, length-drop}
 use lib.Seq.{sets, drop-cons, drop-drop, take-add, length-take-le}
 use Rattle.format.specs.Lists.{Bytes, low, lowBytes}
+use Rattle.basics.proofs.Bytes.{bytes-append, bytes-drop, bytes-of, bytes-take}
+use Rattle.basics.proofs.Append.{sets-append}
 
 -- ---- the bytes of a number
 
@@ -23,10 +25,6 @@ length-lowBytes (suc n) x = ap suc (length-lowBytes n (x / 256))
 pub bytes-lowBytes : (n x : ℕ) → Bytes (lowBytes n x)
 bytes-lowBytes zero x = tt
 bytes-lowBytes (suc n) x = (mod-lt x (lit< tt), bytes-lowBytes n (x / 256))
-
-pub bytes-append : (a b : List ℕ) → Bytes a → Bytes b → Bytes (a ++ b)
-bytes-append [] b ha hb = hb
-bytes-append (x ∷ a) b ha hb = (ha .0, bytes-append a b (ha .1) hb)
 
 -- ---- there and back
 
@@ -54,10 +52,6 @@ spelled n x b h l e = ap₂ lowBytes (sym l) e ∙ lowBytes-low b h
 pub low-append : (a b : List ℕ) → low (a ++ b) ≡ low a + 256 ^ length a * low b
 low-append [] b = omega arith
 low-append (x ∷ a) b = rw (low-append a b) (rw (pow-succ' 256 (length a)) (omega arith))
-
-pub sets-append : (a b l : List ℕ) (i : ℕ) → sets l i (a ++ b) ≡ sets (sets l i a) (i + length a) b
-sets-append [] b l i = ap (λ (k : ℕ). sets l k b) (sym (add-zero i))
-sets-append (x ∷ a) b l i = sets-append a b (set l i x) (suc i) ∙ ap (λ (k : ℕ). sets (sets (set l i x) (suc i) a) k b) (omega arith)
 
 module _ (m n : ℕ) where
   -- two halves joined
@@ -105,21 +99,6 @@ swapped m x y lo hi h p q e f g =
 -- one byte, as what is read
 pub byte : (l : List ℕ) (at : ℕ) → at < length l → getD l at 0 ≡ low (take 1 (drop at l))
 byte l at h = rw (drop-cons l at 0 h) (omega arith)
-
--- what a slice's proof knows of each element
-pub bytes-of : (b : List ℕ) → ((i : ℕ) → getD b i 0 < 256) → Bytes b
-bytes-of [] h = tt
-bytes-of (x ∷ b) h = (h 0, bytes-of b (λ i. h (suc i)))
-
-pub bytes-take : (n : ℕ) (b : List ℕ) → Bytes b → Bytes (take n b)
-bytes-take zero b h = tt
-bytes-take (suc n) [] h = tt
-bytes-take (suc n) (x ∷ b) h = (h .0, bytes-take n b (h .1))
-
-pub bytes-drop : (n : ℕ) (b : List ℕ) → Bytes b → Bytes (drop n b)
-bytes-drop zero b h = h
-bytes-drop (suc n) [] h = tt
-bytes-drop (suc n) (x ∷ b) h = bytes-drop n b (h .1)
 
 -- the bytes of a number that was read are those that stand at its place
 pub read-back : (n : ℕ) (l : List ℕ) (at x : ℕ) → ((i : ℕ) → getD l i 0 < 256) → at + n ≤ length l → x ≡ low (take n (drop at l))

@@ -14,9 +14,9 @@ use Rattle.format.specs.Lists.{Bytes, sum}
 use Rattle.format.specs.Read.{rowSlots, rowsFault}
 use Rattle.format.specs.Sheet.{layout}
 use Rattle.format.specs.Entries.{cutRows, offsetsFault, rowBytes}
-use Rattle.laws.proofs.Checks.{refuse-pass}
+use Rattle.basics.proofs.Checks.{refuse-pass}
 use Rattle.laws.proofs.Cuts.{cut-bytes}
-use Rattle.laws.proofs.Lists.{length-each}
+use Rattle.basics.proofs.Lists.{length-each}
 use Rattle.laws.proofs.Room.{cleared-length, frame}
 use Rattle.laws.proofs.RowsBack.{rows-passed}
 use Rattle.row_reader.specs.Walk.{Checks, Finds}

@@ -11,7 +11,7 @@ use Rattle.format.specs.Lists.{sum}
 use Rattle.format.specs.Read.{leftAfter, readField, rowSlots}
 use Rattle.format.specs.Sheet.{nulls, nullsIn, turned}
 use Rattle.format.specs.Entries.{rowsSlots}
-use Rattle.laws.proofs.Lists.{Every}
+use Rattle.basics.proofs.Lists.{Every}
 use Rattle.laws.proofs.Turned.{slotsAt, turned-tails}
 
 -- a slot to each column

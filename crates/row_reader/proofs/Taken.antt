@@ -16,7 +16,7 @@ use Rattle.format.specs.Limits.{maxSlot}
 use Rattle.format.specs.Lists.{Bytes}
 use Rattle.format.specs.Read.{Parsed, got, fault, fieldCheck, fieldRead, leftAfter, readField, rowFault, rowSlots, slotRead}
 use Rattle.format.specs.Sheet.{Layout, bits, ended, wide, layout, layoutFor, nullsIn}
-use Rattle.laws.proofs.Bytes.{bytes-drop}
+use Rattle.basics.proofs.Bytes.{bytes-drop}
 use Rattle.laws.proofs.ReadField.{read-field}
 use Rattle.laws.proofs.Room.{added, rowAdded}
 

@@ -19,7 +19,7 @@ use Rattle.format.specs.Limits.{maxColumns, maxRows, maxSlot}
 use Rattle.format.specs.Lists.{each, sum}
 use Rattle.format.specs.Read.{Parsed, fault, fieldCheck, readField, rowFault, rowSlots, rowsFault}
 use Rattle.format.specs.Sheet.{layout, nullsIn}
-use Rattle.laws.proofs.Checks.{refuse-pass}
+use Rattle.basics.proofs.Checks.{refuse-pass}
 use Rattle.laws.proofs.Room.{added, rowAdded}
 use Rattle.row_reader.specs.Walk.{Finds, dataBytes, mostData}
 use Rattle.row_reader.proofs.Taken.{Took, past-fault, past-added, past-nulls, added-small, null-once}

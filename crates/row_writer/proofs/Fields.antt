@@ -13,9 +13,9 @@ use Rattle.format.specs.Row.{row}
 use Rattle.format.specs.Sheet.{layout, columnFault, columnBytes, slotAt, sheetSlots}
 use Rattle.format.specs.Schemas.{noColumn}
 use Rattle.format.specs.Entries.{sheetRows}
-use Rattle.laws.proofs.Bytes.{bytes-drop}
+use Rattle.basics.proofs.Bytes.{bytes-drop}
 use Rattle.laws.proofs.Fields.{length-field}
-use Rattle.laws.proofs.Lists.{each-at, each-next, each-same, map-each}
+use Rattle.basics.proofs.Lists.{each-at, each-next, each-same, map-each}
 use Rattle.laws.proofs.Places.{Stands, placeFrom, past-column}
 use Rattle.laws.proofs.Sheets.{slot-fits}
 use Rattle.laws.proofs.Turned.{slotsAt}

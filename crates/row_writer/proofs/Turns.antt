@@ -8,7 +8,7 @@ use native.Mathlib.Omega.{arith}
 use lib.ListN.{length, set}
 use lib.Seq.{sets}
 use Rattle.format.specs.Lists.{each, joined, endsFrom}
-use Rattle.laws.proofs.Append.{Walk, Turns, each-step, each-none, turns-begin, turns-more, turns-end, walk-first, walk-piece}
+use Rattle.basics.proofs.Append.{Walk, Turns, each-step, each-none, turns-begin, turns-more, turns-end, walk-first, walk-piece}
 
 -- a piece more is written, whose length is known
 pub piece-more : (piece : ℕ → List ℕ) (n : ℕ) (rows₀ : List ℕ) (at₀ : ℕ) (rows : List ℕ) (at r : ℕ) → Turns piece n rows₀ at₀ rows at r → r < n

@@ -20,7 +20,7 @@ use Rattle.format.specs.Kinds.{bool, variable, Slot, shape, valueBytes}
 use Rattle.format.specs.Field.{field, fixedField, fieldLength, nullByte}
 use Rattle.format.specs.Sheet.{Layout, ended, wide, layoutFor, packed, bit, end, valuesFault, boolByte, valueAt, columnFault, slotAt}
 use Rattle.bits.proofs.Nulls.{bits-passed}
-use Rattle.laws.proofs.Checks.{enough}
+use Rattle.basics.proofs.Checks.{enough}
 use Rattle.laws.proofs.Sheets.{Ended, column-passed, variable-passed, within}
 use Rattle.row_writer.specs.Put.{Passes, Put}
 use Rattle.fixed.specs.Wide.{WideKind}

@@ -19,7 +19,7 @@ use Rattle.format.specs.Sheet.{Layout, ended, layout, packed, bit, end, valueAt
 use Rattle.format.specs.Schemas.{noColumn}
 use Rattle.format.specs.Entries.{sheetTotal}
 use Rattle.bits.proofs.Nulls.{bits-passed}
-use Rattle.laws.proofs.Lists.{each-same}
+use Rattle.basics.proofs.Lists.{each-same}
 use Rattle.laws.proofs.Places.{place}
 use Rattle.laws.proofs.Sheets.{Ended, column-passed, variable-passed}
 use Rattle.laws.proofs.Totals.{columnTotal, maxField, total-is, total-most}

@@ -11,7 +11,7 @@ use Rattle.format.specs.declared.Check.the-variants.{Pass}
 use Rattle.format.specs.Limits.{maxColumns, maxWidth}
 use Rattle.format.specs.Columns.{listFault, columns}
 use Rattle.format.specs.Kinds.{valueBytes}
-use Rattle.laws.proofs.Lists.{every-at}
+use Rattle.basics.proofs.Lists.{every-at}
 use Rattle.laws.proofs.Columns.{Narrow, columns-narrow, columns-few}
 use Rattle.sheet_reader.specs.declared.list.Listed.{Listed}
 use Rattle.format.specs.Schemas.{noColumn, schemaOf, colsOf, Limited}

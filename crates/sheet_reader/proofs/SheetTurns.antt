@@ -13,7 +13,7 @@ use Rattle.format.specs.declared.Refusal.the-variants.{BytesAfter}
 use Rattle.format.specs.declared.Check.the-variants.{Pass, Refuse}
 use Rattle.format.specs.Limits.{maxColumns, maxRows}
 use Rattle.format.specs.Sheet.{layout, columnFault, columnBytes, columnSlots, nullsIn, sheetFaultFrom, sheetFault, sheetSlots, nulls}
-use Rattle.laws.proofs.Checks.{refuse-pass}
+use Rattle.basics.proofs.Checks.{refuse-pass}
 use Rattle.laws.proofs.Parts.{below-set}
 use Rattle.laws.proofs.Places.{place, place-next, past-column, column-stands}
 use Rattle.laws.proofs.Sheets.{column-room}

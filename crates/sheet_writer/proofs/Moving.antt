@@ -10,7 +10,7 @@ use Rattle.format.specs.declared.Column.{Column}
 use Rattle.format.specs.Lists.{each, joined}
 use Rattle.format.specs.Kinds.{Slot}
 use Rattle.format.specs.Read.{Good}
-use Rattle.laws.proofs.Append.{Turns, turns-begin, turns-room, turns-more, turns-end}
+use Rattle.basics.proofs.Append.{Turns, turns-begin, turns-room, turns-more, turns-end}
 use Rattle.sheet_writer.specs.Cursors.{fieldAt, slotAt, nextAt, Readable, slotsAt, nextsAt}
 use Rattle.sheet_writer.proofs.Maps.{at-map, each-map}
 

@@ -15,8 +15,8 @@ use Rattle.format.specs.Sheet.{Layout, layoutFor, layout, packed}
 use Rattle.format.specs.Cleared.{pack, valid, isTrue, clearedValues}
 use Rattle.bits.proofs.Bits.{length-pack}
 use Rattle.fixed.specs.Wide.{WideKind}
-use Rattle.laws.proofs.Append.{Walk, walk-more}
-use Rattle.laws.proofs.Bytes.{bytes-drop}
+use Rattle.basics.proofs.Append.{Walk, walk-more}
+use Rattle.basics.proofs.Bytes.{bytes-drop}
 use Rattle.sheet_writer.specs.declared.flags.Flag.{Flag}
 use Rattle.sheet_writer.specs.declared.flags.Flag.the-variants.{Valid, True}
 use Rattle.sheet_writer.specs.Cursors.{slotAt, nextAt, Readable, slotsAt, nextsAt, columnAt, flagAt, flagsAt, valuesAt, ended, endsAt, dataAt}

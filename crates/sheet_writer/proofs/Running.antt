@@ -10,7 +10,7 @@ use Rattle.format.specs.Kinds.{Slot}
 use Rattle.format.specs.Limits.{maxSlot}
 use Rattle.format.specs.Lists.{endsFrom, joined, lowBytes}
 use Rattle.format.specs.Cleared.{variableSlot}
-use Rattle.laws.proofs.Append.{Walk, walk-start, walk-piece, walk-room, walk-end}
+use Rattle.basics.proofs.Append.{Walk, walk-start, walk-piece, walk-room, walk-end}
 
 -- k, and after it where the value of the slot at each cursor ends, four bytes each
 abbrev endBytes : (ℕ → Slot) → ℕ → List ℕ → List ℕ

@@ -21,13 +21,13 @@ use Rattle.format.specs.Sheet.{layout, turned}
 use Rattle.format.specs.Cleared.{clearedColumn, clearedSheet}
 use Rattle.format.specs.Read.{Parsed, got, Good, slotRead, leftAfter, readField, rowFault, rowSlots, rowsFault}
 use Rattle.format.specs.Entries.{rowBytes, cutRows, decodedSheet}
-use Rattle.laws.proofs.Append.{Walk, walk-start, walk-more, walk-room, walk-end}
-use Rattle.laws.proofs.Bytes.{bytes-append, bytes-drop, bytes-take}
+use Rattle.basics.proofs.Append.{Walk, walk-start, walk-more, walk-room, walk-end}
+use Rattle.basics.proofs.Bytes.{bytes-append, bytes-drop, bytes-take}
 use Rattle.laws.proofs.Fields.{bytes-row}
 use Rattle.laws.proofs.ReadField.{field-read, left-end}
 use Rattle.laws.proofs.ReadRow.{passed-row}
-use Rattle.laws.proofs.Checks.{both-pass}
-use Rattle.laws.proofs.Lists.{Every, every-at, each-is}
+use Rattle.basics.proofs.Checks.{both-pass}
+use Rattle.basics.proofs.Lists.{Every, every-at, each-is}
 use Rattle.laws.proofs.Turned.{slotsAt as slotsIn, turned-tails}
 use Rattle.sheet_writer.specs.Cursors.{fieldAt, slotAt, nextAt, Readable, slotsAt, nextsAt, columnAt, Fields, AllFields, sheetAt}
 use Rattle.sheet_writer.proofs.Maps.{at-map, map-same}

@@ -10,7 +10,7 @@ use lib.IntN.{pos, negsuc}
 use Rattle.format.specs.Order.{then, cmp}
 use Rattle.format.specs.Entries.{compareAnswer}
 use Rattle.format.specs.Promises.{Compared}
-use Rattle.laws.proofs.Compare.{compare-lt, compare-gt, compare-eq}
+use Rattle.basics.proofs.Compare.{compare-lt, compare-gt, compare-eq}
 
 -- the first i bytes are there in both, and what follows decides
 pub record Alike (a b : List ℕ) (i : ℕ) : Type 0 where

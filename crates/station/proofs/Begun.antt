@@ -10,7 +10,7 @@ use Rattle.format.specs.declared.Check.the-variants.{Pass, Refuse}
 use Rattle.format.specs.declared.Schema.{Schema}
 use Rattle.format.specs.Limits.{maxRows}
 use Rattle.format.specs.Columns.{listFault}
-use Rattle.laws.proofs.Checks.{refuse-pass}
+use Rattle.basics.proofs.Checks.{refuse-pass}
 use Rattle.sheet_reader.specs.declared.list.Listed.{Listed}
 use Rattle.sheet_reader.specs.Listing.{ListedAs}
 use Rattle.sheet_reader.proofs.Schemas.{sound}

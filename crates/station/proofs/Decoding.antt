@@ -20,8 +20,8 @@ use Rattle.format.specs.Read.{rowsFault}
 use Rattle.format.specs.Entries.{rowCountFault, offsetsFault, cutRows, decodedSheet, decodeCheck, decodeAnswer, decodeSheet}
 use Rattle.format.specs.Promises.{Decoded}
 use Rattle.laws.proofs.Accept.{decode-answers, decode-writes}
-use Rattle.laws.proofs.Append.{over-sets}
-use Rattle.laws.proofs.Checks.{both-pass}
+use Rattle.basics.proofs.Append.{over-sets}
+use Rattle.basics.proofs.Checks.{both-pass}
 use Rattle.sheet_reader.specs.declared.list.Listed.{Listed}
 use Rattle.row_reader.specs.declared.Checked.{Checked}
 use Rattle.row_reader.specs.Walk.{Checks}

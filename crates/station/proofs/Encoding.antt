@@ -20,8 +20,8 @@ use Rattle.format.specs.Sheet.{sheetSlots, turned}
 use Rattle.format.specs.Entries.{sheetRows, sheetTotal, measureCheck, encodeCheck, encodeAnswer, encodeRows, encodeOffsets}
 use Rattle.format.specs.Promises.{Encoded}
 use Rattle.laws.proofs.Accept.{encode-answers, encode-rows, encode-offsets}
-use Rattle.laws.proofs.Append.{over-sets}
-use Rattle.laws.proofs.Lists.{length-each, length-ends}
+use Rattle.basics.proofs.Append.{over-sets}
+use Rattle.basics.proofs.Lists.{length-each, length-ends}
 use Rattle.station.specs.declared.measure.Measuring.{Measuring}
 use Rattle.station.specs.Measuring.{Found, Measures}
 

@@ -16,7 +16,7 @@ use Rattle.format.specs.Schemas.{colsOf}
 use Rattle.format.specs.Sheet.{sheetFault, sheetSlots, nulls}
 use Rattle.format.specs.Entries.{rowCountFault, sheetTotal, totalFault, measureCheck, measureAnswer}
 use Rattle.format.specs.Promises.{Measured}
-use Rattle.laws.proofs.Checks.{refuse-pass}
+use Rattle.basics.proofs.Checks.{refuse-pass}
 use Rattle.sheet_reader.specs.declared.list.Listed.{Listed}
 use Rattle.sheet_reader.specs.declared.sheet.Sheeted.{Sheeted}
 use Rattle.sheet_reader.specs.Sheets.{SheetedAs}

@@ -10,9 +10,9 @@ use borrow.Author.Count.{below-more}
 use Rattle.format.specs.Lists.{Bytes, each, joined, over, lowBytes}
 use Rattle.format.specs.declared.Returned.{Returned}
 use Rattle.format.specs.Lent.{eightBytes, numberBytes}
-use Rattle.laws.proofs.Append.{Turns, over-sets, turns-more, turns-end}
-use Rattle.laws.proofs.Bytes.{bytes-take, bytes-drop}
-use Rattle.laws.proofs.Lists.{each-is, length-each, map-is}
+use Rattle.basics.proofs.Append.{Turns, over-sets, turns-more, turns-end}
+use Rattle.basics.proofs.Bytes.{bytes-take, bytes-drop}
+use Rattle.basics.proofs.Lists.{each-is, length-each, map-is}
 use Rattle.number.proofs.Words.{length-lowBytes, spelled}
 use Rattle.station_c.specs.Offsets.{eightAt, firstEights}
 

@@ -20,8 +20,8 @@ use Rattle.format.specs.Columns.{listFault, columns}
 use Rattle.format.specs.Sheet.{sheetSlots}
 use Rattle.format.specs.Entries.{answer, written, sheetRows, sheetTotal, measureCheck, encodeCheck, encodeAnswer, encodeRows, encodeOffsets, fallFault, offsetsFault, rowBytes, cutRows, decodeCheck, decodeAnswer, decodeSheet}
 use Rattle.format.specs.Lent.{eights, eightBytes}
-use Rattle.laws.proofs.Checks.{enough, both-pass}
-use Rattle.laws.proofs.Lists.{each-same, each-at, length-each, length-ends}
+use Rattle.basics.proofs.Checks.{enough, both-pass}
+use Rattle.basics.proofs.Lists.{each-same, each-at, length-each, length-ends}
 use Rattle.laws.proofs.Turned.{rows-many}
 use Rattle.station_c.specs.Offsets.{eightAt, firstEights, Used}
 use Rattle.station_c.proofs.Eights.{stored-back}

@@ -12,7 +12,7 @@ use Rattle.format.specs.Numbers.{numbersOf}
 use Rattle.format.specs.Entries.{checkListAnswer, measureAnswer, encodeAnswer, encodeRows, encodeOffsets, decodeAnswer, decodeSheet}
 use Rattle.format.specs.Lent.{eights, eightBytes, numberBytes, answerBytes, unlessShort, lentCheckList, lentMeasure, lentEncode, lentEncodeRows, lentEncodeOffsets, lentDecode, lentDecodeSheet}
 use Rattle.format.specs.Promises.{ListChecked, Measured, Encoded, Decoded, LentListChecked, LentMeasured, LentEncoded, LentDecoded}
-use Rattle.laws.proofs.Lists.{length-each}
+use Rattle.basics.proofs.Lists.{length-each}
 use Rattle.station_c.specs.Offsets.{eightAt, firstEights, Used, EncodedBytes}
 use Rattle.station_c.proofs.Enough.{encode-answer, encode-rows, encode-offsets, decode-answer, decode-sheet}
 

@@ -9,7 +9,7 @@ use lib.ListN.{length, getD, set, take, drop, length-drop}
 use lib.Seq.{sets, drop-cons, drop-drop, take-add, length-take-le}
 use Rattle.format.specs.Field.{directed}
 use Rattle.format.specs.Lists.{low, lowBytes}
-use Rattle.laws.proofs.Append.{sets-append, Walk, walk-first, walk-at, walk-piece, walk-end}
+use Rattle.basics.proofs.Append.{sets-append, Walk, walk-first, walk-at, walk-piece, walk-end}
 use Rattle.laws.proofs.Directed.{length-directed, directed-append}
 use Rattle.number.proofs.Words.{read-back}
 use Rattle.variable.proofs.Direction.{directed-take, directed-drop}

@@ -11,7 +11,7 @@ use lib.ListN.{length, take, drop, replicate, take-append-drop, length-drop}
 use lib.Seq.{length-take-le}
 use borrow.Author.Tests.{lt-ltb, le-ltb}
 use Rattle.format.specs.Field.{block, blockSize, variableBytes}
-use Rattle.laws.proofs.Compare.{choose}
+use Rattle.basics.proofs.Compare.{choose}
 use Rattle.laws.proofs.Lengths.{small, large}
 use Rattle.laws.proofs.Stream.{stream, stream-last, stream-more, blocks-stream, variable-stream, blockSize-room}
 use Rattle.variable.specs.Even.{evenBlocks}

@@ -8,7 +8,7 @@ use lib.ListN.{length, getD, take, drop, replicate, length-drop}
 use lib.Seq.{drop-cons, drop-drop, drop-nil, take-nil}
 use Rattle.format.specs.Field.{block}
 use Rattle.format.specs.Lists.{Bytes, low, lowBytes}
-use Rattle.laws.proofs.Bytes.{bytes-drop}
+use Rattle.basics.proofs.Bytes.{bytes-drop}
 use Rattle.number.proofs.Words.{powers, spelled}
 
 -- the first n of x, and zeros past its end

@@ -13,8 +13,8 @@ use borrow.Author.Tests.{ltb-false, ne-eqb}
 use Rattle.format.specs.Limits.{maxSlot}
 use Rattle.format.specs.Field.{directed, blockSize}
 use Rattle.format.specs.Read.{Parsed, got, fault, Good, after, allZero}
-use Rattle.laws.proofs.Append.{Walk, walk-first, walk-at, walk-piece, walk-room, walk-end}
-use Rattle.laws.proofs.Compare.{choose}
+use Rattle.basics.proofs.Append.{Walk, walk-first, walk-at, walk-piece, walk-room, walk-end}
+use Rattle.basics.proofs.Compare.{choose}
 use Rattle.laws.proofs.Directed.{length-directed}
 use Rattle.laws.proofs.Parsed.{fault-got, not-fault, yes-got, or-false}
 use Rattle.variable.specs.Counted.{blocksRead, blockAt, valueOf, restOf}

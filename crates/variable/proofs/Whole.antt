@@ -8,7 +8,7 @@ use lib.Dec.{leb}
 use lib.ListN.{length, take, drop, set, length-append, length-drop}
 use lib.Seq.{sets, set-set, length-sets, take-all}
 use Rattle.format.specs.Field.{directed, paddedLength, variableBytes}
-use Rattle.laws.proofs.Append.{sets-append, Walk, walk-start, walk-at, walk-piece, walk-room, walk-end}
+use Rattle.basics.proofs.Append.{sets-append, Walk, walk-start, walk-at, walk-piece, walk-room, walk-end}
 use Rattle.laws.proofs.Directed.{length-directed, directed-append}
 use Rattle.laws.proofs.Lengths.{length-variable}
 use Rattle.variable.specs.Even.{evenBlocks}

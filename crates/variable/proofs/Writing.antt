@@ -9,8 +9,8 @@ use lib.ListN.{length, take, drop, length-append, length-drop}
 use lib.Seq.{sets, length-take-le, take-all, drop-drop}
 use Rattle.format.specs.Field.{block, directed}
 use Rattle.format.specs.Lists.{Bytes, low, lowBytes}
-use Rattle.laws.proofs.Append.{Walk, walk-start, walk-first, walk-at, walk-piece, walk-room, walk-end}
-use Rattle.laws.proofs.Bytes.{bytes-drop}
+use Rattle.basics.proofs.Append.{Walk, walk-start, walk-first, walk-at, walk-piece, walk-room, walk-end}
+use Rattle.basics.proofs.Bytes.{bytes-drop}
 use Rattle.laws.proofs.Directed.{length-directed, directed-append}
 use Rattle.variable.specs.Even.{evenBlocks}
 use Rattle.variable.proofs.Padded.{padded, length-padded, padded-step, block-padded, word-padded}

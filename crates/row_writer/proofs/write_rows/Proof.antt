@@ -13,8 +13,8 @@ use Rattle.format.specs.Kinds.{columnShape}
 use Rattle.format.specs.Field.{fieldLength}
 use Rattle.format.specs.Schemas.{colsOf}
 use Rattle.format.specs.Entries.{sheetRows}
-use Rattle.laws.proofs.Append.{Turns, turns-begin, turns-room, turns-end}
-use Rattle.laws.proofs.Bytes.{bytes-of}
+use Rattle.basics.proofs.Append.{Turns, turns-begin, turns-room, turns-end}
+use Rattle.basics.proofs.Bytes.{bytes-of}
 use Rattle.laws.proofs.Parts.{part-rest}
 use Rattle.laws.proofs.Places.{Stands}
 use Rattle.sheet_reader.specs.declared.sheet.Facts.{Facts}

@@ -2,7 +2,7 @@
 use borrow.Author.Needs.{needs}
 use native.Mathlib.Omega.{arith}
 use Rattle.station_c.proofs.Entries.{part-long, encode-short, encode-long}
-use Rattle.laws.proofs.Bytes.{bytes-of}
+use Rattle.basics.proofs.Bytes.{bytes-of}
 use Rattle.station_c.proofs.station_encode.Statement.{statement}
 use Rattle.station_c.proofs.station_encode.Tie as tie
 

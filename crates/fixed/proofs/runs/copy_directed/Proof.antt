@@ -6,7 +6,7 @@ use native.Mathlib.Omega.{arith}
 use lib.ListN.{length, getD, drop}
 use lib.Seq.{sets}
 use borrow.Author.Needs.{needs}
-use Rattle.laws.proofs.Append.{Walk, walk-first, walk-byte, walk-end, copy-step, copy-end}
+use Rattle.basics.proofs.Append.{Walk, walk-first, walk-byte, walk-end, copy-step, copy-end}
 use Rattle.fixed.proofs.Writing.{turn, directed-map, byte-turn}
 use Rattle.fixed.proofs.runs.copy_directed.Statement.{statement}
 use Rattle.fixed.proofs.runs.copy_directed.Tie as tie

@@ -4,7 +4,7 @@ use mathlib.Core.Path.{ap}
 use native.Mathlib.Nat.{sub-zero}
 use native.Mathlib.Omega.{arith}
 use lib.ListN.{replicate}
-use Rattle.laws.proofs.Append.{Walk, walk-first, walk-byte, walk-end, zeros-step, zeros-end}
+use Rattle.basics.proofs.Append.{Walk, walk-first, walk-byte, walk-end, zeros-step, zeros-end}
 use Rattle.fixed.proofs.runs.zeros.Statement.{statement}
 use Rattle.fixed.proofs.runs.zeros.Tie as tie
 

@@ -4,7 +4,7 @@ use mathlib.Core.Path.{_≡_, sym, _∙_}
 use Rattle.format.specs.declared.Check.the-variants.{Pass}
 use Rattle.format.specs.Entries.{offsetsFault}
 use Rattle.format.specs.Schemas.{colsOf}
-use Rattle.laws.proofs.Bytes.{bytes-of}
+use Rattle.basics.proofs.Bytes.{bytes-of}
 use Rattle.row_reader.proofs.Batches.{refused, walked}
 use Rattle.row_reader.proofs.batch.check_rows.Statement.{statement}
 use Rattle.row_reader.proofs.batch.check_rows.Tie as tie

@@ -22,7 +22,7 @@ use Rattle.format.specs.Lists.{Bytes}
 use Rattle.format.specs.Sheet.{layout}
 use Rattle.format.specs.Schemas.{colsOf, noColumn}
 use Rattle.format.specs.Entries.{rowBytes}
-use Rattle.laws.proofs.Bytes.{bytes-of, bytes-take, bytes-drop}
+use Rattle.basics.proofs.Bytes.{bytes-of, bytes-take, bytes-drop}
 use Rattle.laws.proofs.Cleared.{slotLength}
 use Rattle.laws.proofs.Cuts.{Cuts, offsets-passed, below-last}
 use Rattle.laws.proofs.Room.{added}

@@ -12,8 +12,8 @@ use Rattle.format.specs.Limits.{maxColumns, maxRows, maxWidth}
 use Rattle.format.specs.Lists.{each, sum}
 use Rattle.format.specs.Kinds.{valueBytes}
 use Rattle.format.specs.Schemas.{noColumn, colsOf}
-use Rattle.laws.proofs.Bytes.{bytes-of}
-use Rattle.laws.proofs.Lists.{Adding, adding-begin, adding-more, adding-end}
+use Rattle.basics.proofs.Bytes.{bytes-of}
+use Rattle.basics.proofs.Lists.{Adding, adding-begin, adding-more, adding-end}
 use Rattle.laws.proofs.Parts.{part-rest}
 use Rattle.laws.proofs.Totals.{columnTotal, maxField}
 use Rattle.sheet_reader.specs.declared.sheet.Facts.{Facts}

@@ -3,8 +3,8 @@
 use Prim.Native.Nat.{ℕ, _-_, _*_, _≤_}
 use mathlib.Core.Path.{_∙_, ap}
 use native.Mathlib.Omega.{arith}
-use Rattle.laws.proofs.Bytes.{bytes-of}
-use Rattle.laws.proofs.Lists.{Adding, adding-begin, adding-more, adding-most, adding-end}
+use Rattle.basics.proofs.Bytes.{bytes-of}
+use Rattle.basics.proofs.Lists.{Adding, adding-begin, adding-more, adding-most, adding-end}
 use Rattle.laws.proofs.Totals.{maxField}
 use Rattle.sheet_reader.specs.Measures.{variableLength, variableTotal}
 use Rattle.sheet_reader.proofs.Measures.{variable-most}
@@ -24,7 +24,7 @@ most c = variable-most _ _ (bytes-of (c .before .args .part .now) (λ i. c .shar
 variable-length-requires : tie.Need-variable-length-requires Inv-loop μ-loop
 variable-length-requires c κs =
     let y = c .before .before .before in
-    ((y .pre .0, c .loop-test .taken), y .pre .1)
+    ((y .pre .0, omega (arith, c .loop-test .taken)), y .pre .1)
 
 add-total : tie.Need-add-total Inv-loop μ-loop
 add-total c =

@@ -13,7 +13,7 @@ use Rattle.format.specs.declared.Check.the-variants.{Pass}
 use Rattle.format.specs.Sheet.{Layout, bits, packed, spareSet, bitsFault, columnSlots, nullsIn}
 use Rattle.bits.specs.Ones.{onesIn}
 use Rattle.bits.proofs.Nulls.{column-nulls}
-use Rattle.laws.proofs.Bytes.{bytes-of}
+use Rattle.basics.proofs.Bytes.{bytes-of}
 use Rattle.sheet_reader.proofs.sheet.null_rows.Statement.{statement}
 use Rattle.sheet_reader.proofs.sheet.null_rows.Tie as tie
 

@@ -9,8 +9,8 @@ use lib.ListN.{length}
 use Rattle.format.specs.Lists.{Bytes}
 use Rattle.format.specs.Kinds.{shape}
 use Rattle.format.specs.Sheet.{packed}
-use Rattle.laws.proofs.Append.{Walk, walk-start, walk-room, walk-end}
-use Rattle.laws.proofs.Bytes.{bytes-of}
+use Rattle.basics.proofs.Append.{Walk, walk-start, walk-room, walk-end}
+use Rattle.basics.proofs.Bytes.{bytes-of}
 use Rattle.sheet_writer.specs.declared.flags.Flag.the-variants.{Valid, True}
 use Rattle.sheet_writer.specs.Cursors.{columnAt, flagsAt, valuesAt, endsAt, dataAt}
 use Rattle.sheet_writer.proofs.Arms.{wide-arm}

@@ -10,7 +10,7 @@ use Rattle.format.specs.declared.Column.{Column}
 use Rattle.format.specs.Limits.{maxColumns}
 use Rattle.format.specs.Lists.{Bytes}
 use Rattle.format.specs.Schemas.{noColumn}
-use Rattle.laws.proofs.Bytes.{bytes-of}
+use Rattle.basics.proofs.Bytes.{bytes-of}
 use Rattle.sheet_writer.proofs.Stand.{Standing, stand-first, stand-here, stand-room, stand-more, stand-end, column-at}
 use Rattle.sheet_writer.proofs.columns.write_columns.Statement.{statement}
 use Rattle.sheet_writer.proofs.columns.write_columns.Tie as tie

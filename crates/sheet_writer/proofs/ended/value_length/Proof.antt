@@ -13,7 +13,7 @@ use Rattle.format.specs.Limits.{maxSlot}
 use Rattle.format.specs.Kinds.{Slot}
 use Rattle.format.specs.Cleared.{variableSlot}
 use Rattle.format.specs.Read.{Parsed, got, fault, fieldRead, readVariable, slotRead}
-use Rattle.laws.proofs.Bytes.{bytes-of}
+use Rattle.basics.proofs.Bytes.{bytes-of}
 use Rattle.sheet_writer.proofs.Lead.{variable-short}
 use Rattle.sheet_writer.proofs.ended.value_length.Statement.{statement}
 use Rattle.sheet_writer.proofs.ended.value_length.Tie as tie

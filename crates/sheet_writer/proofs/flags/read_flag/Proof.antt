@@ -7,7 +7,7 @@ use mathlib.Core.Bool.{not}
 use lib.Dec.{eqb}
 use lib.ListN.{getD}
 use Rattle.format.specs.Kinds.{columnShape}
-use Rattle.laws.proofs.Bytes.{bytes-of}
+use Rattle.basics.proofs.Bytes.{bytes-of}
 use Rattle.sheet_writer.proofs.Lead.{lead-there, valid-flag, bool-good, bool-flag}
 use Rattle.sheet_writer.proofs.flags.read_flag.Statement.{statement}
 use Rattle.sheet_writer.proofs.flags.read_flag.Tie as tie

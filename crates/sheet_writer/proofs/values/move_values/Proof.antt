@@ -9,7 +9,7 @@ use lib.ListN.{length, getD, drop, length-drop}
 use Rattle.format.specs.Kinds.{columnShape, valueBytes}
 use Rattle.format.specs.Cleared.{fixedSlot}
 use Rattle.format.specs.Read.{Good}
-use Rattle.laws.proofs.Bytes.{bytes-of, bytes-drop}
+use Rattle.basics.proofs.Bytes.{bytes-of, bytes-drop}
 use Rattle.sheet_writer.specs.Cursors.{fieldAt}
 use Rattle.sheet_writer.proofs.Lead.{inside, Whole, whole}
 use Rattle.sheet_writer.proofs.Moving.{Moving, move-start, move-readable, move-room, move-more, move-end}

@@ -3,7 +3,7 @@
 use Prim.Native.Nat.{_-_}
 use native.Mathlib.Omega.{arith}
 use lib.ListN.{length}
-use Rattle.laws.proofs.Append.{turns-begin}
+use Rattle.basics.proofs.Append.{turns-begin}
 use Rattle.station_c.proofs.Eights.{Stored, stored-more, stored-end}
 use Rattle.station_c.proofs.bytes.write_offsets.Statement.{statement}
 use Rattle.station_c.proofs.bytes.write_offsets.Tie as tie

@@ -3,7 +3,7 @@ use Prim.Native.Nat.{_-_, _%_}
 use mathlib.Core.Path.{_≡_, refl, _∙_}
 use native.Mathlib.Omega.{arith}
 use borrow.Author.Needs.{needs}
-use Rattle.laws.proofs.Bytes.{bytes-of}
+use Rattle.basics.proofs.Bytes.{bytes-of}
 use Rattle.variable.proofs.Writing.{Filling, fill-start, fill-word, fill-end}
 use Rattle.variable.proofs.encoder.encode_block.Statement.{statement}
 use Rattle.variable.proofs.encoder.encode_block.Tie as tie

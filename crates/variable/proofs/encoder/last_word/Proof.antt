@@ -6,7 +6,7 @@ use borrow.Author.Needs.{needs}
 use lib.ListN.{length, getD, drop}
 use lib.Seq.{drop-length}
 use Rattle.format.specs.Lists.{low}
-use Rattle.laws.proofs.Bytes.{bytes-of}
+use Rattle.basics.proofs.Bytes.{bytes-of}
 use Rattle.variable.proofs.Padded.{word-more, word-fits}
 use Rattle.variable.proofs.encoder.last_word.Statement.{statement}
 use Rattle.variable.proofs.encoder.last_word.Tie as tie

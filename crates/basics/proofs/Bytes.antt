@@ -11,7 +11,7 @@ use lib.ListN.{length, take, drop, getD, replicate, length-map, length-reverse}
 use Rattle.format.specs.Key.{floatKey, flip, invert, inverted, key, partsKey, restInverted, signedKey, topFlipped}
 use Rattle.format.specs.Kinds.{Fixed, bool, float, integer, number, parts, plain}
 use Rattle.format.specs.Lists.{Bytes}
-use Rattle.laws.proofs.Compare.{choose}
+use Rattle.basics.proofs.Compare.{choose}
 use borrow.Author.Tests.{lt-ltb, le-ltb}
 
 pub bytes-append : (f g : List ℕ) → Bytes f → Bytes g → Bytes (f ++ g)

@@ -8,7 +8,7 @@ use native.Mathlib.Omega.{arith}
 use lib.ListN.{length, getD, take, drop, length-append}
 use lib.Seq.{take-at, drop-at, drop-append-add}
 use Rattle.format.specs.Lists.{each, endsFrom, joined, sum}
-use Rattle.laws.proofs.Append.{each-step, each-none}
+use Rattle.basics.proofs.Append.{each-step, each-none}
 
 -- ---- every element is such as P says
 abbrev pub Every : {A : Type 0} → (A → Type 0) → List A → Type 0
