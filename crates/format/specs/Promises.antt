@@ -6,6 +6,7 @@ use lib.IntN.{ℤ}
 use lib.ListN.{length}
 use Rattle.format.specs.declared.Answer.{Answer}
 use Rattle.format.specs.Entries.{checkListAnswer, measureAnswer, encodeAnswer, encodeRows, encodeOffsets, decodeAnswer, decodeSheet, compareAnswer}
+use Rattle.format.specs.Lent.{lentCheckList, lentMeasure, lentEncode, lentEncodeRows, lentEncodeOffsets, lentDecode, lentDecodeSheet}
 
 -- check_list
 pub record ListChecked (list : List ℕ) (r : Answer) : Type 0 where
@@ -29,3 +30,24 @@ pub record Decoded (list : List ℕ) (n : ℕ) (rows offsets sheet : List ℕ) (
 -- compare
 pub record Compared (a b : List ℕ) (r : ℤ) : Type 0 where
   pub answers : r ≡ compareAnswer a b
+
+-- ---- the C entries: each lent buffer at entry, and at exit; compare promises the same as above
+
+-- station_check_list
+pub record LentListChecked (list lent lent′ : List ℕ) : Type 0 where
+  pub answers : lent′ ≡ lentCheckList list lent
+
+-- station_measure
+pub record LentMeasured (list : List ℕ) (n : ℕ) (sheet lent lent′ : List ℕ) : Type 0 where
+  pub answers : lent′ ≡ lentMeasure list n sheet lent
+
+-- station_encode
+pub record LentEncoded (list : List ℕ) (n : ℕ) (sheet rows offsets lent rows′ offsets′ lent′ : List ℕ) : Type 0 where
+  pub answers : lent′ ≡ lentEncode list n sheet (length rows) offsets lent
+  pub row-bytes : rows′ ≡ lentEncodeRows list n sheet rows offsets lent
+  pub row-ends : offsets′ ≡ lentEncodeOffsets list n sheet (length rows) offsets lent
+
+-- station_decode
+pub record LentDecoded (list : List ℕ) (n : ℕ) (rows offsets sheet lent sheet′ lent′ : List ℕ) : Type 0 where
+  pub answers : lent′ ≡ lentDecode list n rows offsets (length sheet) lent
+  pub bytes : sheet′ ≡ lentDecodeSheet list n rows offsets sheet lent

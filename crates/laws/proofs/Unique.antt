@@ -5,7 +5,7 @@ use mathlib.Core.Path.{_≡_}
 use mathlib.Core.List.{List}
 use lib.IntN.{ℤ}
 use Rattle.format.specs.declared.Answer.{Answer}
-use Rattle.format.specs.Promises.{ListChecked, Measured, Encoded, Decoded, Compared}
+use Rattle.format.specs.Promises.{ListChecked, Measured, Encoded, Decoded, Compared, LentListChecked, LentMeasured, LentEncoded, LentDecoded}
 
 pub check-list-unique : {list : List ℕ} {r r′ : Answer} → ListChecked list r → ListChecked list r′ → r ≡ r′
 check-list-unique g h = cc
@@ -24,3 +24,21 @@ decode-unique g h = (cc, cc)
 
 pub compare-unique : {a b : List ℕ} {r r′ : ℤ} → Compared a b r → Compared a b r′ → r ≡ r′
 compare-unique g h = cc
+
+-- ---- the C entries
+pub lent-check-list-unique : {list lent lent₁ lent₂ : List ℕ} → LentListChecked list lent lent₁ → LentListChecked list lent lent₂ → lent₁ ≡ lent₂
+lent-check-list-unique g h = cc
+
+pub lent-measure-unique : {list : List ℕ} {n : ℕ} {sheet lent lent₁ lent₂ : List ℕ} → LentMeasured list n sheet lent lent₁
+    → LentMeasured list n sheet lent lent₂ → lent₁ ≡ lent₂
+lent-measure-unique g h = cc
+
+pub lent-encode-unique : {list : List ℕ} {n : ℕ} {sheet rows offsets lent rows₁ rows₂ offsets₁ offsets₂ lent₁ lent₂ : List ℕ}
+    → LentEncoded list n sheet rows offsets lent rows₁ offsets₁ lent₁ → LentEncoded list n sheet rows offsets lent rows₂ offsets₂ lent₂
+    → (lent₁ ≡ lent₂) × (rows₁ ≡ rows₂) × (offsets₁ ≡ offsets₂)
+lent-encode-unique g h = (cc, cc, cc)
+
+pub lent-decode-unique : {list : List ℕ} {n : ℕ} {rows offsets sheet lent sheet₁ sheet₂ lent₁ lent₂ : List ℕ}
+    → LentDecoded list n rows offsets sheet lent sheet₁ lent₁ → LentDecoded list n rows offsets sheet lent sheet₂ lent₂
+    → (lent₁ ≡ lent₂) × (sheet₁ ≡ sheet₂)
+lent-decode-unique g h = (cc, cc)

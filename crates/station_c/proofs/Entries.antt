@@ -1,0 +1,104 @@
+-- What the C entries make of the lent bytes, from what they are told of the answer and of the offsets used. Assumes nothing.
+use Prim.Native.Nat.{ℕ, _/_, _<_, _≤_}
+use mathlib.Core.Path.{_≡_, sym, ap, subst, _∙_}
+use mathlib.Core.List.{List}
+use native.Mathlib.Omega.{arith}
+use lib.ListN.{length, take, replicate, length-replicate}
+use lib.Seq.{length-take-le}
+use borrow.Author.Tests.{lt-ltb, le-ltb}
+use Rattle.format.specs.declared.Answer.{Answer}
+use Rattle.format.specs.Lists.{Bytes, over}
+use Rattle.format.specs.Numbers.{numbersOf}
+use Rattle.format.specs.Entries.{checkListAnswer, measureAnswer, encodeAnswer, encodeRows, encodeOffsets, decodeAnswer, decodeSheet}
+use Rattle.format.specs.Lent.{eights, eightBytes, numberBytes, answerBytes, unlessShort, lentCheckList, lentMeasure, lentEncode, lentEncodeRows, lentEncodeOffsets, lentDecode, lentDecodeSheet}
+use Rattle.format.specs.Promises.{ListChecked, Measured, Encoded, Decoded, LentListChecked, LentMeasured, LentEncoded, LentDecoded}
+use Rattle.basics.proofs.Lists.{length-each}
+use Rattle.station_c.specs.Offsets.{eightAt, firstEights, Used, EncodedBytes}
+use Rattle.station_c.proofs.Enough.{encode-answer, encode-rows, encode-offsets, decode-answer, decode-sheet}
+
+-- ---- the first k of m numbers are k
+pub part-long : (m k : ℕ) → k ≤ m → k ≡ length (take k (replicate {A = ℕ} m 0))
+part-long m k h = sym (length-take-le k (replicate {A = ℕ} m 0) (omega (arith, length-replicate {A = ℕ} m 0)))
+
+-- ---- with the offsets that were read
+pub bytes-encoded : (list : List ℕ) (n : ℕ) (sheet rows offsets : List ℕ) (k : ℕ) (os os′ : List ℕ) (r : Answer) (rows′ offsets′ : List ℕ) → os ≡ firstEights k offsets
+    → Encoded list n sheet rows os r rows′ os′ → offsets′ ≡ over (eightBytes os′) offsets → EncodedBytes list n sheet rows offsets k r rows′ offsets′
+bytes-encoded list n sheet rows offsets k os os′ r rows′ offsets′ e h w =
+    let many : length os ≡ k = ap length e ∙ length-each 0 k (eightAt offsets) in
+    record {
+      answers = h .answers ∙ ap (encodeAnswer list n sheet (length rows)) many;
+      row-bytes = h .row-bytes ∙ ap (encodeRows list n sheet rows) many;
+      row-ends = w ∙ ap (λ (x : List ℕ). over (eightBytes x) offsets) (h .row-ends ∙ ap (encodeOffsets list n sheet (length rows)) e);
+    }
+
+pub bytes-decoded : (list : List ℕ) (n : ℕ) (rows offsets sheet : List ℕ) (k : ℕ) (os : List ℕ) (r : Answer) (sheet′ : List ℕ) → os ≡ firstEights k offsets
+    → Decoded list n rows os sheet r sheet′ → Decoded list n rows (firstEights k offsets) sheet r sheet′
+bytes-decoded list n rows offsets sheet k os r sheet′ e h = subst (λ (x : List ℕ). Decoded list n rows x sheet r sheet′) e h
+
+-- ---- an answer that cannot hold the three numbers
+module _ (lent : List ℕ) (short : length lent < 24) where
+  short-answer : (a : Answer) → lent ≡ answerBytes a lent
+  short-answer a = rw (lt-ltb (length lent) 24 short)
+
+  short-kept : (new old : List ℕ) → old ≡ unlessShort lent new old
+  short-kept new old = rw (lt-ltb (length lent) 24 short)
+
+  pub list-short : (list : List ℕ) → LentListChecked list lent lent
+  unfolding lentCheckList
+  list-short list = record { answers = short-answer (checkListAnswer list) }
+
+  pub measure-short : (list : List ℕ) (n : ℕ) (sheet : List ℕ) → LentMeasured list n sheet lent lent
+  unfolding lentMeasure
+  measure-short list n sheet = record { answers = short-answer (measureAnswer list n sheet) }
+
+  pub encode-short : (list : List ℕ) (n : ℕ) (sheet rows offsets : List ℕ) → LentEncoded list n sheet rows offsets lent rows offsets lent
+  unfolding lentEncode lentEncodeRows lentEncodeOffsets
+  encode-short list n sheet rows offsets = record {
+    answers = short-answer (encodeAnswer list n sheet (length rows) (length offsets / 8));
+    row-bytes = short-kept (encodeRows list n sheet rows (length offsets / 8)) rows;
+    row-ends = short-kept (over (eightBytes (encodeOffsets list n sheet (length rows) (eights offsets))) offsets) offsets;
+  }
+
+  pub decode-short : (list : List ℕ) (n : ℕ) (rows offsets sheet : List ℕ) → LentDecoded list n rows offsets sheet lent sheet lent
+  unfolding lentDecode lentDecodeSheet
+  decode-short list n rows offsets sheet = record {
+    answers = short-answer (decodeAnswer list n rows (eights offsets) (length sheet));
+    bytes = short-kept (decodeSheet list n rows (eights offsets) sheet) sheet;
+  }
+
+-- ---- one that can, and holds those of r
+module _ (lent lent′ : List ℕ) (r : Answer) (long : 24 ≤ length lent) (put : lent′ ≡ over (numberBytes (numbersOf r)) lent) where
+  long-answer : (a : Answer) → r ≡ a → lent′ ≡ answerBytes a lent
+  long-answer a e = rw (le-ltb (length lent) 24 long) (put ∙ ap (λ (x : Answer). over (numberBytes (numbersOf x)) lent) e)
+
+  long-new : (new′ new old : List ℕ) → new′ ≡ new → new′ ≡ unlessShort lent new old
+  long-new new′ new old e = rw (le-ltb (length lent) 24 long) e
+
+  pub list-long : (list : List ℕ) → ListChecked list r → LentListChecked list lent lent′
+  unfolding lentCheckList
+  list-long list h = record { answers = long-answer _ (h .answers) }
+
+  pub measure-long : (list : List ℕ) (n : ℕ) (sheet : List ℕ) → Measured list n sheet r → LentMeasured list n sheet lent lent′
+  unfolding lentMeasure
+  measure-long list n sheet h = record { answers = long-answer _ (h .answers) }
+
+  pub encode-long : (list : List ℕ) (n : ℕ) (sheet rows offsets : List ℕ) (k m : ℕ) (rows′ offsets′ : List ℕ) → Bytes offsets → Used n (length offsets / 8) k → k ≡ m
+      → EncodedBytes list n sheet rows offsets m r rows′ offsets′ → LentEncoded list n sheet rows offsets lent rows′ offsets′ lent′
+  unfolding lentEncode lentEncodeRows lentEncodeOffsets
+  encode-long list n sheet rows offsets k m rows′ offsets′ b u e h =
+      let v : Used n (length offsets / 8) m = subst (Used n (length offsets / 8)) e u in
+      record {
+        answers = long-answer _ (h .answers ∙ encode-answer list n sheet (length offsets / 8) m v (length rows));
+        row-bytes = long-new rows′ _ rows (h .row-bytes ∙ encode-rows list n sheet (length offsets / 8) m v rows);
+        row-ends = long-new offsets′ _ offsets (h .row-ends ∙ encode-offsets list n sheet (length rows) offsets m b v);
+      }
+
+  pub decode-long : (list : List ℕ) (n : ℕ) (rows offsets sheet : List ℕ) (k m : ℕ) (sheet′ : List ℕ) → Used n (length offsets / 8) k → k ≡ m
+      → Decoded list n rows (firstEights m offsets) sheet r sheet′ → LentDecoded list n rows offsets sheet lent sheet′ lent′
+  unfolding lentDecode lentDecodeSheet
+  decode-long list n rows offsets sheet k m sheet′ u e h =
+      let v : Used n (length offsets / 8) m = subst (Used n (length offsets / 8)) e u in
+      record {
+        answers = long-answer _ (h .answers ∙ decode-answer list n rows offsets m v (length sheet));
+        bytes = long-new sheet′ _ sheet (h .bytes ∙ decode-sheet list n rows offsets m v sheet);
+      }

@@ -1,0 +1,55 @@
+-- `station_c::bytes::read_offsets` meets its contract. The invariant: the first i numbers are read. The measure is the numbers
+-- left. Assumes nothing.
+use Prim.Native.Nat.{_-_, _≤_}
+use mathlib.Core.Path.{_≡_, refl}
+use native.Mathlib.Omega.{arith}
+use lib.ListN.{length, length-set}
+use Rattle.station_c.proofs.Eights.{Read, read-more, read-end}
+use Rattle.station_c.proofs.bytes.read_offsets.Statement.{statement}
+use Rattle.station_c.proofs.bytes.read_offsets.Tie as tie
+
+abbrev Inv-loop : tie.InvT-loop
+Inv-loop offsets numbers₀ k i₀ numbers i = (i ≤ length numbers₀) × (length numbers ≡ length numbers₀) × Read offsets numbers i
+
+abbrev μ-loop : tie.MeasureT-loop
+μ-loop offsets numbers₀ k i₀ numbers i = length numbers₀ - i
+
+loop-holds : tie.Need-loop-holds Inv-loop μ-loop
+loop-holds c = (omega arith, refl, λ j l. absurd (omega arith))
+
+mul-low64 : tie.Need-mul-low64 Inv-loop μ-loop
+mul-low64 c = omega (arith, c .before .before .before .before .pre, c .before .before .before .before .good .0 .0)
+
+low64-requires : tie.Need-low64-requires Inv-loop μ-loop
+low64-requires c κs = omega (arith, c .before .before .before .before .pre)
+
+mul-numbers : tie.Need-mul-numbers Inv-loop μ-loop
+mul-numbers c = omega (arith, c .before .before .before .before .before .pre, c .before .before .before .before .before .good .0 .0)
+
+loop-again : tie.Need-loop-again Inv-loop μ-loop
+loop-again c =
+    let turn = c .before .before in
+    (omega arith, simp length-set (turn .loop .inv .1), read-more (turn .before .before .before .args .offsets .now) (turn .loop .numbers) _ _ (turn .loop .inv .2) (omega arith) (c .low64 .ensures))
+
+same-length : tie.Need-same-length Inv-loop μ-loop
+same-length c = c .before .loop .inv .1
+
+returns : tie.Need-returns Inv-loop μ-loop
+returns c = read-end (c .before .before .before .before .args .offsets .now) _ _ _ (c .before .loop .inv .2) (c .loop-test .left) (c .before .loop .inv .1)
+
+pub read-offsets-spec : {M : Type 1} → statement M
+read-offsets-spec =
+    tie.close
+    (tie.spec
+    Inv-loop
+    μ-loop
+    loop-holds
+    mul-low64
+    low64-requires
+    mul-numbers
+    (λ c. omega arith)
+    (λ c. omega arith)
+    (λ c. omega arith)
+    loop-again
+    same-length
+    returns)

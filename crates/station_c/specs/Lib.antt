@@ -1,0 +1,2 @@
+-- What the C entries use of the lent offsets.
+pub mod Offsets

@@ -1,0 +1,89 @@
+// The C entries: a slice is a pointer and a length, and offsets and answers are lent as bytes, eight a number, low byte
+// first. Thin over crate `station`; include/station.h says how to call them.
+ghost use Rattle.format.specs.Promises.{LentListChecked, LentMeasured, LentEncoded, LentDecoded, Compared};
+use crate::bytes::decode_bytes;
+use crate::bytes::encode_bytes;
+use crate::bytes::put_answer;
+use crate::bytes::used_offsets;
+
+mod bytes;
+
+// An answer is three numbers; one that cannot hold them, and no lent byte changes.
+const ANSWER_BYTES: usize = 24;
+
+// One more than there are rows: no batch uses more offsets.
+const MAX_OFFSETS: usize = 4097;
+
+// Checks a column list.
+#[no_mangle]
+pub extern "C" fn station_check_list(list: &[u8], answer: &mut [u8])
+    ensures { λ _. ⌜ LentListChecked (now (list .entry)) (now (answer .entry)) (now (answer .exit)) ⌝ }
+{
+    if answer.len() < ANSWER_BYTES {
+        return;
+    }
+    put_answer(answer, station::list::check_list(list));
+}
+
+// Checks list and sheet, and adds up the row bytes.
+#[no_mangle]
+pub extern "C" fn station_measure(list: &[u8], n: u64, sheet: &[u8], answer: &mut [u8])
+    ensures { λ _. ⌜ LentMeasured (now (list .entry)) n (now (sheet .entry)) (now (answer .entry)) (now (answer .exit)) ⌝ }
+{
+    if answer.len() < ANSWER_BYTES {
+        return;
+    }
+    put_answer(answer, station::measure::measure(list, n, sheet));
+}
+
+// Writes the rows of a sheet, and their offsets.
+#[no_mangle]
+pub extern "C" fn station_encode(
+    list: &[u8],
+    n: u64,
+    sheet: &[u8],
+    rows: &mut [u8],
+    offsets: &mut [u8],
+    answer: &mut [u8],
+)
+    ensures { λ _. ⌜ LentEncoded (now (list .entry)) n (now (sheet .entry)) (now (rows .entry)) (now (offsets .entry)) (now (answer .entry))
+        (now (rows .exit)) (now (offsets .exit)) (now (answer .exit)) ⌝ }
+{
+    if answer.len() < ANSWER_BYTES {
+        return;
+    }
+    let mut numbers = [0u64; MAX_OFFSETS];
+    let k = used_offsets(n, offsets.len());
+    let r = encode_bytes(list, n, sheet, rows, offsets, &mut numbers[..k]);
+    put_answer(answer, r);
+}
+
+// Checks rows, and writes their cleared sheet.
+#[no_mangle]
+pub extern "C" fn station_decode(
+    list: &[u8],
+    n: u64,
+    rows: &[u8],
+    offsets: &[u8],
+    sheet: &mut [u8],
+    answer: &mut [u8],
+)
+    ensures { λ _. ⌜ LentDecoded (now (list .entry)) n (now (rows .entry)) (now (offsets .entry)) (now (sheet .entry)) (now (answer .entry))
+        (now (sheet .exit)) (now (answer .exit)) ⌝ }
+{
+    if answer.len() < ANSWER_BYTES {
+        return;
+    }
+    let mut numbers = [0u64; MAX_OFFSETS];
+    let k = used_offsets(n, offsets.len());
+    let r = decode_bytes(list, n, rows, offsets, sheet, &mut numbers[..k]);
+    put_answer(answer, r);
+}
+
+// Compares any bytes.
+#[no_mangle]
+pub extern "C" fn station_compare(a: &[u8], b: &[u8]) -> i32
+    ensures { λ r. ⌜ Compared (now (a .entry)) (now (b .entry)) r ⌝ }
+{
+    station::compare::compare(a, b)
+}
