@@ -18,6 +18,7 @@ use Rattle.format.specs.Field.{directed, blockSize}
 use Rattle.format.specs.Read.{Parsed, got, fault, allZero, fromBad, readBlock, readBlocks}
 use Rattle.laws.proofs.Directed.{length-directed}
 use Rattle.variable.specs.Counted.{blocksRead, blockAt, counted, Ended}
+use Rattle.variable.proofs.Padding.{drop-take}
 
 -- what is read from block k on, at a place of t, with c bytes of the value before
 abbrev pub Rest : List ℕ → ℕ → ℕ → ℕ → Parsed (List ℕ)
@@ -79,13 +80,6 @@ bad-clear (y ∷ x) h = go (eqb y 0) refl h (bad-clear x)
     go : (b : Bool) → eqb y 0 ≡ b → 0 < cond b (fromBad x) (suc (length x)) → (0 < fromBad x → allZero x ≡ false) → allZero (y ∷ x) ≡ false
     go true e h ih = rw e (ih h)
     go false e h ih = rw e
-
--- the padding, as the padding's walk has it
-drop-take : (n m : ℕ) (l : List ℕ) → n ≤ m → drop n (take m l) ≡ take (m - n) (drop n l)
-drop-take zero m l h = ap (λ (k : ℕ). take k l) (sym (sub-zero m))
-drop-take (suc n) zero l h = absurd (omega arith)
-drop-take (suc n) (suc m) [] h = sym (take-nil (suc m - suc n))
-drop-take (suc n) (suc m) (x ∷ l) h = drop-take n m l (omega arith) ∙ ap (λ (k : ℕ). take k (drop n l)) (sym (suc-sub-suc m n))
 
 -- a fault is counted as itself
 faulty : (n c : ℕ) (f : RowFault) (l k : ℕ) (m : Parsed (List ℕ)) → l ≡ k → m ≡ fault f k → Fault f l ≡ counted n c m
