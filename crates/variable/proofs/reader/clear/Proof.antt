@@ -1,6 +1,6 @@
 -- `variable::reader::clear` meets its contract: each turn passes a word of zeros. Assumes nothing.
 use Prim.Native.Nat.{_-_}
-use mathlib.Core.Path.{sym, _∙_}
+use mathlib.Core.Path.{sym}
 use mathlib.Core.Bool.{true, false, false≢true}
 use native.Mathlib.Omega.{arith}
 use borrow.Author.Needs.{needs}
