@@ -1,6 +1,6 @@
 -- The bytes of a field as they are read and written under either direction: what stands where, and how many there are.
 -- Assumes nothing.
-use Prim.Native.Nat.{ℕ, zero, suc, _%_, _<_}
+use Prim.Native.Nat.{ℕ, zero, suc, _+_, _%_, _^_, _<_, _≤_}
 use mathlib.Core.Path.{_≡_, refl, sym, ap, _∙_}
 use mathlib.Core.Bool.{Bool, true, false, cond}
 use mathlib.Core.List.{List, [], _∷_, map}
@@ -10,7 +10,8 @@ use lib.ListN.{length, getD, take, drop, set}
 use lib.Seq.{sets}
 use Rattle.format.specs.Field.{directed}
 use Rattle.format.specs.Key.{invert}
-use Rattle.format.specs.Lists.{lowBytes}
+use Rattle.format.specs.Lists.{low, lowBytes}
+use Rattle.number.proofs.Words.{low-lowBytes, read-back}
 
 -- one byte, inverted under descending
 abbrev pub turn : Bool → ℕ → ℕ
@@ -57,3 +58,10 @@ directed-one false x = refl
 
 pub stored-byte : (d : Bool) (x r : ℕ) (l : List ℕ) (i : ℕ) → x < 256 → r < 256 → lowBytes 1 r ≡ directed d (lowBytes 1 x) → set l i r ≡ sets l i (directed d (x ∷ []))
 stored-byte d x r l i hx hr e = ap (set l i) (turned d x r hx hr e) ∙ ap (sets l i) (sym (directed-one d x))
+
+-- a word of a row that was read and turned
+pub turned-word : (d : Bool) (l : List ℕ) (i w x y : ℕ) → ((j : ℕ) → getD l j 0 < 256) → i + w ≤ length l → y < 256 ^ w → x ≡ low (take w (drop i l)) → lowBytes w y ≡ directed d (lowBytes w x)
+    → y ≡ low (take w (drop i (directed d l)))
+turned-word d l i w x y b inside h e f =
+    sym (low-lowBytes w y h)
+    ∙ ap low (f ∙ ap (directed d) (read-back w l i x b inside e) ∙ directed-take d w (drop i l) ∙ ap (take w) (directed-drop d i l))

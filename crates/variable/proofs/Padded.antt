@@ -1,9 +1,11 @@
 -- Bytes with zeros past their end: a block's data and padding, and what a word of them spells. Assumes nothing.
-use Prim.Native.Nat.{ℕ, zero, suc, _+_, _-_, _*_, _^_, _<_, _≤_}
+use Prim.Native.Nat.{ℕ, zero, suc, _+_, _-_, _*_, _/_, _^_, _<_, _≤_}
 use mathlib.Core.Path.{_≡_, refl, sym, ap, _∙_}
 use mathlib.Core.List.{List, [], _∷_, _++_}
-use native.Mathlib.Nat.{zero-add, suc-add, sub-zero, suc-sub-suc, pow-succ'}
+use native.Mathlib.Nat.{zero-add, suc-add, sub-zero, suc-sub-suc, pow-succ', div-one}
 use native.Mathlib.Omega.{arith}
+use lib.Arith.{digits-div}
+use lib.Pow.{shr-shr}
 use lib.ListN.{length, getD, take, drop, replicate, length-drop}
 use lib.Seq.{drop-cons, drop-drop, drop-nil, take-nil}
 use Rattle.format.specs.Field.{block}
@@ -79,3 +81,13 @@ word-more l i x h m e =
 -- eight of them fit a word
 pub word-fits : (l : List ℕ) (i : ℕ) → Bytes l → length l ≤ i + 8 → low (drop i l) < 256 ^ 8
 word-fits l i b h = low-fits 8 (drop i l) (bytes-drop i l b) (omega (arith, length-drop i l))
+
+-- the bytes above the n lowest
+pub top-bytes : (n : ℕ) (l : List ℕ) → Bytes l → n ≤ length l → low l / 2 ^ (8 * n) ≡ low (drop n l)
+top-bytes zero l b h = div-one (low l)
+top-bytes (suc n) [] b h = absurd (omega arith)
+top-bytes (suc n) (x ∷ l) b h =
+    ap (λ (k : ℕ). (x + 256 * low l) / 2 ^ k) {x = 8 * suc n} {y = 8 + 8 * n} (omega arith)
+    ∙ sym (shr-shr (x + 256 * low l) 8 (8 * n))
+    ∙ ap (λ (k : ℕ). k / 2 ^ (8 * n)) (ap (λ (k : ℕ). k / 256) {x = x + 256 * low l} {y = low l * 256 + x} (omega arith) ∙ digits-div (low l) (b .0))
+    ∙ top-bytes n l (b .1) (omega arith)

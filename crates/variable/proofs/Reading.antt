@@ -3,12 +3,11 @@ use Prim.Native.Nat.{ℕ, zero, suc, _+_, _-_, _%_, _<_, _≤_}
 use mathlib.Core.Path.{_≡_, refl, sym, ap, ap₂, _∙_, subst}
 use mathlib.Core.Bool.{Bool, true, false, cond}
 use mathlib.Core.List.{List, [], _∷_}
-use native.Mathlib.Nat.{sub-zero, suc-sub-suc}
 use native.Mathlib.Numerals.{add-one}
 use native.Mathlib.Omega.{arith}
 use lib.Dec.{ltb, eqb}
 use lib.ListN.{length, getD, take, drop, length-drop}
-use lib.Seq.{drop-drop, getD-drop, length-take-le, take-nil}
+use lib.Seq.{drop-drop, getD-drop, length-take-le}
 use borrow.Author.Tests.{lt-ltb, le-ltb, le-leb, lt-leb, ne-eqb}
 use Rattle.format.specs.declared.RowFault.{RowFault}
 use Rattle.format.specs.declared.RowFault.the-variants.{Cut, EndByte, Padding, TooLong}
@@ -18,6 +17,7 @@ use Rattle.format.specs.Field.{directed, blockSize}
 use Rattle.format.specs.Read.{Parsed, got, fault, allZero, fromBad, readBlock, readBlocks}
 use Rattle.laws.proofs.Directed.{length-directed}
 use Rattle.variable.specs.Counted.{blocksRead, blockAt, counted, Ended}
+use Rattle.variable.proofs.Padding.{drop-take}
 
 -- what is read from block k on, at a place of t, with c bytes of the value before
 abbrev pub Rest : List ℕ → ℕ → ℕ → ℕ → Parsed (List ℕ)
@@ -79,13 +79,6 @@ bad-clear (y ∷ x) h = go (eqb y 0) refl h (bad-clear x)
     go : (b : Bool) → eqb y 0 ≡ b → 0 < cond b (fromBad x) (suc (length x)) → (0 < fromBad x → allZero x ≡ false) → allZero (y ∷ x) ≡ false
     go true e h ih = rw e (ih h)
     go false e h ih = rw e
-
--- the padding, as the padding's walk has it
-drop-take : (n m : ℕ) (l : List ℕ) → n ≤ m → drop n (take m l) ≡ take (m - n) (drop n l)
-drop-take zero m l h = ap (λ (k : ℕ). take k l) (sym (sub-zero m))
-drop-take (suc n) zero l h = absurd (omega arith)
-drop-take (suc n) (suc m) [] h = sym (take-nil (suc m - suc n))
-drop-take (suc n) (suc m) (x ∷ l) h = drop-take n m l (omega arith) ∙ ap (λ (k : ℕ). take k (drop n l)) (sym (suc-sub-suc m n))
 
 -- a fault is counted as itself
 faulty : (n c : ℕ) (f : RowFault) (l k : ℕ) (m : Parsed (List ℕ)) → l ≡ k → m ≡ fault f k → Fault f l ≡ counted n c m

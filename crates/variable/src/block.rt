@@ -10,7 +10,7 @@ pub const BLOCK_SIZE: usize = 32;
 pub const MINI_BLOCK_COUNT: usize = 4;
 
 // The size of each of those.
-pub const MINI_BLOCK_SIZE: usize = 8;
+pub const MINI_BLOCK_SIZE: usize = BLOCK_SIZE / MINI_BLOCK_COUNT;
 
 // The end byte of a block that more follow.
 pub const BLOCK_CONTINUATION: u8 = 0xFF;

@@ -29,6 +29,7 @@ pub fn encode_null(out: &mut [u8], at: usize, options: SortOptions) -> usize
     at + 1
 }
 
+// A byte as a word.
 fn wide(x: u8) -> u64
     ensures { λ r. ⌜ r ≡ x ⌝ }
 {

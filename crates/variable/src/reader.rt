@@ -1,6 +1,7 @@
 // The count walk: what the field in front of a row is, how long it and its value are, or what is wrong with it. Total on
 // any bytes; bytes are inverted back as they are read.
 ghost use mathlib.Core.Path.{_≡_};
+ghost use mathlib.Core.Bool.{true};
 ghost use Prim.Native.Nat.{_+_, _-_, _<_, _≤_};
 ghost use lib.ListN.{length, take, drop};
 ghost use Rattle.format.specs.Limits.{maxSlot};
@@ -18,6 +19,34 @@ use format::MAX_SLOT;
 use format::RowFault;
 use format::SortOptions;
 use format::null_sentinel;
+use number::directed64;
+use number::low64;
+
+// Whether the bytes from `from` up to `to` are zeros, inverted back: whole words, then the top bytes of the word that ends
+// at `to`. It says no where that word would begin before the row.
+fn clear(row: &[u8], from: usize, to: usize, descending: bool) -> bool
+    requires { ⌜ from ≤ to ⌝ }
+    requires { ⌜ to ≤ length (now row) ⌝ }
+    ensures { λ r. ⌜ (r ≡ true → fromBad (take (to - from) (drop from (directed descending (now (row .entry))))) ≡ 0) ⌝ }
+{
+    let mut i = from;
+    while 8 <= to - i {
+        let word = directed64(descending, low64(row, i));
+        if word != 0 {
+            return false;
+        }
+        i += 8;
+    }
+    let left = to - i;
+    if left == 0 {
+        return true;
+    }
+    if to < 8 {
+        return false;
+    }
+    let word = directed64(descending, low64(row, to - 8));
+    word >> (8 * (8 - left)) == 0
+}
 
 // How many bytes there are before `to` from the first that is not zero on, of those from `from` on.
 fn unpadded(row: &[u8], from: usize, to: usize, descending: bool) -> usize
@@ -25,6 +54,9 @@ fn unpadded(row: &[u8], from: usize, to: usize, descending: bool) -> usize
     requires { ⌜ to ≤ length (now row) ⌝ }
     ensures { λ r. ⌜ r ≡ fromBad (take (to - from) (drop from (directed descending (now (row .entry))))) ⌝ }
 {
+    if clear(row, from, to, descending) {
+        return 0;
+    }
     let mut i = from;
     while i < to {
         let byte = byte_at(row, i, descending);

@@ -38,18 +38,6 @@ full c =
     let s = c .before .before in
     full-room (s .before .loop .inv) (s .block-size .result) (s .block-size .ensures) (c .before .byte-at .result) (c .before .byte-at .ensures) (c .if1 .left) (s .before .before .before .before .pre .1)
 
-add-copy-bytes : tie.Need-add-copy-bytes Inv-loop μ-loop
-add-copy-bytes c = omega (arith, last (c .before))
-
-add-t16 : tie.Need-add-t16 Inv-loop μ-loop
-add-t16 c = omega (arith, there (c .before .before .before .before .before .before .before))
-
-add-t17 : tie.Need-add-t17 Inv-loop μ-loop
-add-t17 c = omega (arith, there (c .before .before .before .before .before .before .before))
-
-add-t18 : tie.Need-add-t18 Inv-loop μ-loop
-add-t18 c = omega (arith, last (c .before .before .before .before))
-
 same-length : tie.Need-same-length Inv-loop μ-loop
 same-length c = c .before .before .copy-bytes .kept .1 .1 .1 .1 .0 ∙ c .before .before .before .before .before .before .before .before .loop .inv .wrote .same
 
@@ -62,28 +50,10 @@ returns c =
     let v = last-value (s .before .loop .inv) (s .block-size .result) (s .block-size .ensures) (w .wide .result) e n _ (c .before .before .copy-bytes .ensures) in
     (last-field (s .before .loop .inv) (s .block-size .result) (s .block-size .ensures) (w .wide .result) e n, v)
 
-add-copy-words : tie.Need-add-copy-words Inv-loop μ-loop
-add-copy-words c = omega (arith, full (c .before))
-
 copy-words-requires : tie.Need-copy-words-requires Inv-loop μ-loop
 copy-words-requires c κs =
     let s = c .before .before .before in
     (size-words (s .before .loop .k) (s .block-size .result) (s .block-size .ensures), (omega (arith, there s), full (c .before)))
-
-add-from : tie.Need-add-from Inv-loop μ-loop
-add-from c = omega (arith, there (c .before .before .before .before .before .before))
-
-add-from-2 : tie.Need-add-from-2 Inv-loop μ-loop
-add-from-2 c = omega (arith, there (c .before .before .before .before .before .before))
-
-add-k : tie.Need-add-k Inv-loop μ-loop
-add-k c = omega (arith, there (c .before .before .before .before .before .before))
-
-add-count : tie.Need-add-count Inv-loop μ-loop
-add-count c = omega (arith, full (c .before .before .before .before))
-
-loop-less : tie.Need-loop-less Inv-loop μ-loop
-loop-less c = omega (arith, there (c .before .before .before .before .before .before))
 
 loop-again : tie.Need-loop-again Inv-loop μ-loop
 loop-again c =
@@ -103,18 +73,18 @@ copy-blocks-spec =
     (λ c. omega (arith, there c))
     (λ c κs. there c)
     (λ c κs. search needs)
-    add-copy-bytes
+    (λ c. omega (arith, last (c .before)))
     (λ c κs. last (c .before))
-    add-t16
-    add-t17
-    add-t18
+    (λ c. omega (arith, there (c .before .before .before .before .before .before .before)))
+    (λ c. omega (arith, there (c .before .before .before .before .before .before .before)))
+    (λ c. omega (arith, last (c .before .before .before .before)))
     same-length
     returns
-    add-copy-words
+    (λ c. omega (arith, full (c .before)))
     copy-words-requires
-    add-from
-    add-from-2
-    add-k
-    add-count
-    loop-less
+    (λ c. omega (arith, there (c .before .before .before .before .before .before)))
+    (λ c. omega (arith, there (c .before .before .before .before .before .before)))
+    (λ c. omega (arith, there (c .before .before .before .before .before .before)))
+    (λ c. omega (arith, full (c .before .before .before .before)))
+    (λ c. omega (arith, there (c .before .before .before .before .before .before)))
     loop-again)

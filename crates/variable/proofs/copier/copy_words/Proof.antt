@@ -16,27 +16,6 @@ abbrev μ-loop : tie.MeasureT-loop
 loop-holds : tie.Need-loop-holds Inv-loop μ-loop
 loop-holds c = (copy-start _ _ _ _ _ _, refl)
 
-add-low64 : tie.Need-add-low64 Inv-loop μ-loop
-add-low64 c = omega arith
-
-low64-requires : tie.Need-low64-requires Inv-loop μ-loop
-low64-requires c κs = omega arith
-
-add-put64 : tie.Need-add-put64 Inv-loop μ-loop
-add-put64 c = omega arith
-
-directed64-requires : tie.Need-directed64-requires Inv-loop μ-loop
-directed64-requires c κs = search needs
-
-put64-requires : tie.Need-put64-requires Inv-loop μ-loop
-put64-requires c κs = omega (arith, c .before .before .before .before .loop .inv .0 .wrote .same)
-
-add-i : tie.Need-add-i Inv-loop μ-loop
-add-i c = omega arith
-
-loop-less : tie.Need-loop-less Inv-loop μ-loop
-loop-less c = omega arith
-
 loop-again : tie.Need-loop-again Inv-loop μ-loop
 loop-again c =
     let turn = c .before .before .before in
@@ -49,9 +28,6 @@ loop-again c =
       omega arith,
     )
 
-same-length : tie.Need-same-length Inv-loop μ-loop
-same-length c = c .before .loop .inv .0 .wrote .same
-
 returns : tie.Need-returns Inv-loop μ-loop
 returns c = copy-end (c .before .loop .inv .0) (search needs)
 
@@ -62,13 +38,13 @@ copy-words-spec =
     Inv-loop
     μ-loop
     loop-holds
-    add-low64
-    low64-requires
-    add-put64
-    directed64-requires
-    put64-requires
-    add-i
-    loop-less
+    (λ c. omega arith)
+    (λ c κs. omega arith)
+    (λ c. omega arith)
+    (λ c κs. search needs)
+    (λ c κs. omega (arith, c .before .before .before .before .loop .inv .0 .wrote .same))
+    (λ c. omega arith)
+    (λ c. omega arith)
     loop-again
-    same-length
+    (λ c. c .before .loop .inv .0 .wrote .same)
     returns)

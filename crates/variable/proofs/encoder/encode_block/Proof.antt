@@ -17,18 +17,6 @@ abbrev μ-loop : tie.MeasureT-loop
 loop-holds : tie.Need-loop-holds Inv-loop μ-loop
 loop-holds c = (fill-start _ _ _ _ _ _ (c .before .before .pre .0), refl)
 
-add-put64 : tie.Need-add-put64 Inv-loop μ-loop
-add-put64 c = omega arith
-
-put64-requires : tie.Need-put64-requires Inv-loop μ-loop
-put64-requires c κs = omega (arith, c .before .before .before .before .loop .inv .0 .wrote .same)
-
-add-i : tie.Need-add-i Inv-loop μ-loop
-add-i c = omega arith
-
-loop-less : tie.Need-loop-less Inv-loop μ-loop
-loop-less c = omega arith
-
 loop-again : tie.Need-loop-again Inv-loop μ-loop
 loop-again c =
     let turn = c .before .before .before in
@@ -39,9 +27,6 @@ loop-again c =
           (bytes-of (known .before .before .args .input .now) (λ i. known .shared-slice-known .given i .fits)) (turn .before .before .word-at .ensures) (turn .directed64 .ensures)),
       omega arith,
     )
-
-put-byte-requires : tie.Need-put-byte-requires Inv-loop μ-loop
-put-byte-requires c κs = omega (arith, c .before .before .loop .inv .0 .wrote .same)
 
 same-length : tie.Need-same-length Inv-loop μ-loop
 same-length c = c .before .before .put-byte .kept .0 ∙ c .before .before .before .before .before .loop .inv .0 .wrote .same
@@ -57,13 +42,13 @@ encode-block-spec =
     μ-loop
     loop-holds
     (λ c κs. search needs)
-    add-put64
+    (λ c. omega arith)
     (λ c κs. search needs)
-    put64-requires
-    add-i
-    loop-less
+    (λ c κs. omega (arith, c .before .before .before .before .loop .inv .0 .wrote .same))
+    (λ c. omega arith)
+    (λ c. omega arith)
     loop-again
     (λ c. search needs)
-    put-byte-requires
+    (λ c κs. omega (arith, c .before .before .loop .inv .0 .wrote .same))
     same-length
     returns)

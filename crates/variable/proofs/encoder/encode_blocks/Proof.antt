@@ -31,9 +31,6 @@ encode-block-requires c κs =
     let s = c .before .before .before .before .before .before in
     (omega (arith, length-take (L .i + s .args .size - L .i) (drop (L .i) (s .args .val .now))), (s .pre .0 .2, full (c .before .before)))
 
-add-place-2 : tie.Need-add-place-2 Inv-loop μ-loop
-add-place-2 c = omega (arith, full (c .before .before .before .before .before))
-
 loop-again : tie.Need-loop-again Inv-loop μ-loop
 loop-again c =
     let t = c .before .before .before .before .before in
@@ -45,9 +42,6 @@ encode-block-requires-2 c κs =
     let L = c .before .before .before .loop in
     let s = c .before .before .before .before .before .before in
     (omega (arith, length-take (length (s .args .val .now) - L .i) (drop (L .i) (s .args .val .now))), (s .pre .0 .2, last (c .before .before)))
-
-add-result : tie.Need-add-result Inv-loop μ-loop
-add-result c = omega (arith, last (c .before .before .before .before .before))
 
 same-length : tie.Need-same-length Inv-loop μ-loop
 same-length c = c .before .before .encode-block2 .kept .0 ∙ c .before .before .before .before .before .before .loop .inv .wrote .same
@@ -71,7 +65,7 @@ encode-blocks-spec =
     (λ c. search needs)
     encode-block-requires
     (λ c. search needs)
-    add-place-2
+    (λ c. omega (arith, full (c .before .before .before .before .before)))
     (λ c. search needs)
     (λ c. search needs)
     loop-again
@@ -81,7 +75,7 @@ encode-blocks-spec =
     (λ c. search needs)
     (λ c. search needs)
     encode-block-requires-2
-    add-result
+    (λ c. omega (arith, last (c .before .before .before .before .before)))
     (λ c. omega (arith, last (c .before .before .before .before .before)))
     same-length
     returns)

@@ -20,9 +20,6 @@ abbrev μ-loop : tie.MeasureT-loop
 loop-holds : tie.Need-loop-holds Inv-loop μ-loop
 loop-holds c = (search needs, omega arith, sym (ap low (drop-length (c .before .args .input .now))))
 
-sub-i : tie.Need-sub-i Inv-loop μ-loop
-sub-i c = search needs
-
 -- the next number, and that it fits
 turn : (c : tie.In-loop Inv-loop μ-loop)
     → (256 * c .before .loop .x + getD (c .before .before .before .args .input .now) (c .before .loop .i - 1) 0 ≡ low (drop (c .before .loop .i - 1) (c .before .before .before .args .input .now)))
@@ -34,21 +31,6 @@ turn c =
       word-more l (L .i) (L .x) (omega arith) (L .inv .1) (L .inv .2),
       word-fits l (L .i - 1) (bytes-of l (λ i. known .shared-slice-known .given i .fits)) (omega arith),
     )
-
-mul-x : tie.Need-mul-x Inv-loop μ-loop
-mul-x c = omega (arith, turn c)
-
-shared-slice-read-wide : tie.Need-shared-slice-read-wide Inv-loop μ-loop
-shared-slice-read-wide c = search needs
-
-wide-requires : tie.Need-wide-requires Inv-loop μ-loop
-wide-requires c κs = search needs
-
-add-x : tie.Need-add-x Inv-loop μ-loop
-add-x c = omega (arith, turn (c .before .before), c .wide .ensures)
-
-loop-less : tie.Need-loop-less Inv-loop μ-loop
-loop-less c = search needs
 
 loop-again : tie.Need-loop-again Inv-loop μ-loop
 loop-again c =
@@ -66,11 +48,11 @@ last-word-spec =
     Inv-loop
     μ-loop
     loop-holds
-    sub-i
-    mul-x
-    shared-slice-read-wide
-    wide-requires
-    add-x
-    loop-less
+    (λ c. search needs)
+    (λ c. omega (arith, turn c))
+    (λ c. search needs)
+    (λ c κs. search needs)
+    (λ c. omega (arith, turn (c .before .before), c .wide .ensures))
+    (λ c. search needs)
     loop-again
     returns)

@@ -15,35 +15,26 @@ Inv-loop row from to descending i₀ i = Clear (directed descending row) from to
 abbrev μ-loop : tie.MeasureT-loop
 μ-loop row from to descending i₀ i = to - i
 
+returns : tie.Need-returns Inv-loop μ-loop
+returns c = sym (c .before .clear .ensures (c .if1 .taken))
+
 loop-holds : tie.Need-loop-holds Inv-loop μ-loop
 loop-holds c = clear-start _ _ _ (search needs)
 
-byte-at-requires : tie.Need-byte-at-requires Inv-loop μ-loop
-byte-at-requires c κs = search needs
-
-sub-result : tie.Need-sub-result Inv-loop μ-loop
-sub-result c = search needs
-
-returns : tie.Need-returns Inv-loop μ-loop
-returns c =
+returns-2 : tie.Need-returns-2 Inv-loop μ-loop
+returns-2 c =
     let L = c .before .before .before in
-    let A = L .before .before .args in
-    clear-bad (L .loop .inv) (search needs) (omega (arith, length-directed (A .descending) (A .row .now))) (λ z. c .if1 .taken (c .before .byte-at .ensures ∙ z))
-
-add-i : tie.Need-add-i Inv-loop μ-loop
-add-i c = search needs
-
-loop-less : tie.Need-loop-less Inv-loop μ-loop
-loop-less c = search needs
+    let A = L .before .before .before .before .args in
+    clear-bad (L .loop .inv) (search needs) (omega (arith, length-directed (A .descending) (A .row .now))) (λ z. c .if2 .taken (c .before .byte-at .ensures ∙ z))
 
 loop-again : tie.Need-loop-again Inv-loop μ-loop
 loop-again c =
     let L = c .before .before .before in
-    let A = L .before .before .args in
-    clear-more (L .loop .inv) (search needs) (omega (arith, length-directed (A .descending) (A .row .now))) (sym (c .before .byte-at .ensures) ∙ c .if1 .left)
+    let A = L .before .before .before .before .args in
+    clear-more (L .loop .inv) (search needs) (omega (arith, length-directed (A .descending) (A .row .now))) (sym (c .before .byte-at .ensures) ∙ c .if2 .left)
 
-returns-2 : tie.Need-returns-2 Inv-loop μ-loop
-returns-2 c = clear-end (c .before .loop .inv) (search needs)
+returns-3 : tie.Need-returns-3 Inv-loop μ-loop
+returns-3 c = clear-end (c .before .loop .inv) (search needs)
 
 pub unpadded-spec : {M : Type 1} → statement M
 unpadded-spec =
@@ -51,11 +42,13 @@ unpadded-spec =
     (tie.spec
     Inv-loop
     μ-loop
-    loop-holds
-    byte-at-requires
-    sub-result
+    (λ c κs. search needs)
     returns
-    add-i
-    loop-less
+    loop-holds
+    (λ c κs. search needs)
+    (λ c. search needs)
+    returns-2
+    (λ c. search needs)
+    (λ c. search needs)
     loop-again
-    returns-2)
+    returns-3)
