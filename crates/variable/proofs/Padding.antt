@@ -12,7 +12,7 @@ use lib.Seq.{drop-cons, drop-drop, length-take-le, take-add, take-nil}
 use borrow.Author.Tests.{eq-eqb, ne-eqb}
 use Rattle.format.specs.Lists.{Bytes, low}
 use Rattle.format.specs.Read.{fromBad}
-use Rattle.laws.proofs.Bytes.{bytes-drop, bytes-take}
+use Rattle.basics.proofs.Bytes.{bytes-drop, bytes-take}
 use Rattle.variable.proofs.Padded.{top-bytes}
 
 -- a part's part

@@ -6,7 +6,7 @@ use native.Mathlib.Omega.{arith}
 use borrow.Author.Needs.{needs}
 use borrow.Author.Tests.{eqb-true}
 use Rattle.format.specs.Field.{directed}
-use Rattle.laws.proofs.Bytes.{bytes-of}
+use Rattle.basics.proofs.Bytes.{bytes-of}
 use Rattle.laws.proofs.Directed.{bytes-directed, length-directed}
 use Rattle.variable.proofs.Direction.{turned-word}
 use Rattle.variable.proofs.Padding.{Clear, clear-start, clear-end, clear-word, clear-top}
