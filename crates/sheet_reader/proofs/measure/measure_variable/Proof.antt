@@ -24,7 +24,7 @@ most c = variable-most _ _ (bytes-of (c .before .args .part .now) (λ i. c .shar
 variable-length-requires : tie.Need-variable-length-requires Inv-loop μ-loop
 variable-length-requires c κs =
     let y = c .before .before .before in
-    ((y .pre .0, omega (arith, c .loop-test .taken)), y .pre .1)
+    ((y .pre .0, c .loop-test .taken), y .pre .1)
 
 add-total : tie.Need-add-total Inv-loop μ-loop
 add-total c =
