@@ -1,6 +1,6 @@
--- The ways out of `encode`: what each answers and leaves in the buffers. Assumes nothing.
+-- What `encode` answers and leaves in the buffers: where list, 6 or sheet refuses, and where 12, 13 and 14 are asked. Assumes nothing.
 use Prim.Native.Nat.{ℕ, suc, _+_, _<_, _≤_}
-use mathlib.Core.Path.{_≡_, sym, ap, _∙_}
+use mathlib.Core.Path.{_≡_, refl, sym, ap, _∙_}
 use mathlib.Core.List.{List, map}
 use native.Mathlib.Numerals.{add-one}
 use native.Mathlib.Omega.{arith}
@@ -9,73 +9,92 @@ use lib.Seq.{sets}
 use borrow.Author.Tests.{lt-ltb, le-ltb}
 use Rattle.format.specs.declared.Refusal.{Refusal}
 use Rattle.format.specs.declared.Refusal.the-variants.{RowRoom, OffsetRoom}
+use Rattle.format.specs.declared.Check.{Check}
 use Rattle.format.specs.declared.Check.the-variants.{Pass, Refuse}
 use Rattle.format.specs.declared.Column.{Column}
-use Rattle.format.specs.declared.Answer.the-variants.{Done, Refused}
+use Rattle.format.specs.declared.Answer.the-variants.{Refused}
+use Rattle.format.specs.Check.{both}
 use Rattle.format.specs.Lists.{joined, endsFrom}
 use Rattle.format.specs.Columns.{columns}
 use Rattle.format.specs.Schemas.{colsOf}
 use Rattle.format.specs.Row.{row}
 use Rattle.format.specs.Sheet.{sheetSlots, turned}
-use Rattle.format.specs.Entries.{sheetRows, sheetTotal, measureCheck, encodeCheck, encodeAnswer, encodeRows, encodeOffsets}
+use Rattle.format.specs.Entries.{sheetRows, sheetTotal, totalFault, answer, written, encodeCheck, encodeAnswer, encodeRows, encodeOffsets}
 use Rattle.format.specs.Promises.{Encoded}
-use Rattle.laws.proofs.Accept.{encode-answers, encode-rows, encode-offsets}
 use Rattle.basics.proofs.Append.{over-sets}
+use Rattle.basics.proofs.Checks.{enough, both-pass}
 use Rattle.basics.proofs.Lists.{length-each, length-ends}
 use Rattle.station.specs.declared.measure.Measuring.{Measuring}
-use Rattle.station.specs.Measuring.{Found, Measures}
+use Rattle.station.specs.Measuring.{batchCheck, roomFault, Found, Measures}
+use Rattle.station.proofs.Measuring.{both-grouped, batch-first}
 
 -- a sheet of n rows gives n of them
 rows-many : (n : ℕ) (cols : List Column) (sheet : List ℕ) → length (sheetRows n cols sheet) ≡ n
 rows-many n cols sheet = length-map (turned n (sheetSlots n cols sheet)) (row cols) ∙ length-each 0 n _
+
+-- what the writing walk puts in front, where nothing is at fault
+front : (fault : Check) (new old end : List ℕ) → fault ≡ Pass → length new ≤ length old → end ≡ sets old 0 new → end ≡ written fault new old
+front fault new old end e h w = rw e (w ∙ sym (over-sets new old h))
+
+pub rows-written : (n : ℕ) (cols : List Column) (sheet : List ℕ) (fault : Check) (old end : List ℕ) → fault ≡ Pass → sheetTotal n cols sheet ≤ length old
+    → end ≡ sets old 0 (joined (sheetRows n cols sheet)) → end ≡ written fault (joined (sheetRows n cols sheet)) old
+rows-written n cols sheet fault old end e h = front fault (joined (sheetRows n cols sheet)) old end e h
+
+pub ends-written : (n : ℕ) (cols : List Column) (sheet : List ℕ) (fault : Check) (old end : List ℕ) → fault ≡ Pass → n < length old
+    → end ≡ sets old 0 (endsFrom 0 (sheetRows n cols sheet)) → end ≡ written fault (endsFrom 0 (sheetRows n cols sheet)) old
+ends-written n cols sheet fault old end e h =
+    front fault (endsFrom 0 (sheetRows n cols sheet)) old end e (omega (arith, h, length-ends 0 (sheetRows n cols sheet), rows-many n cols sheet))
+
+-- two checks made one after the other
+pub in-order : (x y first second fault : Check) → x ≡ first → y ≡ second → fault ≡ both x y → fault ≡ both first second
+in-order x y first second fault p q e = rw (← p, ← q) e
+
+-- ---- 13, 14
+module _ (total room n ends : ℕ) where
+  pub small-rows : room < total → Refuse (RowRoom total) ≡ roomFault total room n ends
+  small-rows h = rw (lt-ltb room total h)
+
+  pub few-offsets : total ≤ room → ends < n + 1 → Refuse (OffsetRoom (n + 1)) ≡ roomFault total room n ends
+  few-offsets r h = rw (le-ltb room total r, add-one n, lt-ltb ends (suc n) (omega arith))
+
+  pub enough-room : total ≤ room → n + 1 ≤ ends → Pass ≡ roomFault total room n ends
+  enough-room r h = rw (le-ltb room total r, le-ltb ends (suc n) (omega arith))
+
+  -- where 12, 13 and 14 pass there is room
+  pub has-room : (fault : Check) → fault ≡ both (totalFault total) (roomFault total room n ends) → fault ≡ Pass → (total ≤ room) × (n < ends)
+  has-room fault f e =
+      let r = enough room total (RowRoom total) _ (both-pass (totalFault total) _ (sym f ∙ e) .1) in
+      (r .0, enough ends (suc n) (OffsetRoom (suc n)) Pass (r .1) .0)
 
 -- a batch that passes has room where its total has: what the writing walk asks
 pub row-room : (list : List ℕ) (n : ℕ) (sheet : List ℕ) (m : Measuring) → Found list n sheet m → (room : ℕ) → m .total ≤ room
     → sheetTotal n (colsOf (m .schema)) sheet ≤ room
 row-room list n sheet m f room l = omega (arith, f .total, ap (λ (cs : List Column). sheetTotal n cs sheet) (f .sound .cols))
 
-module _ (list : List ℕ) (n : ℕ) (sheet rows offsets : List ℕ) where
+-- ---- what is answered and left in the buffers
+module _ (list : List ℕ) (n : ℕ) (sheet rows offsets : List ℕ) (m : Measuring) (h : Measures list n sheet m) where
+  -- list, 6 and sheet, then 12, 13 and 14
+  checks : encodeCheck list n sheet (length rows) (length offsets)
+      ≡ both (m .check) (both (totalFault (sheetTotal n (columns list) sheet)) (roomFault (sheetTotal n (columns list) sheet) (length rows) n (length offsets)))
+  unfolding encodeCheck
+  checks = rw (h .check, batch-first list n sheet) (sym (both-grouped (batchCheck list n sheet) _ _))
+
   -- a refusal writes nothing
-  refused : (x : Refusal) → encodeCheck list n sheet (length rows) (length offsets) ≡ Refuse x → Encoded list n sheet rows offsets (Refused x) rows offsets
+  pub bad-batch : (x : Refusal) → m .check ≡ Refuse x → Encoded list n sheet rows offsets (Refused x) rows offsets
   unfolding encodeAnswer encodeRows encodeOffsets
-  refused x e = record { answers = rw e; row-bytes = rw e; row-ends = rw e }
+  bad-batch x e =
+      let r : encodeCheck list n sheet (length rows) (length offsets) ≡ Refuse x = checks ∙ rw e in
+      record { answers = rw r; row-bytes = rw r; row-ends = rw r }
 
-  module _ (m : Measuring) (h : Measures list n sheet m) where
-    pub bad-batch : (x : Refusal) → m .check ≡ Refuse x → Encoded list n sheet rows offsets (Refused x) rows offsets
-    unfolding encodeCheck
-    bad-batch x e = refused x (rw (← h .check, e))
-
-    module _ (e : m .check ≡ Pass) where
-      total : sheetTotal n (columns list) sheet ≡ m .total
-      total = sym (h .found e .total)
-
-      pub small-rows : length rows < m .total → Encoded list n sheet rows offsets (Refused (RowRoom (m .total))) rows offsets
-      unfolding encodeCheck
-      small-rows l = refused (RowRoom (m .total)) (rw (← h .check, e, total, lt-ltb (length rows) (m .total) l))
-
-      module _ (r : m .total ≤ length rows) where
-        pub few-offsets : length offsets < n + 1 → Encoded list n sheet rows offsets (Refused (OffsetRoom (n + 1))) rows offsets
-        unfolding encodeCheck
-        few-offsets l = refused (OffsetRoom (n + 1)) (rw (← h .check, e, total, le-ltb (length rows) (m .total) r, add-one n, lt-ltb (length offsets) (suc n) (omega arith)))
-
-        module _ (o : n + 1 ≤ length offsets) where
-          passes : encodeCheck list n sheet (length rows) (length offsets) ≡ Pass
-          unfolding encodeCheck
-          passes = rw (← h .check, e, total, le-ltb (length rows) (m .total) r, le-ltb (length offsets) (suc n) (omega arith))
-
-          cols : colsOf (m .schema) ≡ columns list
-          cols = h .found e .sound .cols
-
-          pub done : (rows′ offsets′ : List ℕ) → rows′ ≡ sets rows 0 (joined (sheetRows n (colsOf (m .schema)) sheet))
-              → offsets′ ≡ sets offsets 0 (endsFrom 0 (sheetRows n (colsOf (m .schema)) sheet))
-              → Encoded list n sheet rows offsets (Done (m .total) (m .nulls)) rows′ offsets′
-          done rows′ offsets′ p q = record {
-            answers = rw (h .found e .total, h .found e .nulls) (sym (encode-answers list n sheet rows offsets passes));
-            row-bytes =
-                p ∙ ap (λ (cs : List Column). sets rows 0 (joined (sheetRows n cs sheet))) cols
-                ∙ sym (encode-rows list n sheet rows offsets passes ∙ over-sets (joined (sheetRows n (columns list) sheet)) rows (omega (arith, total, r)));
-            row-ends =
-                q ∙ ap (λ (cs : List Column). sets offsets 0 (endsFrom 0 (sheetRows n cs sheet))) cols
-                ∙ sym (encode-offsets list n sheet rows offsets passes ∙ over-sets (endsFrom 0 (sheetRows n (columns list) sheet)) offsets
-                (omega (arith, o, length-ends 0 (sheetRows n (columns list) sheet), rows-many n (columns list) sheet)));
-          }
+  module _ (e : m .check ≡ Pass) where
+    pub asked : (fault : Check) → fault ≡ both (totalFault (m .total)) (roomFault (m .total) (length rows) n (length offsets))
+        → Encoded list n sheet rows offsets (answer fault (m .total) (m .nulls)) (written fault (joined (sheetRows n (colsOf (m .schema)) sheet)) rows)
+        (written fault (endsFrom 0 (sheetRows n (colsOf (m .schema)) sheet)) offsets)
+    unfolding encodeAnswer encodeRows encodeOffsets
+    asked fault f =
+        let r : encodeCheck list n sheet (length rows) (length offsets) ≡ fault = checks ∙ rw (e, f, h .found e .total) refl in
+        record {
+          answers = rw (r, h .found e .total, h .found e .nulls) refl;
+          row-bytes = rw (r, h .found e .sound .cols) refl;
+          row-ends = rw (r, h .found e .sound .cols) refl;
+        }

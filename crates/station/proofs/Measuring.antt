@@ -1,20 +1,16 @@
--- The ways out of `measure_list` and `measure`: what each says of the batch. Assumes nothing.
-use Prim.Native.Nat.{ℕ, _<_, _≤_}
-use mathlib.Core.Path.{_≡_, refl, sym, ap, _∙_}
+-- The ways out of `measure_list`, and what `measure` answers. Assumes nothing.
+use Prim.Native.Nat.{ℕ}
+use mathlib.Core.Path.{_≡_, refl, sym, _∙_}
 use mathlib.Core.List.{List}
-use borrow.Author.Tests.{lt-ltb, le-ltb}
 use Rattle.format.specs.declared.Refusal.{Refusal}
-use Rattle.format.specs.declared.Refusal.the-variants.{ManyBytes}
 use Rattle.format.specs.declared.Check.{Check}
 use Rattle.format.specs.declared.Check.the-variants.{Pass, Refuse}
 use Rattle.format.specs.declared.Column.{Column}
-use Rattle.format.specs.declared.Answer.the-variants.{Done, Refused}
-use Rattle.format.specs.Limits.{maxTotal}
 use Rattle.format.specs.Check.{both}
 use Rattle.format.specs.Columns.{listFault, columns}
 use Rattle.format.specs.Schemas.{colsOf}
-use Rattle.format.specs.Sheet.{sheetFault, sheetSlots, nulls}
-use Rattle.format.specs.Entries.{rowCountFault, sheetTotal, totalFault, measureCheck, measureAnswer}
+use Rattle.format.specs.Sheet.{sheetFault}
+use Rattle.format.specs.Entries.{rowCountFault, sheetTotal, totalFault, measureCheck, measureAnswer, answer}
 use Rattle.format.specs.Promises.{Measured}
 use Rattle.basics.proofs.Checks.{refuse-pass}
 use Rattle.sheet_reader.specs.declared.list.Listed.{Listed}
@@ -22,22 +18,21 @@ use Rattle.sheet_reader.specs.declared.sheet.Sheeted.{Sheeted}
 use Rattle.sheet_reader.specs.Sheets.{SheetedAs}
 use Rattle.station.specs.declared.measure.Measuring.{Measuring}
 use Rattle.station.specs.Begun.{Begins}
-use Rattle.station.specs.Measuring.{Found, Measures}
+use Rattle.station.specs.Measuring.{batchCheck, Found, Measures}
 
 -- checks one after the other, grouped either way
 pub both-grouped : (x y z : Check) → both x (both y z) ≡ both (both x y) z
 both-grouped Pass y z = refl
 both-grouped (Refuse r) y z = refl
 
--- ---- list, 6, sheet, 12
+-- ---- list, 6, sheet
 module _ (list : List ℕ) (n : ℕ) (sheet : List ℕ) where
   -- a refusal of the batch says no more
-  refused : (m : Measuring) (x : Refusal) → measureCheck list n sheet ≡ Refuse x → m .check ≡ Refuse x → Measures list n sheet m
+  refused : (m : Measuring) (x : Refusal) → batchCheck list n sheet ≡ Refuse x → m .check ≡ Refuse x → Measures list n sheet m
   refused m x e a = record { check = a ∙ sym e; found = λ p. absurd (refuse-pass (sym a ∙ p)) }
 
   module _ (b : Listed) (begun : Begins list n b) where
-    grouped : measureCheck list n sheet ≡ both (b .check) (both (sheetFault n (columns list) sheet) (totalFault (sheetTotal n (columns list) sheet)))
-    unfolding measureCheck
+    grouped : batchCheck list n sheet ≡ both (b .check) (sheetFault n (columns list) sheet)
     grouped = both-grouped (listFault list) (rowCountFault n) _ ∙ rw (begun .check)
 
     pub bad-begin : (m : Measuring) (x : Refusal) → b .check ≡ Refuse x → m .check ≡ Refuse x → Measures list n sheet m
@@ -53,35 +48,38 @@ module _ (list : List ℕ) (n : ℕ) (sheet : List ℕ) where
       pub bad-sheet : (m : Measuring) (x : Refusal) → r .check ≡ Refuse x → m .check ≡ Refuse x → Measures list n sheet m
       bad-sheet m x f a = refused m x (grouped ∙ rw (e, fault, f)) a
 
-      module _ (f : r .check ≡ Pass) (total : ℕ) (t : total ≡ sheetTotal n (colsOf (b .schema)) sheet) where
-        sums : sheetTotal n (columns list) sheet ≡ total
-        sums = rw (← cols) (sym t)
+      pub measured : r .check ≡ Pass → (total : ℕ) → total ≡ sheetTotal n (colsOf (b .schema)) sheet
+          → Measures list n sheet (record { check = Pass; schema = b .schema; facts = r .facts; total = total; nulls = r .nulls })
+      measured f total t =
+          let whole : sheetFault n (colsOf (b .schema)) sheet ≡ Pass = sym (s .check) ∙ f in
+          record {
+            check = sym (grouped ∙ rw (e, fault, f));
+            found = λ _. record {
+              few = begun .few e;
+              sound = begun .sound e;
+              known = s .facts whole;
+              total = rw (← cols) t;
+              nulls = rw (← cols) (s .nulls whole);
+            };
+          }
 
-        pub many-bytes : (m : Measuring) → maxTotal < total → m .check ≡ Refuse (ManyBytes total) → Measures list n sheet m
-        many-bytes m h a = refused m (ManyBytes total) (grouped ∙ rw (e, fault, f, sums, lt-ltb maxTotal total h)) a
+-- ---- then 12
 
-        pub measured : total ≤ maxTotal → Measures list n sheet (record { check = Pass; schema = b .schema; facts = r .facts; total = total; nulls = r .nulls })
-        measured h =
-            let whole : sheetFault n (colsOf (b .schema)) sheet ≡ Pass = sym (s .check) ∙ f in
-            record {
-              check = sym (grouped ∙ rw (e, fault, f, sums, le-ltb maxTotal total h));
-              found = λ _. record {
-                few = begun .few e;
-                sound = begun .sound e;
-                known = s .facts whole;
-                total = sym sums;
-                nulls = rw (← cols) (s .nulls whole);
-              };
-            }
+-- list, 6 and sheet, then 12
+pub batch-first : (list : List ℕ) (n : ℕ) (sheet : List ℕ)
+    → measureCheck list n sheet ≡ both (batchCheck list n sheet) (totalFault (sheetTotal n (columns list) sheet))
+unfolding measureCheck
+batch-first list n sheet =
+    let s = sheetFault n (columns list) sheet in
+    let t = totalFault (sheetTotal n (columns list) sheet) in
+    rw (both-grouped (rowCountFault n) s t, both-grouped (listFault list) (both (rowCountFault n) s) t) refl
 
--- ---- measure
-module _ (list : List ℕ) (n : ℕ) (sheet : List ℕ) (m : Measuring) (h : Measures list n sheet m) where
-  pub answer-refused : (x : Refusal) → m .check ≡ Refuse x → Measured list n sheet (Refused x)
-  unfolding measureAnswer
-  answer-refused x e = record { answers = rw (← h .check, e) }
-
-  pub answer-done : m .check ≡ Pass → Measured list n sheet (Done (m .total) (m .nulls))
-  unfolding measureAnswer
-  answer-done e =
-      let f = h .found e in
-      record { answers = rw (← h .check, e, f .total, f .nulls) }
+-- what is measured is the answer
+pub answered : (list : List ℕ) (n : ℕ) (sheet : List ℕ) (m : Measuring) → Measures list n sheet m
+    → Measured list n sheet (answer (both (m .check) (totalFault (m .total))) (m .total) (m .nulls))
+unfolding measureAnswer
+answered list n sheet m h = record { answers = cases (m .check) refl }
+  where
+    cases : (x : Check) → m .check ≡ x → answer (both (m .check) (totalFault (m .total))) (m .total) (m .nulls) ≡ measureAnswer list n sheet
+    cases Pass e = rw (batch-first list n sheet, ← h .check, e, h .found e .total, h .found e .nulls) refl
+    cases (Refuse r) e = rw (batch-first list n sheet, ← h .check, e) refl

@@ -2,15 +2,27 @@
 use Prim.Native.Nat.{ℕ, _≤_}
 use mathlib.Core.Path.{_≡_}
 use mathlib.Core.List.{List}
+use lib.Dec.{ltb}
+use Rattle.format.specs.declared.Check.{Check}
 use Rattle.format.specs.declared.Check.the-variants.{Pass}
+use Rattle.format.specs.declared.Refusal.the-variants.{RowRoom}
 use Rattle.format.specs.Limits.{maxRows}
-use Rattle.format.specs.Columns.{columns}
+use Rattle.format.specs.Check.{both, failIf}
+use Rattle.format.specs.Columns.{listFault, columns}
 use Rattle.format.specs.Schemas.{colsOf}
-use Rattle.format.specs.Sheet.{sheetSlots, nulls}
-use Rattle.format.specs.Entries.{sheetTotal, measureCheck}
+use Rattle.format.specs.Sheet.{sheetFault, sheetSlots, nulls}
+use Rattle.format.specs.Entries.{sheetTotal, rowCountFault, offsetRoomFault}
 use Rattle.sheet_reader.specs.Sheets.{Known}
 use Rattle.sheet_reader.proofs.Schemas.{Sound}
 use Rattle.station.specs.declared.measure.Measuring.{Measuring}
+
+-- list, 6, sheet
+abbrev pub batchCheck : List ℕ → ℕ → List ℕ → Check
+batchCheck list n sheet = both (listFault list) (both (rowCountFault n) (sheetFault n (columns list) sheet))
+
+-- 13, 14
+abbrev pub roomFault : ℕ → ℕ → ℕ → ℕ → Check
+roomFault total rowRoom n offsetRoom = failIf (ltb rowRoom total) (RowRoom total) (offsetRoomFault n offsetRoom)
 
 -- of a batch that is not refused: few rows, the columns and their facts, the total and the null total
 pub record Found (list : List ℕ) (n : ℕ) (sheet : List ℕ) (m : Measuring) : Type 0 where
@@ -20,7 +32,7 @@ pub record Found (list : List ℕ) (n : ℕ) (sheet : List ℕ) (m : Measuring) 
   pub total : m .total ≡ sheetTotal n (columns list) sheet
   pub nulls : m .nulls ≡ nulls (sheetSlots n (columns list) sheet)
 
--- list, 6, sheet, 12
+-- the first fault of list, 6 and sheet, and what is found where there is none
 pub record Measures (list : List ℕ) (n : ℕ) (sheet : List ℕ) (m : Measuring) : Type 0 where
-  pub check : m .check ≡ measureCheck list n sheet
+  pub check : m .check ≡ batchCheck list n sheet
   pub found : m .check ≡ Pass → Found list n sheet m

@@ -1,10 +1,64 @@
 // Encoding: the rows of a sheet into the row buffer, and where each begins and the last ends into the offsets.
+ghost use mathlib.Core.Path.{_≡_};
+ghost use Prim.Native.Nat.{_<_, _≤_};
+ghost use lib.ListN.{length};
+ghost use Rattle.format.specs.declared.Check.the-variants.{Pass};
+ghost use Rattle.format.specs.Limits.{maxColumns, maxRows};
+ghost use Rattle.format.specs.Lists.{joined, endsFrom};
+ghost use Rattle.format.specs.Schemas.{colsOf};
+ghost use Rattle.format.specs.Entries.{sheetRows, sheetTotal, written};
 ghost use Rattle.format.specs.Promises.{Encoded};
+ghost use Rattle.sheet_reader.specs.Sheets.{Known};
+ghost use Rattle.station.specs.Measuring.{roomFault};
+use crate::check::answer;
+use crate::check::both;
+use crate::check::total_fault;
 use crate::measure::measure_list;
 use format::Answer;
 use format::Check;
 use format::Refusal;
+use format::Schema;
 use row_writer::write_rows;
+use sheet_reader::sheet::Facts;
+
+// 13, 14.
+fn room_fault(total: u64, room: u64, n: u64, ends: u64) -> Check
+    requires { ⌜ n ≤ maxRows ⌝ }
+    ensures { λ r. ⌜ r ≡ roomFault total room n ends ⌝ }
+{
+    let count = n + 1;
+    if room < total {
+        return Check::Refuse(Refusal::RowRoom(total));
+    }
+    if ends < count {
+        return Check::Refuse(Refusal::OffsetRoom(count));
+    }
+    Check::Pass
+}
+
+// The rows and the offsets of a checked sheet where nothing is at fault; where something is, no byte changes.
+fn write_passed(
+    fault: Check,
+    schema: Schema,
+    n: usize,
+    sheet: &[u8],
+    facts: [Facts; format::MAX_COLUMNS],
+    rows: &mut [u8],
+    offsets: &mut [u64],
+)
+    requires { ⌜ n ≤ maxRows ⌝ }
+    requires { ⌜ schema .count ≤ maxColumns ⌝ }
+    requires { ⌜ Known n (colsOf schema) (now sheet) facts ⌝ }
+    requires { ⌜ (fault ≡ Pass → sheetTotal n (colsOf schema) (now sheet) ≤ length (now rows)) ⌝ }
+    requires { ⌜ (fault ≡ Pass → n < length (now offsets)) ⌝ }
+    ensures { λ _. ⌜ now (rows .exit) ≡ written fault (joined (sheetRows n (colsOf schema) (now (sheet .entry)))) (now (rows .entry)) ⌝ }
+    ensures { λ _. ⌜ now (offsets .exit) ≡ written fault (endsFrom 0 (sheetRows n (colsOf schema) (now (sheet .entry)))) (now (offsets .entry)) ⌝ }
+{
+    if let Check::Refuse(_) = fault {
+        return;
+    }
+    write_rows(schema, n, sheet, facts, rows, offsets);
+}
 
 // List, 6, sheet, 12, 13, 14, then the rows: total row bytes and the null total, or the refusal, which writes nothing.
 pub fn encode(list: &[u8], n: u64, sheet: &[u8], rows: &mut [u8], offsets: &mut [u64]) -> Answer
@@ -19,15 +73,11 @@ pub fn encode(list: &[u8], n: u64, sheet: &[u8], rows: &mut [u8], offsets: &mut 
     }
     let total = m.total;
     let nulls = m.nulls;
-    let count = n + 1;
-    if row_room < total {
-        return Answer::Refused(Refusal::RowRoom(total));
-    }
-    if offset_room < count {
-        return Answer::Refused(Refusal::OffsetRoom(count));
-    }
     let schema = m.schema;
     let facts = m.facts;
-    write_rows(schema, n as usize, sheet, facts, rows, offsets);
-    Answer::Done(total, nulls)
+    let many = total_fault(total);
+    let room = room_fault(total, row_room, n, offset_room);
+    let fault = both(many, room);
+    write_passed(fault, schema, n as usize, sheet, facts, rows, offsets);
+    answer(fault, total, nulls)
 }

@@ -1,4 +1,5 @@
 // The row station: the public entries, a module each.
+mod check;
 pub mod compare;
 pub mod decode;
 pub mod encode;

@@ -3,6 +3,9 @@ ghost use mathlib.Core.Path.{_≡_};
 ghost use Rattle.format.specs.declared.Check.the-variants.{Refuse};
 ghost use Rattle.format.specs.Promises.{Measured};
 ghost use Rattle.station.specs.Measuring.{Measures};
+use crate::check::answer;
+use crate::check::both;
+use crate::check::total_fault;
 use crate::list::begin;
 use format::Answer;
 use format::Check;
@@ -46,7 +49,7 @@ fn refused(refusal: Refusal) -> Measuring
     }
 }
 
-// List, 6, sheet, 12.
+// List, 6, sheet; and the total, of which 12 is not asked here.
 pub fn measure_list(list: &[u8], n: u64, sheet: &[u8]) -> Measuring
     ensures { λ r. ⌜ Measures (now (list .entry)) n (now (sheet .entry)) r ⌝ }
 {
@@ -63,9 +66,6 @@ pub fn measure_list(list: &[u8], n: u64, sheet: &[u8]) -> Measuring
     }
     let facts = sheeted.facts;
     let total = measure_sheet(schema, n as usize, sheet, facts);
-    if format::MAX_TOTAL < total {
-        return refused(Refusal::ManyBytes(total));
-    }
     Measuring {
         check: Check::Pass,
         schema: schema,
@@ -81,8 +81,8 @@ pub fn measure(list: &[u8], n: u64, sheet: &[u8]) -> Answer
 {
     let m = measure_list(list, n, sheet);
     let check = m.check;
-    match check {
-        Check::Pass => Answer::Done(m.total, m.nulls),
-        Check::Refuse(r) => Answer::Refused(r),
-    }
+    let total = m.total;
+    let many = total_fault(total);
+    let fault = both(check, many);
+    answer(fault, total, m.nulls)
 }

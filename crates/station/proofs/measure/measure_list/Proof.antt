@@ -1,7 +1,7 @@
 -- `station::measure::measure_list` meets its contract: each way out is that of the checks that led there. Assumes nothing.
 use borrow.Author.Needs.{needs}
 use mathlib.Core.Path.{_≡_, sym, _∙_}
-use Rattle.station.proofs.Measuring.{bad-begin, bad-sheet, many-bytes, measured}
+use Rattle.station.proofs.Measuring.{bad-begin, bad-sheet, measured}
 use Rattle.station.proofs.measure.measure_list.Statement.{statement}
 use Rattle.station.proofs.measure.measure_list.Tie as tie
 
@@ -39,18 +39,10 @@ measure-sheet-requires c κs =
 
 returns-3 : tie.Need-returns-3
 returns-3 c =
-    let t = c .before in
-    let s = t .before .before .before .before .before in
+    let s = c .before .before .before .before in
     let b = passed (s .before) .begin in
-    many-bytes _ _ _ (b .result) (b .ensures) (s .before .before .enum-told .given .1) _ (s .check-sheet .ensures) (t .before .before .before .enum-told2 .given .1) _
-    (t .before .measure-sheet .ensures) _ (t .if1 .taken) (c .refused3 .ensures)
-
-returns-4 : tie.Need-returns-4
-returns-4 c =
-    let s = c .before .before .before .before .before in
-    let b = passed (s .before) .begin in
-    measured _ _ _ (b .result) (b .ensures) (s .before .before .enum-told .given .1) _ (s .check-sheet .ensures) (c .before .before .before .enum-told2 .given .1) _
-    (c .before .measure-sheet .ensures) (c .if1 .left)
+    measured _ _ _ (b .result) (b .ensures) (s .before .before .enum-told .given .1) _ (s .check-sheet .ensures) (c .before .before .enum-told2 .given .1) _
+    (c .measure-sheet .ensures)
 
 pub measure-list-spec : {M : Type 1} → statement M
 measure-list-spec =
@@ -67,6 +59,4 @@ measure-list-spec =
     returns-2
     (λ c. search needs)
     measure-sheet-requires
-    (λ c κs. search needs)
-    returns-3
-    returns-4)
+    returns-3)
