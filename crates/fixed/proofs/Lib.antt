@@ -6,6 +6,5 @@ pub mod Reading
 pub mod Standing
 pub mod Beside
 pub mod Parts
-pub mod WideLaws
 pub mod EncodeArms
 pub mod DecodeArms

@@ -17,7 +17,7 @@ use Rattle.format.specs.Key.{allowed, invert}
 use Rattle.format.specs.Field.{directed, nullByte}
 use Rattle.format.specs.Read.{fault, fieldRead, readBytes, readFixed, readKey, readNull}
 use Rattle.laws.proofs.Unkey.{length-unkey}
-use Rattle.fixed.specs.Wide.{WideShape}
+use Rattle.basics.specs.Wide.{WideShape}
 use Rattle.fixed.proofs.Scan.{Clean, clean-bad, clean-end, clean-more}
 
 pub length-directed : (d : Bool) (f : List ℕ) → length (directed d f) ≡ length f

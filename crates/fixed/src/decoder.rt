@@ -9,7 +9,7 @@ ghost use Rattle.format.specs.Key.{partsUnkey, unkey};
 ghost use Rattle.format.specs.Field.{directed};
 ghost use Rattle.format.specs.Read.{Good, readField, readFixed, slotRead};
 ghost use Rattle.format.specs.Cleared.{fixedSlot, isTrue, valid};
-ghost use Rattle.fixed.specs.Wide.{WideKind};
+ghost use Rattle.basics.specs.Wide.{WideKind};
 use crate::runs::copy_directed;
 use crate::runs::zeros;
 use crate::signed::unkey8;

@@ -13,7 +13,7 @@ ghost use Rattle.format.specs.Kinds.{bool, plain, shape, valueBytes};
 ghost use Rattle.format.specs.Sheet.{boolByte};
 ghost use Rattle.format.specs.Key.{partsKey};
 ghost use Rattle.format.specs.Field.{directed, field, fixedField, nullByte};
-ghost use Rattle.fixed.specs.Wide.{WideKind};
+ghost use Rattle.basics.specs.Wide.{WideKind};
 use crate::runs::copy_directed;
 use crate::runs::zeros;
 use crate::signed::key8;

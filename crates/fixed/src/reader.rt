@@ -4,7 +4,7 @@ ghost use Prim.Native.Nat.{_<_};
 ghost use lib.ListN.{length, drop};
 ghost use Rattle.format.specs.Kinds.{Fixed, bool};
 ghost use Rattle.format.specs.Read.{fieldRead, readFixed, readNull};
-ghost use Rattle.fixed.specs.Wide.{WideShape};
+ghost use Rattle.basics.specs.Wide.{WideShape};
 use format::FieldRead;
 use format::RowFault;
 use format::SortOptions;

@@ -1,6 +1,6 @@
 -- A slot of a column that passes: where its value lies, and what its field comes to. Assumes nothing.
 use Prim.Native.Nat.{ℕ, zero, suc, _+_, _-_, _*_, _/_, _<_, _≤_}
-use mathlib.Core.Path.{_≡_, ap, ap₂, sym, _∙_}
+use mathlib.Core.Path.{_≡_, refl, ap, ap₂, sym, _∙_}
 use mathlib.Core.Bool.{Bool as Truth, true, false, cond}
 use mathlib.Core.Option.{none, some}
 use mathlib.Core.List.{List, _∷_}
@@ -15,16 +15,16 @@ use Rattle.format.specs.declared.SortOptions.{SortOptions}
 use Rattle.format.specs.declared.Kind.{Kind}
 use Rattle.format.specs.declared.Kind.the-variants.{Bool, Variable}
 use Rattle.format.specs.Limits.{maxSlot}
-use Rattle.format.specs.Lists.{each, low}
+use Rattle.format.specs.Lists.{low}
 use Rattle.format.specs.Kinds.{bool, variable, Slot, shape, valueBytes}
 use Rattle.format.specs.Field.{field, fixedField, fieldLength, nullByte}
 use Rattle.format.specs.Sheet.{Layout, ended, wide, layoutFor, packed, bit, end, valuesFault, boolByte, valueAt, columnFault, slotAt}
 use Rattle.bits.proofs.Nulls.{bits-passed}
 use Rattle.basics.proofs.Checks.{enough}
+use Rattle.basics.proofs.Sorts.{wide-layout, fixedKeys, fixed-arm}
 use Rattle.laws.proofs.Sheets.{Ended, column-passed, variable-passed, within}
 use Rattle.row_writer.specs.Put.{Passes, Put}
-use Rattle.fixed.specs.Wide.{WideKind}
-use Rattle.row_writer.proofs.Sorts.{null-arm, wide-layout}
+use Rattle.basics.specs.Wide.{WideKind}
 
 -- ---- variable bytes
 
@@ -63,10 +63,17 @@ one-width s r w = ap (λ (k : ℕ). take k (drop (r * w) s)) {x = (r * w + w) - 
 pub wide-long : {kind : Kind} (s : Slot) → WideKind kind → fieldLength (shape kind) s ≡ 1 + valueBytes kind
 wide-long s k = rw (k .says)
 
+-- ---- the null of fixed values
+pub null-arm : (kind : Kind) (o : SortOptions) → OneOf fixedKeys (tagOf the-type kind)
+    → (fieldLength (shape kind) none ≡ 1 + valueBytes kind) × (field (shape kind) o none ≡ nullByte o ∷ replicate (valueBytes kind) 0)
+null-arm kind o h =
+    fixed-arm (λ k. (fieldLength (shape k) none ≡ 1 + valueBytes k) × (field (shape k) o none ≡ nullByte o ∷ replicate (valueBytes k) 0)) kind
+    (refl, refl) (λ w. rw (w .says) (refl, refl)) h
+
 -- ---- what a writer owes once its callee has written, by the kind
 module _ (o : SortOptions) (at next : ℕ) (entry exit : List ℕ) where
   -- the null of fixed values
-  pub put-none : (kind : Kind) (w : ℕ) → OneOf (each 0 15 (λ k. k)) (tagOf the-type kind) → w ≡ valueBytes kind → next ≡ at + 1 + w
+  pub put-none : (kind : Kind) (w : ℕ) → OneOf fixedKeys (tagOf the-type kind) → w ≡ valueBytes kind → next ≡ at + 1 + w
       → exit ≡ sets entry at (nullByte o ∷ replicate w 0) → Put (shape kind) o none at entry exit next
   put-none kind w h e p q =
       let z = null-arm kind o h in

@@ -8,7 +8,7 @@ ghost use Rattle.format.specs.Field.{fieldLength};
 ghost use Rattle.format.specs.Sheet.{ended, wide, layout, valuesFault, valueAt, columnFault, slotAt};
 ghost use Rattle.laws.proofs.Sheets.{Ended};
 ghost use Rattle.row_writer.specs.Put.{Passes, Put};
-ghost use Rattle.fixed.specs.Wide.{WideKind};
+ghost use Rattle.basics.specs.Wide.{WideKind};
 use format::Column;
 use format::Kind;
 use format::SortOptions;

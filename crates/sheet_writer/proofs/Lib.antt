@@ -4,6 +4,5 @@ pub mod Maps
 pub mod Moving
 pub mod Running
 pub mod Eights
-pub mod Arms
 pub mod Parts
 pub mod Stand

@@ -14,13 +14,13 @@ use Rattle.format.specs.Kinds.{bool, shape, columnShape, shapeBytes}
 use Rattle.format.specs.Sheet.{Layout, layoutFor, layout, packed}
 use Rattle.format.specs.Cleared.{pack, valid, isTrue, clearedValues}
 use Rattle.bits.proofs.Bits.{length-pack}
-use Rattle.fixed.specs.Wide.{WideKind}
+use Rattle.basics.specs.Wide.{WideKind}
 use Rattle.basics.proofs.Append.{Walk, walk-more}
 use Rattle.basics.proofs.Bytes.{bytes-drop}
 use Rattle.sheet_writer.specs.declared.flags.Flag.{Flag}
 use Rattle.sheet_writer.specs.declared.flags.Flag.the-variants.{Valid, True}
 use Rattle.sheet_writer.specs.Cursors.{slotAt, nextAt, Readable, slotsAt, nextsAt, columnAt, flagAt, flagsAt, valuesAt, ended, endsAt, dataAt}
-use Rattle.sheet_writer.proofs.Arms.{wide-layout}
+use Rattle.basics.proofs.Sorts.{wide-layout}
 use Rattle.sheet_writer.proofs.Lead.{Whole, whole, inside}
 use Rattle.sheet_writer.proofs.Maps.{map-same}
 

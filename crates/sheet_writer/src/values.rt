@@ -4,7 +4,7 @@ ghost use mathlib.Core.List.{map};
 ghost use Prim.Native.Nat.{ℕ, _+_, _^_, _<_, _≤_};
 ghost use lib.ListN.{length, getD};
 ghost use lib.Seq.{sets};
-ghost use Rattle.fixed.specs.Wide.{WideKind};
+ghost use Rattle.basics.specs.Wide.{WideKind};
 ghost use Rattle.sheet_writer.specs.Cursors.{Readable, nextsAt, valuesAt};
 use fixed::decode;
 use format::Column;

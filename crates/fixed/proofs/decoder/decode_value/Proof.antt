@@ -7,7 +7,7 @@ use Rattle.format.specs.Kinds.{float, integer, number, parts, valueBytes}
 use Rattle.format.specs.Key.{floatUnkey, signedUnkey}
 use Rattle.number.proofs.Words.{byte}
 use Rattle.fixed.proofs.Writing.{byte-set}
-use Rattle.fixed.proofs.WideLaws.{not-bool, not-variable}
+use Rattle.basics.proofs.Sorts.{not-bool, not-variable}
 use Rattle.fixed.proofs.DecodeArms.{Taken, took, took-key, took-code, took-plain, plain-room}
 use Rattle.fixed.proofs.decoder.decode_value.Statement.{statement}
 use Rattle.fixed.proofs.decoder.decode_value.Tie as tie

@@ -5,7 +5,7 @@ use native.Mathlib.Omega.{arith}
 use Rattle.format.specs.Kinds.{valueBytes}
 use Rattle.format.specs.Key.{floatKey, signedKey, unsignedKey}
 use Rattle.number.proofs.Words.{byte}
-use Rattle.fixed.proofs.WideLaws.{not-bool, not-variable}
+use Rattle.basics.proofs.Sorts.{not-bool, not-variable}
 use Rattle.fixed.proofs.EncodeArms.{Handed, wrote, wrote-key, wrote-code, wrote-plain}
 use Rattle.fixed.proofs.encoder.encode.Statement.{statement}
 use Rattle.fixed.proofs.encoder.encode.Tie as tie

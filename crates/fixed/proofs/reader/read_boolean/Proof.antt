@@ -6,7 +6,7 @@ use mathlib.Core.Path.{_≡_, refl}
 use lib.ListN.{getD}
 use native.Mathlib.Omega.{arith}
 use Rattle.format.specs.Kinds.{plain}
-use Rattle.fixed.specs.Wide.{WideShape}
+use Rattle.basics.specs.Wide.{WideShape}
 use Rattle.fixed.proofs.Writing.{turn, byte-turn}
 use Rattle.fixed.proofs.Beside.{bool-alike, bool-whole, bool-bad, bool-good}
 use Rattle.fixed.proofs.reader.read_boolean.Statement.{statement}

@@ -7,7 +7,8 @@ use Rattle.format.specs.declared.Kind.{Kind}
 use Rattle.format.specs.declared.SortOptions.{SortOptions}
 use Rattle.format.specs.Kinds.{shape}
 use Rattle.format.specs.Read.{fieldRead, readField}
-use Rattle.row_reader.proofs.Arms.{wide-arm, wide-read}
+use Rattle.basics.proofs.Sorts.{wide-arm}
+use Rattle.row_reader.proofs.Arms.{wide-read}
 use Rattle.row_reader.proofs.field.read_field.Statement.{statement}
 use Rattle.row_reader.proofs.field.read_field.Tie as tie
 

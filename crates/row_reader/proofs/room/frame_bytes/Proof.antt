@@ -10,7 +10,7 @@ use Rattle.format.specs.Kinds.{shape}
 use Rattle.format.specs.Limits.{maxRows, maxWidth}
 use Rattle.format.specs.Sheet.{Layout, layoutFor}
 use Rattle.laws.proofs.Room.{frame}
-use Rattle.row_reader.proofs.Arms.{wide-arm, layout-is}
+use Rattle.basics.proofs.Sorts.{wide-arm, wide-layout}
 use Rattle.row_reader.proofs.room.frame_bytes.Statement.{statement}
 use Rattle.row_reader.proofs.room.frame_bytes.Tie as tie
 
@@ -61,7 +61,7 @@ returns-2 c =
 returns-3 : tie.Need-returns-3
 returns-3 c =
     let A = c .before .before .args in
-    let is : layoutFor (shape (A .kind)) ≡ _ = layout-is (A .kind) (wide-arm (A .kind) (c .before .match .keys3)) in
+    let is : layoutFor (shape (A .kind)) ≡ _ = wide-layout (wide-arm (A .kind) (c .before .match .keys3)) in
     (omega (arith, ap (λ (k : ℕ). A .n * k) (c .width .ensures), ap (λ (ly : Layout). frame ly (A .n)) is), omega (arith, product c))
 
 pub frame-bytes-spec : {M : Type 1} → statement M

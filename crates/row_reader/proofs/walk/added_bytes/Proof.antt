@@ -5,7 +5,7 @@ use Rattle.format.specs.declared.Kind.{Kind}
 use Rattle.format.specs.Kinds.{shape}
 use Rattle.format.specs.Sheet.{layoutFor}
 use Rattle.laws.proofs.Room.{added}
-use Rattle.row_reader.proofs.Arms.{fixed-arm}
+use Rattle.row_reader.proofs.Arms.{adds-nothing}
 use Rattle.row_reader.proofs.walk.added_bytes.Statement.{statement}
 use Rattle.row_reader.proofs.walk.added_bytes.Tie as tie
 
@@ -15,4 +15,4 @@ added-bytes-spec =
     (tie.spec
     (λ c. search needs)
     (λ c s e. sym e ∙ sym (ap (λ (k : Kind). added (layoutFor (shape k)) s) (c .enum-told .given .1)))
-    (λ c s e. sym (fixed-arm (c .before .args .column .kind) s (c .match .keys2))))
+    (λ c s e. sym (adds-nothing (c .before .args .column .kind) s (c .match .keys2))))

@@ -2,7 +2,7 @@
 -- nothing.
 use borrow.Author.Needs.{needs}
 use native.Mathlib.Omega.{arith}
-use Rattle.row_writer.proofs.Sorts.{null-arm}
+use Rattle.row_writer.proofs.Values.{null-arm}
 use Rattle.row_writer.proofs.Values.{put-none}
 use Rattle.row_writer.proofs.field.put_null.Statement.{statement}
 use Rattle.row_writer.proofs.field.put_null.Tie as tie

@@ -4,7 +4,7 @@ use borrow.Author.Needs.{needs}
 use native.Mathlib.Omega.{arith}
 use mathlib.Core.Option.{some}
 use Rattle.format.specs.Sheet.{layout, valueAt}
-use Rattle.row_writer.proofs.Sorts.{wide-arm}
+use Rattle.basics.proofs.Sorts.{wide-arm}
 use Rattle.row_writer.proofs.Values.{bool-asked, bool-promised, variable-asked, variable-promised, wide-long, wide-asked, wide-promised}
 use Rattle.row_writer.proofs.field.put_value.Statement.{statement}
 use Rattle.row_writer.proofs.field.put_value.Tie as tie

@@ -18,7 +18,8 @@ use Rattle.format.specs.Kinds.{shape, valueBytes}
 use Rattle.format.specs.Sheet.{ended, layout, slotAt}
 use Rattle.laws.proofs.Totals.{columnTotal, maxField}
 use Rattle.sheet_reader.specs.Measures.{Passed, variableTotal}
-use Rattle.sheet_reader.proofs.Arms.{allKeys, field-arm}
+use Rattle.basics.proofs.Sorts.{fixedKeys}
+use Rattle.sheet_reader.proofs.Arms.{field-arm}
 use Rattle.sheet_reader.proofs.Measures.{sum-same}
 use Rattle.sheet_reader.proofs.measure.measure_column.Statement.{statement}
 use Rattle.sheet_reader.proofs.measure.measure_column.Tie as tie
@@ -35,7 +36,7 @@ module _ (col : Column) (n : ℕ) (s : List ℕ) (e : col .kind ≡ Variable) wh
 small : (n w : ℕ) → n ≤ maxRows → w ≤ maxWidth → n * (1 + w) ≤ maxRows * (1 + maxWidth)
 small n w l m = mul-le-mul l (let z : 1 + w ≤ 1 + maxWidth = omega arith in z)
 
-alike : (col : Column) (n w : ℕ) (s : List ℕ) → OneOf allKeys (tagOf the-type (col .kind)) → w ≡ valueBytes (col .kind) → n * (1 + w) ≡ columnTotal col n s
+alike : (col : Column) (n w : ℕ) (s : List ℕ) → OneOf fixedKeys (tagOf the-type (col .kind)) → w ≡ valueBytes (col .kind) → n * (1 + w) ≡ columnTotal col n s
 alike col n w s h e = sym (sum-same _ (1 + w) 0 n (λ r. field-arm (col .kind) h (slotAt (layout col) n s r) ∙ ap (λ (k : ℕ). 1 + k) (sym e)))
 
 measure-variable-requires : tie.Need-measure-variable-requires

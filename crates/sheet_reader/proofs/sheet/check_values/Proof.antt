@@ -13,7 +13,7 @@ use Rattle.format.specs.declared.Refusal.the-variants.{ColumnCut}
 use Rattle.format.specs.declared.Check.the-variants.{Pass, Refuse}
 use Rattle.format.specs.Kinds.{shape, valueBytes}
 use Rattle.format.specs.Sheet.{Layout, layoutFor, wide, valuesFault}
-use Rattle.sheet_reader.proofs.Arms.{told, fixed-arm}
+use Rattle.sheet_reader.proofs.Arms.{told, layout-arm}
 use Rattle.sheet_reader.proofs.sheet.check_values.Statement.{statement}
 use Rattle.sheet_reader.proofs.sheet.check_values.Tie as tie
 
@@ -33,7 +33,7 @@ mul-if1 c =
 returns : tie.Need-returns
 returns c =
     let a = c .before .before .before .before .args in
-    cut (a .kind) _ _ _ (a .part .now) (c .before .width .ensures) (fixed-arm (a .kind) (c .before .before .match .keys3)) (c .if1 .taken)
+    cut (a .kind) _ _ _ (a .part .now) (c .before .width .ensures) (layout-arm (a .kind) (c .before .before .match .keys3)) (c .if1 .taken)
 
 returns-2 : tie.Need-returns-2
 returns-2 c =
@@ -48,7 +48,7 @@ returns-3 c =
 returns-4 : tie.Need-returns-4
 returns-4 c =
     let a = c .before .before .before .before .args in
-    whole (a .kind) _ _ _ (a .part .now) (c .before .width .ensures) (fixed-arm (a .kind) (c .before .before .match .keys3)) (c .if1 .left)
+    whole (a .kind) _ _ _ (a .part .now) (c .before .width .ensures) (layout-arm (a .kind) (c .before .before .match .keys3)) (c .if1 .left)
 
 pub check-values-spec : {M : Type 1} → statement M
 check-values-spec =

@@ -8,7 +8,7 @@ use native.Mathlib.Omega.{arith}
 use lib.ListN.{length}
 use Rattle.format.specs.Kinds.{valueBytes}
 use Rattle.format.specs.Sheet.{Layout, valuesBytes, end}
-use Rattle.sheet_reader.proofs.Arms.{told, fixed-arm}
+use Rattle.sheet_reader.proofs.Arms.{told, layout-arm}
 use Rattle.sheet_reader.proofs.sheet.values_bytes.Statement.{statement}
 use Rattle.sheet_reader.proofs.sheet.values_bytes.Tie as tie
 
@@ -21,7 +21,7 @@ end-at-requires c κs =
 mul-result-2 : tie.Need-mul-result-2
 mul-result-2 c =
     let a = c .before .before .before .args in
-    let there : a .n * valueBytes (a .kind) ≤ length (a .part .now) = rw (fixed-arm (a .kind) (c .before .match .keys3)) at (c .before .before .before .pre .1) in
+    let there : a .n * valueBytes (a .kind) ≤ length (a .part .now) = rw (layout-arm (a .kind) (c .before .match .keys3)) at (c .before .before .before .pre .1) in
     rw (c .width .ensures) (omega arith)
 
 returns : tie.Need-returns
@@ -37,7 +37,7 @@ returns-2 c =
 returns-3 : tie.Need-returns-3
 returns-3 c =
     let a = c .before .before .before .args in
-    rw (c .width .ensures, fixed-arm (a .kind) (c .before .match .keys3))
+    rw (c .width .ensures, layout-arm (a .kind) (c .before .match .keys3))
 
 pub values-bytes-spec : {M : Type 1} → statement M
 values-bytes-spec =

@@ -13,7 +13,7 @@ use Rattle.basics.proofs.Append.{Walk, walk-start, walk-room, walk-end}
 use Rattle.basics.proofs.Bytes.{bytes-of}
 use Rattle.sheet_writer.specs.declared.flags.Flag.the-variants.{Valid, True}
 use Rattle.sheet_writer.specs.Cursors.{columnAt, flagsAt, valuesAt, endsAt, dataAt}
-use Rattle.sheet_writer.proofs.Arms.{wide-arm}
+use Rattle.basics.proofs.Sorts.{wide-arm}
 use Rattle.sheet_writer.proofs.Parts.{walk-told, restAt, flags-long, column-is, bool-rest, bool-there, bool-next, wide-rest, ended-rest, ended-readable, ended-next}
 use Rattle.sheet_writer.proofs.columns.write_column.Statement.{statement}
 use Rattle.sheet_writer.proofs.columns.write_column.Tie as tie

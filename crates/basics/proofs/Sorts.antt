@@ -1,27 +1,25 @@
 -- The three sorts of kinds: bool, values of one width, and variable bytes; and the last arm of a match on a kind, which takes
 -- those that no arm before it names. Assumes nothing.
-use Prim.Native.Nat.{ℕ, _+_}
-use mathlib.Core.Path.{_≡_, refl, ap}
-use mathlib.Core.Bool.{Bool as Truth, true, false}
+use Prim.Native.Nat.{ℕ}
+use mathlib.Core.Path.{_≡_, refl, sym, ap, subst, _∙_}
+use mathlib.Core.Bool.{Bool as Truth, true, false, not}
 use mathlib.Core.Logic.{_⊎_, inl, inr}
-use mathlib.Core.Option.{none}
-use mathlib.Core.List.{[], _∷_}
+use mathlib.Core.List.{List, [], _∷_}
 use native.Mathlib.Omega.{arith}
-use lib.ListN.{replicate}
+use lib.Dec.{T}
+use mir.Val.{hasKey}
 use types.Run.{OneOf, miss}
 use denote.Enum.Declared.{tagOf}
 use Rattle.format.proofs.Kind.{the-type}
-use Rattle.format.specs.declared.SortOptions.{SortOptions}
 use Rattle.format.specs.declared.Kind.{Kind}
 use Rattle.format.specs.declared.Kind.the-variants.{Bool, I8, I16, I32, I64, U8, U16, U32, U64, F16, F32, F64, DayTime, MonthDayNano, FixedBinary, Variable}
 use Rattle.format.specs.Lists.{each}
-use Rattle.format.specs.Kinds.{Fixed, bool, plain, number, integer, float, parts, fixed, shape, width, valueBytes}
-use Rattle.format.specs.Field.{field, fieldLength, nullByte}
+use Rattle.format.specs.Kinds.{Fixed, bool, plain, number, integer, float, parts, fixed, variable, shape, shapeBytes, width, valueBytes}
 use Rattle.format.specs.Sheet.{layoutFor, wide}
-use Rattle.fixed.specs.Wide.{WideKind}
+use Rattle.basics.specs.Wide.{WideKind, WideShape}
 
 -- a kind is one of the three
-abbrev pub Sort : Kind → Type 0
+abbrev Sort : Kind → Type 0
 Sort kind = (kind ≡ Bool) ⊎ (WideKind kind ⊎ (kind ≡ Variable))
 
 -- whether fixed values are bools, which alone are packed bits
@@ -38,7 +36,7 @@ of-width : {kind : Kind} (k : Fixed) → shape kind ≡ fixed k → isBool k ≡
 of-width k e h = inr (inl (record { k = k; says = e; other = λ q. let z : _≡_ {A = ℕ} 0 1 = cc (ap isBool q) in omega arith }))
 
 -- the table of kinds, by sort
-pub sort : (kind : Kind) → Sort kind
+sort : (kind : Kind) → Sort kind
 sort Bool = inl refl
 sort I8 = of-width (integer 1) refl refl
 sort I16 = of-width (integer 2) refl refl
@@ -56,7 +54,32 @@ sort MonthDayNano = of-width (parts (4 ∷ 4 ∷ 8 ∷ [])) refl refl
 sort (FixedBinary w) = of-width (plain w) refl refl
 sort Variable = inr (inr refl)
 
--- values of one width stand as such in the sheet
+-- ---- values of one width
+
+-- neither bool nor variable bytes
+pub not-bool : {kind : Kind} → WideKind kind → kind ≡ Bool → ⊥
+not-bool {kind} w e = w .other (sym same)
+  where
+    told : fixed bool ≡ fixed (w .k)
+    told = sym (ap shape e) ∙ w .says
+
+    same : bool ≡ w .k
+    same = cc
+
+pub not-variable : {kind : Kind} → WideKind kind → kind ≡ Variable → ⊥
+not-variable {kind} w e = let z : _≡_ {A = ℕ} 0 1 = differ in omega arith
+  where
+    told : variable ≡ fixed (w .k)
+    told = sym (ap shape e) ∙ w .says
+
+    differ : _≡_ {A = ℕ} 0 1
+    differ = cc
+
+-- as a reader is told of it
+pub wide-shape : {kind : Kind} (w : WideKind kind) → WideShape (valueBytes kind) (w .k)
+wide-shape w = record { bytes = sym (ap shapeBytes (w .says)); other = w .other }
+
+-- they stand as such in the sheet
 pub wide-layout : {kind : Kind} → WideKind kind → layoutFor (shape kind) ≡ wide (valueBytes kind)
 wide-layout {kind} w = rw (w .says) (go (w .k) (w .other))
   where
@@ -70,21 +93,30 @@ wide-layout {kind} w = rw (w .says) (go (w .k) (w .other))
 
 -- ---- the last arm of a match, by the places of its kinds: bool is 0, and variable bytes are 15
 
+-- a kind at one of these places is none that stands elsewhere
+elsewhere : (ks : List ℕ) (k j : Kind) → OneOf ks (tagOf the-type k) → T (not (hasKey ks (tagOf the-type j))) → k ≡ j → ⊥
+elsewhere ks k j h t e = miss ks (tagOf the-type j) t (subst (λ (x : Kind). OneOf ks (tagOf the-type x)) e h)
+
 -- after the arms of bool and of variable bytes
-pub wide-arm : (kind : Kind) → OneOf (each 1 14 (λ k. k)) (tagOf the-type kind) → WideKind kind
+abbrev pub wideKeys : List ℕ
+wideKeys = each 1 14 (λ k. k)
+
+pub wide-arm : (kind : Kind) → OneOf wideKeys (tagOf the-type kind) → WideKind kind
 wide-arm kind h = go (sort kind)
   where
     go : Sort kind → WideKind kind
-    go (inl e) = absurd (miss (each 1 14 (λ k. k)) 0 tt (rw e at h))
+    go (inl e) = absurd (elsewhere wideKeys kind Bool h tt e)
     go (inr (inl w)) = w
-    go (inr (inr e)) = absurd (miss (each 1 14 (λ k. k)) 15 tt (rw e at h))
+    go (inr (inr e)) = absurd (elsewhere wideKeys kind Variable h tt e)
 
--- after the arm of variable bytes: the null of fixed values
-pub null-arm : (kind : Kind) (o : SortOptions) → OneOf (each 0 15 (λ k. k)) (tagOf the-type kind)
-    → (fieldLength (shape kind) none ≡ 1 + valueBytes kind) × (field (shape kind) o none ≡ nullByte o ∷ replicate (valueBytes kind) 0)
-null-arm kind o h = go (sort kind)
+-- after the arm of variable bytes: what holds of bool and of values of one width
+abbrev pub fixedKeys : List ℕ
+fixedKeys = each 0 15 (λ k. k)
+
+pub fixed-arm : (P : Kind → Type 0) (kind : Kind) → P Bool → (WideKind kind → P kind) → OneOf fixedKeys (tagOf the-type kind) → P kind
+fixed-arm P kind b w h = go (sort kind)
   where
-    go : Sort kind → (fieldLength (shape kind) none ≡ 1 + valueBytes kind) × (field (shape kind) o none ≡ nullByte o ∷ replicate (valueBytes kind) 0)
-    go (inl e) = rw e (refl, refl)
-    go (inr (inl w)) = rw (w .says) (refl, refl)
-    go (inr (inr e)) = absurd (miss (each 0 15 (λ k. k)) 15 tt (rw e at h))
+    go : Sort kind → P kind
+    go (inl e) = subst P (sym e) b
+    go (inr (inl k)) = w k
+    go (inr (inr e)) = absurd (elsewhere fixedKeys kind Variable h tt e)

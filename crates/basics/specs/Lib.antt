@@ -1,0 +1,2 @@
+-- Which kinds a function is for.
+pub mod Wide

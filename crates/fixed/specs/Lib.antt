@@ -1,2 +1,0 @@
--- Which fixed kinds a function is for.
-pub mod Wide
