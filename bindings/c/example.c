@@ -1,4 +1,4 @@
-/* Two rows of a catalogue of glyphs: plate (u32), glyph name (variable bytes), position (f64), exposure
+/* Two rows of a catalogue of glyphs: plate (u32), glyph name (variable bytes), contour (u16), position (f64), exposure
  * (months, days, nanoseconds). Encodes them, prints each row in hex, compares the two, decodes them again.
  *
  *   cc -I include bindings/c/example.c target/staticlib/libstation_c.a -o example && ./example
@@ -9,13 +9,15 @@
 
 #include "station.h"
 
-/* Kinds 8, 16, 12 and 14: ascending, nulls first. */
-static const uint8_t LIST[] = {8, 2, 16, 2, 12, 2, 14, 2};
+/* Kinds 8, 16, 7, 12 and 14: ascending, nulls first. */
+static const uint8_t LIST[] = {8, 2, 16, 2, 7, 2, 12, 2, 14, 2};
 
-/* Row 0: plate 7, "ae", 1.5, 0 months, 0 days, 250 ns. Row 1: plate 7, no name, -2.0, 0 months, 1 day, 0 ns. */
+/* Row 0: plate 7, "ae", contour 1, 1.5, 0 months, 0 days, 250 ns.
+ * Row 1: plate 7, no name, contour 0, -2.0, 0 months, 1 day, 0 ns. */
 static const uint8_t SHEET[] = {
     0x03, 7, 0, 0, 0, 7, 0, 0, 0,
     0x01, 0, 0, 0, 0, 2, 0, 0, 0, 2, 0, 0, 0, 'a', 'e',
+    0x03, 1, 0, 0, 0,
     0x03, 0, 0, 0, 0, 0, 0, 0xF8, 0x3F, 0, 0, 0, 0, 0, 0, 0, 0xC0,
     0x03, 0, 0, 0, 0, 0, 0, 0, 0, 250, 0, 0, 0, 0, 0, 0, 0,
           0, 0, 0, 0, 1, 0, 0, 0, 0, 0, 0, 0, 0, 0, 0, 0,
