@@ -1,0 +1,3 @@
+-- Laws of the printed text: pieces one after another, decimal digits.
+pub mod Written
+pub mod Decimal
