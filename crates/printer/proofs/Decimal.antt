@@ -1,11 +1,17 @@
 -- The fewest digits of a number are its digits in decimal. Assumes nothing.
 use Prim.Native.Nat.{ℕ, zero, suc, _+_, _-_, _*_, _/_, _%_, _^_, _<_, _≤_}
-use mathlib.Core.Path.{_≡_, refl, ap, ap₂}
+use mathlib.Core.Path.{_≡_, ap}
+use mathlib.Core.Bool.{Bool, true, false, cond}
 use mathlib.Core.List.{List, [], _∷_, _++_}
-use native.Mathlib.Nat.{mod-lt, pow-suc, one-le-pow}
+use mathlib.Core.Logic.{_⊎_, inl, inr}
+use native.Mathlib.Nat.{mod-lt, pow-suc, one-le-pow, pow-le-pow-right}
 use native.Mathlib.Omega.{arith}
+use lib.Dec.{ltb}
+use lib.ListN.{length, length-append}
 use borrow.Author.Tests.{lt-ltb, le-ltb}
 use Rattle.format.specs.Program.{decimal}
+use Rattle.basics.proofs.Compare.{choose}
+use Rattle.printer.specs.Printed.{numberText}
 use Rattle.io.specs.Digits.{glyph, digits, Fewest}
 
 last-digit : (n : ℕ) → glyph (n % 10) ≡ 48 + n % 10
@@ -25,3 +31,24 @@ decimal-digits (suc m) (suc (suc k)) n l f =
     (ap (λ (ds : List ℕ). ds ++ ((48 + n % 10) ∷ []))
     (decimal-digits m (suc k) (n / 10) (omega arith)
     (omega arith, omega (arith, f .1, pow-suc 10 (suc k)), λ h. omega (arith, less-one k, pow-suc 10 k))))
+
+-- ---- how long they are: 64 bits take at most 20
+pub few-digits : (k n : ℕ) → n < 18446744073709551616 → Fewest 10 1 n k → k ≤ 20
+few-digits k n h f = by-test (choose k 21)
+  where
+    by-test : (k < 21) ⊎ (21 ≤ k) → k ≤ 20
+    by-test (inl l) = omega arith
+    by-test (inr l) = absurd (omega (arith, f .2 (omega arith), pow-le-pow-right {n = 10} (omega arith) {i = 20} {j = k - 1} (omega arith)))
+
+unless : (b : Bool) (xs : List ℕ) (k : ℕ) → length xs ≤ k → length (cond b [] xs) ≤ k
+unless true xs k h = omega arith
+unless false xs k h = h
+
+decimal-short : (k n : ℕ) → length (decimal k n) ≤ k
+decimal-short zero n = omega arith
+decimal-short (suc k) n =
+    let front : List ℕ = cond (ltb n 10) [] (decimal k (n / 10)) in
+    omega (arith, length-append front ((48 + n % 10) ∷ []), unless (ltb n 10) (decimal k (n / 10)) k (decimal-short k (n / 10)))
+
+pub number-short : (n after : ℕ) → length (numberText n after) ≤ 21
+number-short n after = omega (arith, length-append (decimal 20 n) (after ∷ []), decimal-short 20 n)

@@ -1,11 +1,11 @@
 -- Text written piece by piece: a piece after another, a byte after a piece, and the walks over bytes and rows. Assumes nothing.
 use Prim.Native.Nat.{ℕ, _+_, _/_, _%_, _<_, _≤_}
-use mathlib.Core.Path.{_≡_, refl, sym, ap, _∙_}
+use mathlib.Core.Path.{_≡_, refl, sym, ap, subst, _∙_}
 use mathlib.Core.List.{List, [], _∷_, _++_}
 use native.Mathlib.Numerals.{add-one}
 use native.Mathlib.Omega.{arith}
 use lib.ListN.{length, getD, set, drop, length-append, drop-of-length-le}
-use lib.Seq.{sets, drop-cons}
+use lib.Seq.{sets, length-sets, drop-cons}
 use Rattle.format.specs.Program.{digit, hex}
 use Rattle.basics.proofs.Append.{Walk, sets-append, walk-start, walk-end, walk-piece, walk-room}
 use Rattle.printer.specs.Printed.{rowLine, Wrote}
@@ -21,6 +21,14 @@ wrote-then xs ys {at} {out} {out′} {out″} {next} v w = record {
 pub wrote-byte : (xs : List ℕ) (x : ℕ) {at : ℕ} {out out′ : List ℕ} {next : ℕ} → Wrote xs at out out′ next
     → Wrote (xs ++ (x ∷ [])) at out (set out′ next x) (next + 1)
 wrote-byte xs x w = wrote-then xs (x ∷ []) w (record { place = refl; bytes = refl })
+
+-- what was written, said another way
+pub wrote-as : {xs ys : List ℕ} {at : ℕ} {out out′ : List ℕ} {next : ℕ} → Wrote xs at out out′ next → xs ≡ ys → Wrote ys at out out′ next
+wrote-as {at} {out} {out′} {next} w e = subst (λ (zs : List ℕ). Wrote zs at out out′ next) e w
+
+-- the buffer stays as long as it was
+pub wrote-long : {text : List ℕ} {at : ℕ} {out out′ : List ℕ} {next : ℕ} → Wrote text at out out′ next → length out′ ≡ length out
+wrote-long {text} {at} {out} w = ap length (w .bytes) ∙ length-sets out at text
 
 -- nothing is left of a walk
 pub walk-wrote : {whole rest out₀ : List ℕ} {at₀ : ℕ} {out : List ℕ} {at : ℕ} → Walk whole rest out₀ at₀ out at → rest ≡ [] → Wrote whole at₀ out₀ out at
