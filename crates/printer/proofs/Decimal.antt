@@ -44,7 +44,7 @@ unless : (b : Bool) (xs : List ℕ) (k : ℕ) → length xs ≤ k → length (co
 unless true xs k h = omega arith
 unless false xs k h = h
 
-decimal-short : (k n : ℕ) → length (decimal k n) ≤ k
+pub decimal-short : (k n : ℕ) → length (decimal k n) ≤ k
 decimal-short zero n = omega arith
 decimal-short (suc k) n =
     let front : List ℕ = cond (ltb n 10) [] (decimal k (n / 10)) in

@@ -3,3 +3,4 @@ pub mod Written
 pub mod Decimal
 pub mod Rows
 pub mod Refused
+pub mod Output

@@ -3,12 +3,12 @@ use Prim.Native.Nat.{ℕ, _+_, _≤_}
 use mathlib.Core.Path.{_≡_, ap, _∙_}
 use mathlib.Core.List.{List, [], _∷_, _++_, append-assoc}
 use native.Mathlib.Omega.{arith}
-use lib.ListN.{length}
+use lib.ListN.{length, length-append}
 use Rattle.format.specs.declared.Returned.{Returned}
 use Rattle.format.specs.Program.{decimal, refusedLine}
-use Rattle.printer.specs.Printed.{numberText, Wrote}
+use Rattle.printer.specs.Printed.{refusedRoom, numberText, Wrote}
 use Rattle.printer.proofs.Written.{wrote-then, wrote-as, wrote-long}
-use Rattle.printer.proofs.Decimal.{number-short}
+use Rattle.printer.proofs.Decimal.{decimal-short, number-short}
 
 -- the word
 abbrev pub word : List ℕ
@@ -20,6 +20,19 @@ pub number-room : (n after k : ℕ) {at : ℕ} {out out′ : List ℕ} {next : �
 number-room n after k w h = omega (arith, w .place, wrote-long w, number-short n after)
 
 -- ---- the pieces one after another
+pieces-long : (w x y z s t : List ℕ) → length (w ++ x ++ s ++ y ++ s ++ z ++ t) ≡ length w + length x + length s + length y + length s + length z + length t
+pieces-long w x y z s t = simp length-append
+
+pub refused-short : (a : Returned) → length (refusedLine a) ≤ refusedRoom
+refused-short a =
+    omega (
+      arith,
+      pieces-long word (decimal 20 (a .0)) (decimal 20 (a .1)) (decimal 20 (a .2)) (32 ∷ []) (10 ∷ []),
+      decimal-short 20 (a .0),
+      decimal-short 20 (a .1),
+      decimal-short 20 (a .2),
+    )
+
 regroup : (w x y z s t : List ℕ) → w ++ (x ++ s) ++ (y ++ s) ++ (z ++ t) ≡ w ++ x ++ s ++ y ++ s ++ z ++ t
 regroup w x y z s t = simp append-assoc
 
