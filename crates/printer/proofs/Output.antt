@@ -1,13 +1,13 @@
 -- The output, case by case: of a sheet that was encoded, of an input whose header is whole or cut, and of one that goes on. And how
 -- long it is. Assumes nothing.
-use Prim.Native.Nat.{ℕ, zero, suc, _+_, _-_, _*_, _<_, _≤_}
+use Prim.Native.Nat.{ℕ, suc, _+_, _-_, _<_, _≤_}
 use mathlib.Core.Path.{_≡_, refl, sym, ap, ap₂, _∙_}
 use mathlib.Core.Bool.{Bool, true, false, cond}
 use mathlib.Core.List.{List, [], _∷_, _++_, append-nil}
 use native.Mathlib.Numerals.{add-one}
 use native.Mathlib.Omega.{arith}
 use lib.Dec.{ltb}
-use lib.ListN.{length, getD, take, drop, length-append}
+use lib.ListN.{length, take, drop, replicate, length-append, length-replicate}
 use lib.Seq.{drop-cons, take-at, length-take-le, length-sets}
 use borrow.Author.Tests.{ltb-true, ltb-false, lt-ltb, le-ltb}
 use borrow.Rule.Slice.PartAt.{part-to-end}
@@ -52,24 +52,32 @@ rows-few list n sheet k m e = (
 pub sheet-short : (list : List ℕ) (n : ℕ) (sheet : List ℕ) → length (sheetText list n sheet) ≤ textRoom
 sheet-short list n sheet = by-check (encodeCheck list n sheet rowRoom offsetRoom) refl
   where
-    rows : List (List ℕ)
-    rows = sheetRows n (columns list) sheet
-
-    by-check : (k : Check) → encodeCheck list n sheet rowRoom offsetRoom ≡ k → length (lines k rows) ≤ textRoom
+    by-check : (k : Check) → encodeCheck list n sheet rowRoom offsetRoom ≡ k → length (lines k (sheetRows n (columns list) sheet)) ≤ textRoom
     by-check Pass e =
         let f = rows-few list n sheet rowRoom offsetRoom e in
-        omega (arith, length-lines rows, rows-many n (columns list) (sheetSlots n (columns list) sheet), f .0, f .1)
+        omega (arith, length-lines (sheetRows n (columns list) sheet), rows-many n (columns list) (sheetSlots n (columns list) sheet), f .0, f .1)
     by-check (Refuse x) e = omega (arith, refused-short (refusalNumbers x))
 
 lines-refused : (k : Check) (a b : ℕ) (rows : List (List ℕ)) (x : Refusal) → answer k a b ≡ Refused x → lines k rows ≡ refusedLine (refusalNumbers x)
 lines-refused Pass a b rows x e = absurd (let z : _≡_ {A = ℕ} 0 1 = cc in omega arith)
 lines-refused (Refuse y) a b rows x e = ap (λ (z : Refusal). refusedLine (refusalNumbers z)) {x = y} {y = x} (cc)
 
--- as encode answers it, and leaves the buffers
-module _ (list : List ℕ) (n : ℕ) (sheet rows offsets : List ℕ) (given : Answer) (rows′ offsets′ : List ℕ) (h : Encoded list n sheet rows offsets given rows′ offsets′)
-    (a : length rows ≡ rowRoom) (b : length offsets ≡ offsetRoom) where
+-- as encode answers it, and leaves the buffers that were zeros
+abbrev rows : List ℕ
+rows = replicate {A = ℕ} rowRoom 0
+
+abbrev offsets : List ℕ
+offsets = replicate {A = ℕ} offsetRoom 0
+
+module _ (list : List ℕ) (n : ℕ) (sheet : List ℕ) (given : Answer) (rows′ offsets′ : List ℕ) (h : Encoded list n sheet rows offsets given rows′ offsets′) where
+  rows-long : length rows ≡ rowRoom
+  rows-long = length-replicate {A = ℕ} rowRoom 0
+
+  offsets-long : length offsets ≡ offsetRoom
+  offsets-long = length-replicate {A = ℕ} offsetRoom 0
+
   told : given ≡ encodeAnswer list n sheet rowRoom offsetRoom
-  told = h .answers ∙ ap₂ (encodeAnswer list n sheet) a b
+  told = h .answers ∙ ap₂ (encodeAnswer list n sheet) rows-long offsets-long
 
   pub refused-text : (x : Refusal) → given ≡ Refused x → refusedLine (refusalNumbers x) ≡ sheetText list n sheet
   unfolding encodeAnswer
@@ -97,7 +105,7 @@ module _ (list : List ℕ) (n : ℕ) (sheet rows offsets : List ℕ) (given : An
     pub rows-text : hexLines (cutRows n rows′ offsets′) ≡ sheetText list n sheet
     rows-text =
         ap hexLines (ap₂ (cutRows n) bytes ends ∙ written-rows encodedRows _ _ n many)
-        ∙ ap (λ (k : Check). lines k encodedRows) (sym passes) ∙ ap₂ (λ (k m : ℕ). lines (encodeCheck list n sheet k m) encodedRows) a b
+        ∙ ap (λ (k : Check). lines k encodedRows) (sym passes) ∙ ap₂ (λ (k m : ℕ). lines (encodeCheck list n sheet k m) encodedRows) rows-long offsets-long
 
 -- ---- an input
 

@@ -5,7 +5,7 @@ use mathlib.Core.List.{List, [], _∷_, _++_}
 use native.Mathlib.Numerals.{add-one}
 use native.Mathlib.Omega.{arith}
 use lib.ListN.{length, getD, set, drop, length-append, drop-of-length-le}
-use lib.Seq.{sets, length-sets, drop-cons}
+use lib.Seq.{length-sets, drop-cons}
 use Rattle.format.specs.Program.{digit, hex}
 use Rattle.basics.proofs.Append.{Walk, sets-append, walk-start, walk-end, walk-piece, walk-room}
 use Rattle.printer.specs.Printed.{rowLine, Wrote}
@@ -13,7 +13,7 @@ use Rattle.printer.specs.Printed.{rowLine, Wrote}
 -- ---- pieces
 pub wrote-then : (xs ys : List ℕ) {at : ℕ} {out out′ out″ : List ℕ} {next last : ℕ} → Wrote xs at out out′ next → Wrote ys next out′ out″ last
     → Wrote (xs ++ ys) at out out″ last
-wrote-then xs ys {at} {out} {out′} {out″} {next} v w = record {
+wrote-then xs ys {at} {out} v w = record {
   place = omega (arith, v .place, w .place, length-append xs ys);
   bytes = w .bytes ∙ rw (v .bytes, v .place) (sym (sets-append xs ys out at));
 }

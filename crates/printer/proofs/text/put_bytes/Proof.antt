@@ -8,8 +8,6 @@ use Rattle.basics.proofs.Append.{Walk, walk-first, walk-byte}
 use Rattle.printer.proofs.Written.{walk-wrote, bytes-step}
 use Rattle.printer.proofs.text.put_bytes.Statement.{statement}
 use Rattle.printer.proofs.text.put_bytes.Tie as tie
-use Rattle.printer.proofs.text.put_bytes.Reads as reads
-use Rattle.printer.proofs.text.put_bytes.Lts as lts
 
 abbrev Inv-loop : tie.InvT-loop
 Inv-loop text out₀ at i₀ out i = (i ≤ length text) × Walk text (drop i text) out₀ at out (at + i)
@@ -20,20 +18,11 @@ abbrev μ-loop : tie.MeasureT-loop
 loop-holds : tie.Need-loop-holds Inv-loop μ-loop
 loop-holds c = (omega arith, walk-first (c .args .text .now) (c .args .text .now) (c .args .out .now) (c .args .at) refl)
 
-shared-slice-read-out : tie.Need-shared-slice-read-out Inv-loop μ-loop
-shared-slice-read-out c = omega arith
-
 add-out : tie.Need-add-out Inv-loop μ-loop
 add-out c = omega (arith, c .before .before .before .pre, c .before .before .before .good)
 
 slice-write-out : tie.Need-slice-write-out Inv-loop μ-loop
 slice-write-out c = omega (arith, c .before .before .before .pre, c .before .before .loop .inv .1 .same)
-
-add-i : tie.Need-add-i Inv-loop μ-loop
-add-i c = omega arith
-
-loop-less : tie.Need-loop-less Inv-loop μ-loop
-loop-less c = omega arith
 
 loop-again : tie.Need-loop-again Inv-loop μ-loop
 loop-again c =
@@ -57,11 +46,11 @@ put-bytes-spec =
     Inv-loop
     μ-loop
     loop-holds
-    shared-slice-read-out
+    (λ c. omega arith)
     add-out
     slice-write-out
-    add-i
-    loop-less
+    (λ c. omega arith)
+    (λ c. omega arith)
     loop-again
     add-result
     same-length

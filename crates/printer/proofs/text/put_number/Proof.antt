@@ -8,19 +8,6 @@ use Rattle.printer.proofs.Decimal.{decimal-digits, few-digits}
 use borrow.Author.Needs.{needs}
 use Rattle.printer.proofs.text.put_number.Statement.{statement}
 use Rattle.printer.proofs.text.put_number.Tie as tie
-use Rattle.printer.proofs.text.put_number.Reads as reads
-use Rattle.printer.proofs.text.put_number.Lts as lts
-use Rattle.io.proofs.decimal.Reads as decimal-reads
-use Rattle.printer.proofs.text.put_bytes.Reads as put-bytes-reads
-
-decimal-requires : tie.Need-decimal-requires
-decimal-requires c κs = search needs
-
-array-share-prefix-digits : tie.Need-array-share-prefix-digits
-array-share-prefix-digits c = search needs
-
-slice-aggregate-put-bytes : tie.Need-slice-aggregate-put-bytes
-slice-aggregate-put-bytes c = search needs
 
 -- there are at most 20 digits
 few : (c : tie.After-decimal) → c .decimal .result ≤ 20
@@ -41,9 +28,6 @@ slice-write-out c = omega (arith, room (c .before .before), wrote-long (c .befor
 add-result : tie.Need-add-result
 add-result c = omega (arith, room (c .before .before), c .before .before .before .before .before .before .before .before .good)
 
-same-length : tie.Need-same-length
-same-length c = search needs
-
 returns : tie.Need-returns
 returns c =
     let d = c .before .before .before .before .before in
@@ -53,12 +37,11 @@ pub put-number-spec : {M : Type 1} → statement M
 put-number-spec =
     tie.close
     (tie.spec
-    decimal-requires
-    array-share-prefix-digits
-    slice-aggregate-put-bytes
+    (λ c κs. search needs)
+    (λ c. search needs)
+    (λ c. search needs)
     put-bytes-requires
     slice-write-out
     add-result
-    same-length
+    (λ c. search needs)
     returns)
-

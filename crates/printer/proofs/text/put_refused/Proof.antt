@@ -8,23 +8,6 @@ use Rattle.printer.proofs.Written.{wrote-long}
 use Rattle.printer.proofs.Refused.{number-room, refused-wrote}
 use Rattle.printer.proofs.text.put_refused.Statement.{statement}
 use Rattle.printer.proofs.text.put_refused.Tie as tie
-use Rattle.printer.proofs.text.put_refused.Reads as reads
-use Rattle.printer.proofs.text.put_refused.Lts as lts
-use Rattle.format.proofs.refusal_numbers.Reads as refusal-numbers-reads
-use Rattle.printer.proofs.text.put_bytes.Reads as put-bytes-reads
-use Rattle.printer.proofs.text.put_number.Reads as put-number-reads
-
-refusal-numbers-requires : tie.Need-refusal-numbers-requires
-refusal-numbers-requires c κs = search needs
-
-slice-aggregate-put-bytes : tie.Need-slice-aggregate-put-bytes
-slice-aggregate-put-bytes c = search needs
-
-put-bytes-requires : tie.Need-put-bytes-requires
-put-bytes-requires c κs = search needs
-
-put-number-requires : tie.Need-put-number-requires
-put-number-requires c κs = search needs
 
 -- the three numbers
 abbrev numbers : tie.After-put-bytes → Returned
@@ -48,9 +31,6 @@ put-number-requires-2 c κs = omega (arith, second (c .before .before .before))
 put-number-requires-3 : tie.Need-put-number-requires-3
 put-number-requires-3 c κs = third (c .before .before .before)
 
-same-length : tie.Need-same-length
-same-length c = search needs
-
 returns : tie.Need-returns
 returns c =
     let t = c .before .before in
@@ -63,12 +43,11 @@ pub put-refused-spec : {M : Type 1} → statement M
 put-refused-spec =
     tie.close
     (tie.spec
-    refusal-numbers-requires
-    slice-aggregate-put-bytes
-    put-bytes-requires
-    put-number-requires
+    (λ c κs. search needs)
+    (λ c. search needs)
+    (λ c κs. search needs)
+    (λ c κs. search needs)
     put-number-requires-2
     put-number-requires-3
-    same-length
+    (λ c. search needs)
     returns)
-

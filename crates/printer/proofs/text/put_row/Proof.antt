@@ -1,14 +1,10 @@
 -- `printer::text::put_row` meets its contract. The invariant: the digits of the bytes passed are written. Assumes nothing.
 use Prim.Native.Nat.{_+_, _-_, _≤_}
-use mathlib.Core.Path.{_∙_}
 use native.Mathlib.Omega.{arith}
 use lib.ListN.{length, length-set}
 use Rattle.printer.proofs.Written.{InHex, hex-begin, hex-room, hex-last, hex-more, hex-wrote}
 use Rattle.printer.proofs.text.put_row.Statement.{statement}
 use Rattle.printer.proofs.text.put_row.Tie as tie
-use Rattle.printer.proofs.text.put_row.Reads as reads
-use Rattle.printer.proofs.text.put_row.Lts as lts
-use Rattle.printer.proofs.text.digit.Reads as digit-reads
 
 abbrev Inv-loop : tie.InvT-loop
 Inv-loop row out₀ at place₀ i₀ out place i = InHex row out₀ at out place i
@@ -18,9 +14,6 @@ abbrev μ-loop : tie.MeasureT-loop
 
 loop-holds : tie.Need-loop-holds Inv-loop μ-loop
 loop-holds c = hex-begin _ _ _
-
-shared-slice-read-b : tie.Need-shared-slice-read-b Inv-loop μ-loop
-shared-slice-read-b c = omega arith
 
 -- there is room for the two digits of byte i
 room : (c : tie.In-loop Inv-loop μ-loop) → c .before .loop .place + 2 ≤ length (c .before .loop .out)
@@ -32,9 +25,6 @@ digit-requires c κs = omega (arith, c .shared-slice-known2 .given (c .before .b
 slice-write-out : tie.Need-slice-write-out Inv-loop μ-loop
 slice-write-out c = omega (arith, room (c .before .before))
 
-digit-requires-2 : tie.Need-digit-requires-2 Inv-loop μ-loop
-digit-requires-2 c κs = omega arith
-
 add-out : tie.Need-add-out Inv-loop μ-loop
 add-out c = let t = c .before .before .before in omega (arith, room t, t .before .loop .inv .walk .same, t .before .before .before .before .good)
 
@@ -43,12 +33,6 @@ slice-write-out-2 c = simp length-set (omega (arith, room (c .before .before .be
 
 add-place : tie.Need-add-place Inv-loop μ-loop
 add-place c = let t = c .before .before .before in omega (arith, room t, t .before .loop .inv .walk .same, t .before .before .before .before .good)
-
-add-i : tie.Need-add-i Inv-loop μ-loop
-add-i c = omega arith
-
-loop-less : tie.Need-loop-less Inv-loop μ-loop
-loop-less c = omega arith
 
 loop-again : tie.Need-loop-again Inv-loop μ-loop
 loop-again c =
@@ -78,18 +62,17 @@ put-row-spec =
     Inv-loop
     μ-loop
     loop-holds
-    shared-slice-read-b
+    (λ c. omega arith)
     digit-requires
     slice-write-out
-    digit-requires-2
+    (λ c κs. omega arith)
     add-out
     slice-write-out-2
     add-place
-    add-i
-    loop-less
+    (λ c. omega arith)
+    (λ c. omega arith)
     loop-again
     slice-write-out-3
     add-result
     same-length
     returns)
-

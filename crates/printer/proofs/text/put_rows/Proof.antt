@@ -5,9 +5,6 @@ use native.Mathlib.Omega.{arith}
 use Rattle.printer.proofs.Rows.{Lined, lined-begin, lined-room, lined-more, lined-wrote, row-rises, row-inside}
 use Rattle.printer.proofs.text.put_rows.Statement.{statement}
 use Rattle.printer.proofs.text.put_rows.Tie as tie
-use Rattle.printer.proofs.text.put_rows.Reads as reads
-use Rattle.printer.proofs.text.put_rows.Lts as lts
-use Rattle.printer.proofs.text.put_row.Reads as put-row-reads
 
 abbrev Inv-loop : tie.InvT-loop
 Inv-loop rows offsets n out₀ at₀ i₀ out at i = Lined n rows offsets out₀ out at i
@@ -18,17 +15,8 @@ abbrev μ-loop : tie.MeasureT-loop
 loop-holds : tie.Need-loop-holds Inv-loop μ-loop
 loop-holds c = lined-begin _ _ _ _
 
-mul-from : tie.Need-mul-from Inv-loop μ-loop
-mul-from c = omega arith
-
 shared-slice-read-from : tie.Need-shared-slice-read-from Inv-loop μ-loop
 shared-slice-read-from c = omega (arith, c .before .before .before .before .before .before .pre .0 .there)
-
-add-to : tie.Need-add-to Inv-loop μ-loop
-add-to c = omega arith
-
-mul-to : tie.Need-mul-to Inv-loop μ-loop
-mul-to c = omega arith
 
 shared-slice-read-to : tie.Need-shared-slice-read-to Inv-loop μ-loop
 shared-slice-read-to c = omega (arith, c .before .before .before .before .before .before .before .pre .0 .there)
@@ -46,12 +34,6 @@ put-row-requires : tie.Need-put-row-requires Inv-loop μ-loop
 put-row-requires c κs =
     let t = c .before .before .before .before in
     rw (add-one (t .before .loop .i)) (lined-room (t .before .loop .inv) (t .loop-test .taken) (t .before .before .before .before .before .pre .1))
-
-add-i : tie.Need-add-i Inv-loop μ-loop
-add-i c = omega arith
-
-loop-less : tie.Need-loop-less Inv-loop μ-loop
-loop-less c = omega arith
 
 loop-again : tie.Need-loop-again Inv-loop μ-loop
 loop-again c =
@@ -71,18 +53,17 @@ put-rows-spec =
     Inv-loop
     μ-loop
     loop-holds
-    mul-from
+    (λ c. omega arith)
     shared-slice-read-from
-    add-to
-    mul-to
+    (λ c. omega arith)
+    (λ c. omega arith)
     shared-slice-read-to
     sub-put-row
     part-put-row-start
     part-put-row-end
     put-row-requires
-    add-i
-    loop-less
+    (λ c. omega arith)
+    (λ c. omega arith)
     loop-again
     same-length
     returns)
-
