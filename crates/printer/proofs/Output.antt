@@ -8,7 +8,7 @@ use native.Mathlib.Numerals.{add-one}
 use native.Mathlib.Omega.{arith}
 use lib.Dec.{ltb}
 use lib.ListN.{length, take, drop, replicate, length-append, length-replicate}
-use lib.Seq.{drop-cons, take-at, length-take-le, length-sets}
+use lib.Seq.{drop-cons, take-at, drop-at, length-take-le, length-sets}
 use borrow.Author.Tests.{ltb-true, ltb-false, lt-ltb, le-ltb}
 use borrow.Rule.Slice.PartAt.{part-to-end}
 use Rattle.format.specs.declared.Refusal.{Refusal}
@@ -18,7 +18,7 @@ use Rattle.format.specs.declared.Check.the-variants.{Pass, Refuse}
 use Rattle.format.specs.declared.Answer.{Answer}
 use Rattle.format.specs.declared.Answer.the-variants.{Done, Refused}
 use Rattle.format.specs.Limits.{maxRows}
-use Rattle.format.specs.Lists.{low, joined, endsFrom}
+use Rattle.format.specs.Lists.{low, joined, endsFrom, over}
 use Rattle.format.specs.Columns.{columns}
 use Rattle.format.specs.Sheet.{sheetSlots}
 use Rattle.format.specs.Numbers.{refusalNumbers}
@@ -31,15 +31,11 @@ use Rattle.laws.proofs.Accept.{encoded, encode-done, encode-rows, encode-offset
 use Rattle.laws.proofs.Cuts.{Cuts, written-cuts, written-rows}
 use Rattle.laws.proofs.Turned.{rows-many}
 use Rattle.io.specs.Counts.{Counts}
-use Rattle.printer.specs.Printed.{textRoom, Wrote, Read, Printed}
+use Rattle.printer.specs.Printed.{textRoom, sheetText, Wrote, Read, Printed}
 use Rattle.printer.proofs.Rows.{length-lines}
 use Rattle.printer.proofs.Refused.{refused-short}
 
 -- ---- a sheet
-
--- its lines
-abbrev pub sheetText : List ℕ → ℕ → List ℕ → List ℕ
-sheetText list n sheet = lines (encodeCheck list n sheet rowRoom offsetRoom) (sheetRows n (columns list) sheet)
 
 -- one that passes has few rows, and few bytes in them
 rows-few : (list : List ℕ) (n : ℕ) (sheet : List ℕ) (k m : ℕ) → encodeCheck list n sheet k m ≡ Pass → (n ≤ maxRows) × (sheetTotal n (columns list) sheet ≤ k)
@@ -122,7 +118,7 @@ unfolding output
 whole-output s e = rw e
 
 -- over 32,768 bytes
-pub long-output : (s : List ℕ) → inputRoom < length s → refusedLine (refusalNumbers Input) ≡ output s
+long-output : (s : List ℕ) → inputRoom < length s → refusedLine (refusalNumbers Input) ≡ output s
 long-output s h = cut-output s (rw (lt-ltb inputRoom (length s) h))
 
 module _ (s : List ℕ) (few : length s ≤ inputRoom) where
@@ -151,6 +147,7 @@ module _ (s : List ℕ) (few : length s ≤ inputRoom) where
         (part-to-end s (2 + k + 2) ∙ ap (λ (m : ℕ). drop m s) start)
         ∙ whole-output s (rw (le-ltb inputRoom (length s) few, le-ltb (length s) 2 h, le-ltb (length s) (2 + two s 0 + 2) (omega arith)))
 
+-- no output is longer than its room
 output-short : (s : List ℕ) → length (output s) ≤ textRoom
 unfolding output
 output-short s = by-test (headerCut s)
@@ -159,22 +156,36 @@ output-short s = by-test (headerCut s)
     by-test true = omega (arith, refused-short (refusalNumbers Input))
     by-test false = sheet-short (listIn s) (countIn s) (sheetIn s)
 
--- ---- the text in front of the buffer
-in-front : (text out out′ : List ℕ) (r : ℕ) → Wrote text 0 out out′ r → length text ≤ length out → Counts r out′ × (take r out′ ≡ text)
-in-front text out out′ r w fits =
-    let long : r ≤ length out′ = omega (arith, w .place, ap length (w .bytes), length-sets out 0 text) in (
-      (long, sym (length-take-le r out′ long)),
-      ap (take r) (w .bytes ∙ sym (over-sets text out fits)) ∙ take-at text (drop (length text) out) r (omega (arith, w .place)),
-    )
+-- ---- the text in front of the buffer, and the bytes past it
+module _ (text out out′ : List ℕ) (r : ℕ) (w : Wrote text 0 out out′ r) (fits : length text ≤ length out) where
+  long : r ≡ length text
+  long = omega (arith, w .place)
+
+  counted : Counts r out′
+  counted =
+      let most : r ≤ length out′ = omega (arith, long, ap length (w .bytes), length-sets out 0 text) in
+      (most, sym (length-take-le r out′ most))
+
+  over-is : out′ ≡ over text out
+  over-is = w .bytes ∙ sym (over-sets text out fits)
+
+  front : take r out′ ≡ text
+  front = ap (take r) over-is ∙ take-at text (drop (length text) out) r (sym long)
+
+  back : drop r out′ ≡ drop r out
+  back = ap (drop r) over-is ∙ drop-at text (drop (length text) out) r (sym long) ∙ ap (λ (k : ℕ). drop k out) (sym long)
 
 -- more follows: the input is over 32,768 bytes
 pub printed-long : (input out out′ : List ℕ) (more : Bool) (r : ℕ) → Read input more → more ≡ true → textRoom ≤ length out
-    → Wrote (refusedLine (refusalNumbers Input)) 0 out out′ r → Printed input more out′ r
+    → Wrote (refusedLine (refusalNumbers Input)) 0 out out′ r → Printed input more out out′ r
 printed-long input out out′ more r i e room w =
-    let z = in-front _ out out′ r w (omega (arith, refused-short (refusalNumbers Input))) in
+    let fits : length (refusedLine (refusalNumbers Input)) ≤ length out = omega (arith, refused-short (refusalNumbers Input)) in
     record {
-      counts = z .0;
-      says = λ rest f. z .1 ∙ long-output (input ++ rest) (omega (arith, i .full e, length-append input rest, ltb-true 0 (length rest) (sym f ∙ e)));
+      counts = counted _ out out′ r w fits;
+      says = λ rest f.
+          front _ out out′ r w fits
+          ∙ long-output (input ++ rest) (omega (arith, i .full e, length-append input rest, ltb-true 0 (length rest) (sym f ∙ e)));
+      stays = back _ out out′ r w fits;
     }
 
 -- nothing does: the input is what was read
@@ -182,10 +193,13 @@ none-left : (rest : List ℕ) → false ≡ ltb 0 (length rest) → rest ≡ []
 none-left [] e = refl
 none-left (x ∷ rest) e = absurd (omega (arith, ltb-false 0 (length (x ∷ rest)) (sym e)))
 
-pub printed-whole : (input out out′ : List ℕ) (more : Bool) (r : ℕ) → more ≡ false → textRoom ≤ length out → Wrote (output input) 0 out out′ r → Printed input more out′ r
+pub printed-whole : (input out out′ : List ℕ) (more : Bool) (r : ℕ) → more ≡ false → textRoom ≤ length out → Wrote (output input) 0 out out′ r
+    → Printed input more out out′ r
 printed-whole input out out′ more r e room w =
-    let z = in-front _ out out′ r w (omega (arith, output-short input)) in
+    let fits : length (output input) ≤ length out = omega (arith, output-short input) in
     record {
-      counts = z .0;
-      says = λ rest f. z .1 ∙ ap output (sym (append-nil input) ∙ ap (λ (l : List ℕ). input ++ l) (sym (none-left rest (sym e ∙ f))));
+      counts = counted _ out out′ r w fits;
+      says = λ rest f.
+          front _ out out′ r w fits ∙ ap output (sym (append-nil input) ∙ ap (λ (l : List ℕ). input ++ l) (sym (none-left rest (sym e ∙ f))));
+      stays = back _ out out′ r w fits;
     }

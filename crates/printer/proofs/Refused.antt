@@ -11,7 +11,7 @@ use Rattle.printer.proofs.Written.{wrote-then, wrote-as, wrote-long}
 use Rattle.printer.proofs.Decimal.{decimal-short, number-short}
 
 -- the word
-abbrev pub word : List ℕ
+abbrev word : List ℕ
 word = 114 ∷ 101 ∷ 102 ∷ 117 ∷ 115 ∷ 101 ∷ 100 ∷ 32 ∷ []
 
 -- a number takes at most 21 bytes

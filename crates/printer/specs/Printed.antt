@@ -4,9 +4,11 @@ use mathlib.Core.Path.{_≡_}
 use mathlib.Core.Bool.{Bool, true}
 use mathlib.Core.List.{List, [], _∷_, _++_}
 use lib.Dec.{ltb}
-use lib.ListN.{length, take}
+use lib.ListN.{length, take, drop}
 use lib.Seq.{sets}
-use Rattle.format.specs.Program.{inputRoom, hex, decimal, output}
+use Rattle.format.specs.Columns.{columns}
+use Rattle.format.specs.Entries.{encodeCheck, sheetRows}
+use Rattle.format.specs.Program.{inputRoom, rowRoom, offsetRoom, hex, decimal, lines, output}
 use Rattle.io.specs.Counts.{Counts}
 
 -- the hex digits of 32,768 row bytes, and 4,096 newlines; a refused line has at most 71 bytes
@@ -24,6 +26,10 @@ rowLine row = hex row ++ (10 ∷ [])
 abbrev pub numberText : ℕ → ℕ → List ℕ
 numberText n after = decimal 20 n ++ (after ∷ [])
 
+-- the lines of a sheet: its rows, or the refusal
+abbrev pub sheetText : List ℕ → ℕ → List ℕ → List ℕ
+sheetText list n sheet = lines (encodeCheck list n sheet rowRoom offsetRoom) (sheetRows n (columns list) sheet)
+
 -- text is written at a place, and the place after it is returned
 pub record Wrote (text : List ℕ) (at : ℕ) (entry exit : List ℕ) (next : ℕ) : Type 0 where
   pub place : next ≡ at + length text
@@ -35,7 +41,8 @@ pub record Read (input : List ℕ) (more : Bool) : Type 0 where
   pub full : more ≡ true → length input ≡ inputRoom
 
 -- the first r bytes are the output for the whole of standard input: for what was read and every rest, which is empty unless
--- more follows
-pub record Printed (input : List ℕ) (more : Bool) (out : List ℕ) (r : ℕ) : Type 0 where
-  pub counts : Counts r out
-  pub says : (rest : List ℕ) → more ≡ ltb 0 (length rest) → take r out ≡ output (input ++ rest)
+-- more follows. The others stay
+pub record Printed (input : List ℕ) (more : Bool) (entry exit : List ℕ) (r : ℕ) : Type 0 where
+  pub counts : Counts r exit
+  pub says : (rest : List ℕ) → more ≡ ltb 0 (length rest) → take r exit ≡ output (input ++ rest)
+  pub stays : drop r exit ≡ drop r entry

@@ -1,10 +1,8 @@
 // What the program prints for what it reads: document 01's input taken apart, encoded, and shown as text.
 ghost use Prim.Native.Nat.{_≤_};
 ghost use lib.ListN.{length};
-ghost use Rattle.format.specs.Columns.{columns};
-ghost use Rattle.format.specs.Entries.{encodeCheck, sheetRows};
-ghost use Rattle.format.specs.Program.{inputRoom, rowRoom, offsetRoom, lines, output};
-ghost use Rattle.printer.specs.Printed.{textRoom, Wrote, Read, Printed};
+ghost use Rattle.format.specs.Program.{inputRoom, output};
+ghost use Rattle.printer.specs.Printed.{textRoom, sheetText, Wrote, Read, Printed};
 use crate::text::put_refused;
 use crate::text::put_rows;
 use format::Answer;
@@ -16,6 +14,7 @@ mod text;
 // The most that is read of standard input.
 pub const INPUT_ROOM: usize = 32768;
 
+// The row buffer, and where each of 4,096 rows begins and the last ends.
 const ROW_ROOM: usize = 32768;
 
 const OFFSET_ROOM: usize = 4097;
@@ -26,8 +25,7 @@ pub const TEXT_ROOM: usize = 69632;
 // A sheet encoded: its rows, or the refusal.
 fn print_sheet(list: &[u8], n: u64, sheet: &[u8], out: &mut [u8]) -> usize
     requires { ⌜ textRoom ≤ length (now out) ⌝ }
-    ensures { λ r. ⌜ Wrote (lines (encodeCheck (now (list .entry)) n (now (sheet .entry)) rowRoom offsetRoom) (sheetRows n (columns (now (list .entry))) (now (sheet .entry))))
-        0 (now (out .entry)) (now (out .exit)) r ⌝ }
+    ensures { λ r. ⌜ Wrote (sheetText (now (list .entry)) n (now (sheet .entry))) 0 (now (out .entry)) (now (out .exit)) r ⌝ }
 {
     let mut rows = [0u8; ROW_ROOM];
     let mut offsets = [0u64; OFFSET_ROOM];
@@ -38,7 +36,7 @@ fn print_sheet(list: &[u8], n: u64, sheet: &[u8], out: &mut [u8]) -> usize
     put_rows(&rows, &offsets, n as usize, out)
 }
 
-// The whole input: list length, list, row count, and the sheet to the end. A header that is cut comes before all else.
+// The whole input: list length, list, row count, and the sheet to the end. 25, a cut header, comes before all else.
 fn print_input(input: &[u8], out: &mut [u8]) -> usize
     requires { ⌜ length (now input) ≤ inputRoom ⌝ }
     requires { ⌜ textRoom ≤ length (now out) ⌝ }
@@ -56,10 +54,10 @@ fn print_input(input: &[u8], out: &mut [u8]) -> usize
     print_sheet(&input[2..list_end], n, &input[sheet_start..], out)
 }
 
-// What was read of standard input, and whether more follows, which is over 32,768 bytes: the text in front of `out`, and its length.
-pub fn print(input: &[u8], more: bool, out: &mut [u8; 69632]) -> usize
+// The text for what was read of standard input, in front of `out`, and its length. Where more follows, the input is over 32,768 bytes.
+pub fn print(input: &[u8], more: bool, out: &mut [u8; TEXT_ROOM]) -> usize
     requires { ⌜ Read (now input) more ⌝ }
-    ensures { λ r. ⌜ Printed (now (input .entry)) more (now (out .exit)) r ⌝ }
+    ensures { λ r. ⌜ Printed (now (input .entry)) more (now (out .entry)) (now (out .exit)) r ⌝ }
 {
     if more {
         return put_refused(Refusal::Input, out);
