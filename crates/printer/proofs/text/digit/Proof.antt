@@ -1,0 +1,14 @@
+-- `printer::text::digit` meets its contract: both arms are the definition's. Assumes nothing.
+use borrow.Author.Needs.{needs}
+use borrow.Author.Tests.{lt-ltb, le-ltb}
+use Rattle.printer.proofs.text.digit.Statement.{statement}
+use Rattle.printer.proofs.text.digit.Tie as tie
+
+returns : tie.Need-returns
+returns c = rw (lt-ltb (c .before .args .d) 10 (c .if1 .taken))
+
+returns-2 : tie.Need-returns-2
+returns-2 c = rw (le-ltb (c .before .args .d) 10 (c .if1 .left))
+
+pub digit-spec : {M : Type 1} → statement M
+digit-spec = tie.close (tie.spec (λ c. search needs) (λ c. search needs) returns returns-2)

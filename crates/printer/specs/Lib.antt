@@ -1,0 +1,2 @@
+-- What the writers of the program's text promise.
+pub mod Printed

@@ -1,0 +1,66 @@
+// What the program prints for what it reads: document 01's input taken apart, encoded, and shown as text.
+ghost use Prim.Native.Nat.{_≤_};
+ghost use lib.ListN.{length};
+ghost use Rattle.format.specs.Program.{inputRoom, output};
+ghost use Rattle.printer.specs.Printed.{textRoom, sheetText, Wrote, Read, Printed};
+use crate::text::put_refused;
+use crate::text::put_rows;
+use format::Answer;
+use format::Refusal;
+use number::low16;
+
+mod text;
+
+// The most that is read of standard input.
+pub const INPUT_ROOM: usize = 32768;
+
+// The row buffer, and where each of 4,096 rows begins and the last ends.
+const ROW_ROOM: usize = 32768;
+
+const OFFSET_ROOM: usize = 4097;
+
+// The most that is printed: 32,768 row bytes in hex and 4,096 newlines.
+pub const TEXT_ROOM: usize = 69632;
+
+// A sheet encoded: its rows, or the refusal.
+fn print_sheet(list: &[u8], n: u64, sheet: &[u8], out: &mut [u8]) -> usize
+    requires { ⌜ textRoom ≤ length (now out) ⌝ }
+    ensures { λ r. ⌜ Wrote (sheetText (now (list .entry)) n (now (sheet .entry))) 0 (now (out .entry)) (now (out .exit)) r ⌝ }
+{
+    let mut rows = [0u8; ROW_ROOM];
+    let mut offsets = [0u64; OFFSET_ROOM];
+    let answer = station::encode::encode(list, n, sheet, &mut rows, &mut offsets);
+    if let Answer::Refused(r) = answer {
+        return put_refused(r, out);
+    }
+    put_rows(&rows, &offsets, n as usize, out)
+}
+
+// The whole input: list length, list, row count, and the sheet to the end. 25, a cut header, comes before all else.
+fn print_input(input: &[u8], out: &mut [u8]) -> usize
+    requires { ⌜ length (now input) ≤ inputRoom ⌝ }
+    requires { ⌜ textRoom ≤ length (now out) ⌝ }
+    ensures { λ r. ⌜ Wrote (output (now (input .entry))) 0 (now (out .entry)) (now (out .exit)) r ⌝ }
+{
+    if input.len() < 2 {
+        return put_refused(Refusal::Input, out);
+    }
+    let list_end = 2 + low16(input, 0) as usize;
+    let sheet_start = list_end + 2;
+    if input.len() < sheet_start {
+        return put_refused(Refusal::Input, out);
+    }
+    let n = low16(input, list_end) as u64;
+    print_sheet(&input[2..list_end], n, &input[sheet_start..], out)
+}
+
+// The text for what was read of standard input, in front of `out`, and its length. Where more follows, the input is over 32,768 bytes.
+pub fn print(input: &[u8], more: bool, out: &mut [u8; TEXT_ROOM]) -> usize
+    requires { ⌜ Read (now input) more ⌝ }
+    ensures { λ r. ⌜ Printed (now (input .entry)) more (now (out .entry)) (now (out .exit)) r ⌝ }
+{
+    if more {
+        return put_refused(Refusal::Input, out);
+    }
+    print_input(input, out)
+}
