@@ -27,5 +27,8 @@ fn main() {
     let more = more_follows(&input[..n]);
     let mut text = [0u8; TEXT_ROOM];
     let k = printer::print(&input[..n], more, &mut text);
-    io::write_all(STDOUT_FILENO, &text[..k]);
+    let is_written = io::write_all(STDOUT_FILENO, &text[..k]);
+    if !is_written {
+        os::fail(b"standard output");
+    }
 }
