@@ -1,9 +1,9 @@
--- `vectors::show_bytes` is safe and ends: the place stays within the slice. Assumes nothing.
+-- `vectors::show::show_bytes` is safe and ends: the place stays within the slice. Assumes nothing.
 use Prim.Native.Nat.{_≤_, _-_}
 use lib.ListN.{length}
 use borrow.Author.Needs.{needs}
-use Rattle.vectors.proofs.show_bytes.Statement.{statement}
-use Rattle.vectors.proofs.show_bytes.Tie as tie
+use Rattle.vectors.proofs.show.show_bytes.Statement.{statement}
+use Rattle.vectors.proofs.show.show_bytes.Tie as tie
 
 abbrev Inv-loop : tie.InvT-loop
 Inv-loop bytes i₀ i = i ≤ length bytes
