@@ -18,8 +18,8 @@ fn encode_names(name: &[u8], n: u64, sheet: &[u8]) {
     end_line();
 }
 
-// The longest value: 65,535 bytes.
-fn encode_longest() {
+// The longest value, 65,535 bytes, whose sheet finds no room; then its row with one byte more: the last block is full.
+fn run_longest() {
     let list = [16u8, 2];
     let mut sheet = [0x61u8; 65544];
     sheet[0] = 1;
@@ -38,6 +38,10 @@ fn encode_longest() {
     show_offsets(&offsets);
     show_bytes(&rows[67587..]);
     end_line();
+    decode_name(b"decode 65535 bytes:", &rows);
+    rows[67586] = 0x61;
+    rows[67587] = 32;
+    decode_name(b"decode 65536 bytes:", &rows);
 }
 
 // One row of variable bytes, decoded.
@@ -55,7 +59,7 @@ pub fn run() {
     encode_names(b"encode a, null:", 2, b"\x01\0\0\0\0\x01\0\0\0\x01\0\0\0a");
     encode_names(b"encode 8 bytes:", 1, b"\x01\0\0\0\0\x08\0\0\0abcdefgh");
     encode_names(b"encode 9 bytes:", 1, b"\x01\0\0\0\0\x09\0\0\0abcdefghi");
-    encode_longest();
+    run_longest();
     encode_names(b"encode 65536 bytes:", 1, b"\x01\0\0\0\0\0\0\x01\0");
     decode_name(b"decode a:", b"\x02a\0\0\0\0\0\0\0\x01");
     decode_name(b"decode null:", b"\0");

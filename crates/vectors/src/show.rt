@@ -26,13 +26,22 @@ fn wide(x: u8) -> u64 {
     x as u64
 }
 
-pub fn show_bytes(bytes: &[u8]) {
-    space();
+fn show_hex(bytes: &[u8]) {
     let mut i = 0;
     while i < bytes.len() {
         io::print_hex(STDOUT_FILENO, wide(bytes[i]), 2);
         i += 1;
     }
+}
+
+// Bytes in hex; `-` for none.
+pub fn show_bytes(bytes: &[u8]) {
+    space();
+    if bytes.len() == 0 {
+        io::write_all(STDOUT_FILENO, b"-");
+        return;
+    }
+    show_hex(bytes);
 }
 
 pub fn show_offsets(offsets: &[u64]) {
