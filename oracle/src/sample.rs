@@ -1,8 +1,9 @@
 //! The cases that are recorded: some hundreds of small ones, chosen from a seed.
 
 use crate::call::{numbers, Call, Entry};
-use crate::columns::{Column, BOOL, VARIABLE};
+use crate::columns::{Column, BOOL, FIXED_BINARY, VARIABLE};
 use crate::crate_side;
+use crate::damage::Good;
 use crate::hostile;
 use crate::make::{self, Nulls};
 use crate::model;
@@ -22,6 +23,9 @@ const MOST_ROOM: usize = 40;
 pub fn cases(rng: &mut Rng) -> Vec<Case> {
     let tables = tables(rng);
     let mut calls = chosen(rng);
+    calls.extend(lists());
+    calls.extend(row_counts());
+    calls.extend(tables.iter().step_by(24).flat_map(short_rooms));
     calls.extend(tables.iter().step_by(8).filter_map(first_two_rows));
     let spare = [0, 0, 1, 3].into_iter().cycle();
     let sheets = tables.into_iter().zip(spare);
@@ -69,6 +73,53 @@ fn tables(rng: &mut Rng) -> Vec<Table> {
         tables.push(make::table_with(rng, 2, columns, Nulls::Random, &[0, 1, 9]));
     }
     tables
+}
+
+/// Every fault of a list at the first, the second, the sixteenth and the seventeenth column.
+fn lists() -> Vec<Call> {
+    let faults: [&[u8]; 7] = [
+        &[0, 0],
+        &[17, 0],
+        &[1],
+        &[FIXED_BINARY, 0, 0],
+        &[1, 4],
+        &[FIXED_BINARY, 0, 1, 4],
+        &[FIXED_BINARY, 3, 0xFF, 0xFF],
+    ];
+    let mut calls = vec![Call::encode(&[], 0, &[], 0, 8)];
+    for before in [0, 1, 15, 16] {
+        for fault in faults {
+            let list = [&[1, 0].repeat(before), fault].concat();
+            calls.push(Call::encode(&list, 0, &[], 0, 8));
+            calls.push(Call::decode(&list, 0, &[], &[0; 8], 0));
+        }
+    }
+    calls
+}
+
+/// Row counts around the ceiling, and the largest number; the first is refused for what is missing.
+fn row_counts() -> Vec<Call> {
+    let counts = [model::MAX_ROWS, model::MAX_ROWS + 1, u64::MAX];
+    let calls = counts.map(|n| {
+        [
+            Call::encode(&[1, 0], n, &[], 0, 8),
+            Call::decode(&[1, 0], n, &[], &[0; 8], 0),
+        ]
+    });
+    calls.concat()
+}
+
+/// One row byte, offset or sheet byte less than a table needs.
+fn short_rooms(table: &Table) -> Vec<Call> {
+    let good = Good::of(table);
+    let [mut rows, mut offsets] = [good.encode(), good.encode()];
+    let [mut given, mut sheet] = [good.decode(), good.decode()];
+    rows.lent[0] = rows.lent[0].saturating_sub(1);
+    offsets.lent[1] -= 8;
+    given.given[2].truncate(8 * table.rows);
+    sheet.lent[0] = sheet.lent[0].saturating_sub(1);
+    let calls = [rows, offsets, given, sheet].into_iter();
+    calls.filter(|call| sort(call).is_some()).collect()
 }
 
 /// The first two rows that the crate writes, to compare.

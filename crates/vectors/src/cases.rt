@@ -1,6 +1,7 @@
 // Recorded cases, a line each. What each entry answers is shown with the whole of the lent buffers.
 ghost use Prim.Native.Nat.{_<_, _≤_};
 ghost use lib.ListN.{length};
+use crate::reader::ends;
 use crate::reader::hex_bytes;
 use crate::reader::numbers;
 use crate::reader::place;
@@ -80,12 +81,9 @@ fn encode_line(line: &[u8]) -> bool {
     let mut n = [0u64; 1];
     let mut sheet = [0u8; BYTES];
     let mut rooms = [0u64; 2];
-    let l = hex_bytes(word(line, 1), &mut list);
-    let s = hex_bytes(word(line, 3), &mut sheet);
-    if numbers(word(line, 2), &mut n) != 1
-        || numbers(word(line, 4), &mut rooms) != 2
-        || word(line, 5).len() != 0
-    {
+    let l = hex_bytes(line, 1, &mut list);
+    let s = hex_bytes(line, 3, &mut sheet);
+    if numbers(line, 2, &mut n) != 1 || numbers(line, 4, &mut rooms) != 2 || !ends(line, 5) {
         return false;
     }
     if LIST < l {
@@ -130,13 +128,10 @@ fn decode_line(line: &[u8]) -> bool {
     let mut rows = [0u8; BYTES];
     let mut offsets = [0u64; OFFSETS];
     let mut room = [0u64; 1];
-    let l = hex_bytes(word(line, 1), &mut list);
-    let r = hex_bytes(word(line, 3), &mut rows);
-    let o = numbers(word(line, 4), &mut offsets);
-    if numbers(word(line, 2), &mut n) != 1
-        || numbers(word(line, 5), &mut room) != 1
-        || word(line, 6).len() != 0
-    {
+    let l = hex_bytes(line, 1, &mut list);
+    let r = hex_bytes(line, 3, &mut rows);
+    let o = numbers(line, 4, &mut offsets);
+    if numbers(line, 2, &mut n) != 1 || numbers(line, 5, &mut room) != 1 || !ends(line, 6) {
         return false;
     }
     if LIST < l {
@@ -161,15 +156,15 @@ fn decode_line(line: &[u8]) -> bool {
 fn compare_line(line: &[u8]) -> bool {
     let mut a = [0u8; BYTES];
     let mut b = [0u8; BYTES];
-    let k = hex_bytes(word(line, 1), &mut a);
-    let m = hex_bytes(word(line, 2), &mut b);
+    let k = hex_bytes(line, 1, &mut a);
+    let m = hex_bytes(line, 2, &mut b);
     if BYTES < k {
         return false;
     }
     if BYTES < m {
         return false;
     }
-    if word(line, 3).len() != 0 {
+    if !ends(line, 3) {
         return false;
     }
     show_sign(b"compare", station::compare::compare(&a[0..k], &b[0..m]));

@@ -55,8 +55,17 @@ fn digit(byte: u8) -> u8 {
     }
 }
 
-// The bytes of a word, put in front of `out`, and how many they are.
-pub fn hex_bytes(word: &[u8], out: &mut [u8]) -> usize {
+// Whether a line has so many words and no more.
+pub fn ends(line: &[u8], count: usize) -> bool {
+    word(line, count).len() == 0
+}
+
+// The bytes of word k, put in front of `out`, and how many they are.
+pub fn hex_bytes(line: &[u8], k: usize, out: &mut [u8]) -> usize {
+    read_hex(word(line, k), out)
+}
+
+fn read_hex(word: &[u8], out: &mut [u8]) -> usize {
     if check::same(word, b"-") {
         return 0;
     }
@@ -92,8 +101,12 @@ fn with_digit(number: u64, digit: u64) -> u64 {
     tens + digit
 }
 
-// The numbers of a word, put in front of `out`, which holds zeros, and how many they are.
-pub fn numbers(word: &[u8], out: &mut [u64]) -> usize {
+// The numbers of word k, put in front of `out`, which holds zeros, and how many they are.
+pub fn numbers(line: &[u8], k: usize, out: &mut [u64]) -> usize {
+    read_numbers(word(line, k), out)
+}
+
+fn read_numbers(word: &[u8], out: &mut [u64]) -> usize {
     if check::same(word, b"-") {
         return 0;
     }

@@ -1,11 +1,11 @@
--- `vectors::reader::hex_bytes` is safe and ends: the place stays within the buffer, and twice it within the word. Assumes nothing.
+-- `vectors::reader::read_hex` is safe and ends: the place stays within the buffer, and twice it within the word. Assumes nothing.
 use Prim.Native.Nat.{_≤_, _-_}
 use mathlib.Core.Path.{_≡_, refl}
 use native.Mathlib.Omega.{arith}
 use lib.ListN.{length, length-set}
 use borrow.Author.Needs.{needs}
-use Rattle.vectors.proofs.reader.hex_bytes.Statement.{statement}
-use Rattle.vectors.proofs.reader.hex_bytes.Tie as tie
+use Rattle.vectors.proofs.reader.read_hex.Statement.{statement}
+use Rattle.vectors.proofs.reader.read_hex.Tie as tie
 
 abbrev Inv-loop : tie.InvT-loop
 Inv-loop word out₀ k i₀ out i = (i ≤ k) × (length out ≡ length out₀)
@@ -76,8 +76,8 @@ returns-4 c = search needs
 returns-5 : tie.Need-returns-5 Inv-loop μ-loop
 returns-5 c = search needs
 
-pub hex-bytes-spec : {M : Type 1} → statement M
-hex-bytes-spec =
+pub read-hex-spec : {M : Type 1} → statement M
+read-hex-spec =
     tie.close
     (tie.spec
     Inv-loop

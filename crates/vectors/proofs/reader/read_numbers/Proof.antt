@@ -1,12 +1,12 @@
--- `vectors::reader::numbers` is safe and ends: the place stays within the word, and the count below it. Assumes nothing.
+-- `vectors::reader::read_numbers` is safe and ends: the place stays within the word, and the count below it. Assumes nothing.
 use Prim.Native.Nat.{_≤_, _-_}
 use mathlib.Core.Logic.{⊎-elim}
 use mathlib.Core.Path.{_≡_, refl, ap}
 use native.Mathlib.Omega.{arith}
 use lib.ListN.{length, length-set}
 use borrow.Author.Needs.{needs}
-use Rattle.vectors.proofs.reader.numbers.Statement.{statement}
-use Rattle.vectors.proofs.reader.numbers.Tie as tie
+use Rattle.vectors.proofs.reader.read_numbers.Statement.{statement}
+use Rattle.vectors.proofs.reader.read_numbers.Tie as tie
 
 abbrev Inv-loop : tie.InvT-loop
 Inv-loop word out₀ k₀ i₀ out k i = (i ≤ length word) × (k ≤ length out) × (length out ≡ length out₀)
@@ -87,8 +87,8 @@ same-length-3 c = search needs
 returns-4 : tie.Need-returns-4 Inv-loop μ-loop
 returns-4 c = search needs
 
-pub numbers-spec : {M : Type 1} → statement M
-numbers-spec =
+pub read-numbers-spec : {M : Type 1} → statement M
+read-numbers-spec =
     tie.close
     (tie.spec
     Inv-loop
