@@ -1,9 +1,9 @@
 //! Recorded cases for the program `vectors`: a line that it reads, and the line that it must answer.
-//! The parts of a line stand between spaces: bytes in hex, numbers in decimal with commas between
-//! them, `-` for none of either.
+//! The parts of a line stand between spaces: bytes in hex, `-` for none; numbers in decimal, with
+//! commas between them.
 //!
-//!     encode LIST N SHEET ROOMS            the rooms are row bytes and offsets
-//!     decode LIST N ROWS OFFSETS ROOM      the room is sheet bytes
+//!     encode LIST SHEET N,ROWS,OFFSETS      with so much room for row bytes and offsets
+//!     decode LIST ROWS N,SHEET,OFFSET,..    with so much room for the sheet
 //!     compare A B
 //!
 //! An answer gives for each entry its name, its three numbers and the whole of the lent buffers,
@@ -33,22 +33,23 @@ impl Case {
             Case::Call(call) => call,
             Case::Sheet(table, spare) => &sheet_call(table, *spare),
         };
-        let mut words = vec![call.entry.name().to_string(), hex(&call.given[0])];
+        let mut counts = Vec::new();
         match call.entry {
-            Entry::Compare => words.push(hex(&call.given[1])),
-            Entry::Decode => words.extend([
-                call.n.to_string(),
-                hex(&call.given[1]),
-                listed(&numbers(&call.given[2])),
-                call.lent[0].to_string(),
-            ]),
-            _ => words.extend([
-                call.n.to_string(),
-                hex(&call.given[1]),
-                listed(&[call.lent[0] as u64, call.lent[1] as u64 / 8]),
-            ]),
+            Entry::Encode => counts.extend([call.n, call.lent[0] as u64, call.lent[1] as u64 / 8]),
+            Entry::Decode => {
+                counts.extend([call.n, call.lent[0] as u64]);
+                counts.extend(numbers(&call.given[2]));
+            }
+            _ => {}
         }
-        words.join(" ")
+        let counts: Vec<String> = counts.iter().map(u64::to_string).collect();
+        let (first, second) = (hex(&call.given[0]), hex(&call.given[1]));
+        let line = format!(
+            "{} {first} {second} {}",
+            call.entry.name(),
+            counts.join(",")
+        );
+        line.trim_end().to_string()
     }
 
     /// The line that answers it: a sheet as the crate's own code has it, a call as document 01 has it.
@@ -162,13 +163,4 @@ pub fn decode_words(name: &str, answer: &Checked<Decoded>, room: usize) -> Strin
         [0, decoded.sheet.len() as u64, decoded.nulls]
     });
     format!("{} {}", words(name, &answer), hex(&sheet))
-}
-
-/// Numbers with commas between them.
-fn listed(numbers: &[u64]) -> String {
-    let words: Vec<String> = numbers.iter().map(u64::to_string).collect();
-    match words.is_empty() {
-        true => "-".to_string(),
-        false => words.join(","),
-    }
 }

@@ -1,10 +1,15 @@
-// Recorded cases, a line each. What each entry answers is shown with the whole of the lent buffers.
+// Recorded cases, a line each:
+//
+//     encode LIST SHEET N,ROWS,OFFSETS      with so much room for row bytes and offsets
+//     decode LIST ROWS N,SHEET,OFFSET,..    with so much room for the sheet
+//     compare A B
+//
+// What each entry answers is shown with the whole of the lent buffers.
 ghost use Prim.Native.Nat.{_<_, _≤_};
 ghost use lib.ListN.{length};
-use crate::reader::ends;
-use crate::reader::hex_bytes;
-use crate::reader::numbers;
 use crate::reader::place;
+use crate::reader::read_hex;
+use crate::reader::read_numbers;
 use crate::reader::word;
 use crate::show::end_line;
 use crate::show::show;
@@ -13,12 +18,10 @@ use crate::show::show_offsets;
 use crate::show::show_sign;
 use libc::STDOUT_FILENO;
 
-// The most bytes of a list, the most of a sheet or of rows, and the most offsets.
-const LIST: usize = 256;
-
+// The most bytes of a word or a buffer, and the most numbers.
 const BYTES: usize = 2048;
 
-const OFFSETS: usize = 64;
+const NUMBERS: usize = 64;
 
 fn as_room(x: u64) -> usize {
     x as usize
@@ -49,59 +52,36 @@ fn show_all(
     end_line();
 }
 
-// The same with so much room for row bytes and for offsets; false if there is not so much here.
-fn encode(list: &[u8], n: u64, sheet: &[u8], row_room: usize, offset_room: usize) -> bool {
+fn encode(list: &[u8], sheet: &[u8], numbers: &[u64]) -> bool {
     let mut rows = [0xEEu8; BYTES];
-    let mut offsets = [9u64; OFFSETS];
+    let mut offsets = [9u64; NUMBERS];
     let mut back = [0xEEu8; BYTES];
+    if numbers.len() != 3 {
+        return false;
+    }
+    let r = as_room(numbers[1]);
+    let o = as_room(numbers[2]);
     let s = sheet.len();
+    if BYTES < r {
+        return false;
+    }
+    if NUMBERS < o {
+        return false;
+    }
     if BYTES < s {
-        return false;
-    }
-    if BYTES < row_room {
-        return false;
-    }
-    if OFFSETS < offset_room {
         return false;
     }
     show_all(
         list,
-        n,
+        numbers[0],
         sheet,
-        &mut rows[0..row_room],
-        &mut offsets[0..offset_room],
+        &mut rows[0..r],
+        &mut offsets[0..o],
         &mut back[0..s],
     );
     true
 }
 
-// encode LIST N SHEET ROOMS: the rooms are row bytes and offsets.
-fn encode_line(line: &[u8]) -> bool {
-    let mut list = [0u8; LIST];
-    let mut n = [0u64; 1];
-    let mut sheet = [0u8; BYTES];
-    let mut rooms = [0u64; 2];
-    let l = hex_bytes(line, 1, &mut list);
-    let s = hex_bytes(line, 3, &mut sheet);
-    if numbers(line, 2, &mut n) != 1 || numbers(line, 4, &mut rooms) != 2 || !ends(line, 5) {
-        return false;
-    }
-    if LIST < l {
-        return false;
-    }
-    if BYTES < s {
-        return false;
-    }
-    encode(
-        &list[0..l],
-        n[0],
-        &sheet[0..s],
-        as_room(rooms[0]),
-        as_room(rooms[1]),
-    )
-}
-
-// Rows decoded into a lent sheet.
 fn show_decoded(list: &[u8], n: u64, rows: &[u8], offsets: &[u64], sheet: &mut [u8]) {
     show(
         b"decode",
@@ -111,80 +91,60 @@ fn show_decoded(list: &[u8], n: u64, rows: &[u8], offsets: &[u64], sheet: &mut [
     end_line();
 }
 
-// The same with so much room for the sheet; false if there is not so much here.
-fn decode(list: &[u8], n: u64, rows: &[u8], offsets: &[u64], room: usize) -> bool {
+fn decode(list: &[u8], rows: &[u8], numbers: &[u64]) -> bool {
     let mut sheet = [0xEEu8; BYTES];
-    if BYTES < room {
+    if numbers.len() < 2 {
         return false;
     }
-    show_decoded(list, n, rows, offsets, &mut sheet[0..room]);
+    let s = as_room(numbers[1]);
+    if BYTES < s {
+        return false;
+    }
+    show_decoded(list, numbers[0], rows, &numbers[2..], &mut sheet[0..s]);
     true
 }
 
-// decode LIST N ROWS OFFSETS ROOM: the room is the sheet's.
-fn decode_line(line: &[u8]) -> bool {
-    let mut list = [0u8; LIST];
-    let mut n = [0u64; 1];
-    let mut rows = [0u8; BYTES];
-    let mut offsets = [0u64; OFFSETS];
-    let mut room = [0u64; 1];
-    let l = hex_bytes(line, 1, &mut list);
-    let r = hex_bytes(line, 3, &mut rows);
-    let o = numbers(line, 4, &mut offsets);
-    if numbers(line, 2, &mut n) != 1 || numbers(line, 5, &mut room) != 1 || !ends(line, 6) {
-        return false;
-    }
-    if LIST < l {
-        return false;
-    }
-    if BYTES < r {
-        return false;
-    }
-    if OFFSETS < o {
-        return false;
-    }
-    decode(
-        &list[0..l],
-        n[0],
-        &rows[0..r],
-        &offsets[0..o],
-        as_room(room[0]),
-    )
-}
-
-// compare A B.
-fn compare_line(line: &[u8]) -> bool {
-    let mut a = [0u8; BYTES];
-    let mut b = [0u8; BYTES];
-    let k = hex_bytes(line, 1, &mut a);
-    let m = hex_bytes(line, 2, &mut b);
-    if BYTES < k {
-        return false;
-    }
-    if BYTES < m {
-        return false;
-    }
-    if !ends(line, 3) {
-        return false;
-    }
-    show_sign(b"compare", station::compare::compare(&a[0..k], &b[0..m]));
+fn compare(a: &[u8], b: &[u8]) -> bool {
+    show_sign(b"compare", station::compare::compare(a, b));
     end_line();
     true
 }
 
-// Runs the case of a line; false if it holds none.
-fn run_line(line: &[u8]) -> bool {
-    let name = word(line, 0);
+// Runs a case; false if there is no such case.
+fn run_case(name: &[u8], first: &[u8], second: &[u8], numbers: &[u64]) -> bool {
     if check::same(name, b"encode") {
-        return encode_line(line);
+        return encode(first, second, numbers);
     }
     if check::same(name, b"decode") {
-        return decode_line(line);
+        return decode(first, second, numbers);
     }
     if check::same(name, b"compare") {
-        return compare_line(line);
+        return compare(first, second);
     }
     false
+}
+
+// Runs the case of a line; false if it holds none.
+fn run_line(line: &[u8]) -> bool {
+    let mut first = [0u8; BYTES];
+    let mut second = [0u8; BYTES];
+    let mut numbers = [0u64; NUMBERS];
+    let a = read_hex(word(line, 1), &mut first);
+    let b = read_hex(word(line, 2), &mut second);
+    let k = read_numbers(word(line, 3), &mut numbers);
+    if BYTES < a {
+        return false;
+    }
+    if BYTES < b {
+        return false;
+    }
+    if NUMBERS < k {
+        return false;
+    }
+    if word(line, 4).len() != 0 {
+        return false;
+    }
+    run_case(word(line, 0), &first[0..a], &second[0..b], &numbers[0..k])
 }
 
 // Runs the case of the line at a place, and answers where the next one begins; past a line that holds none, which is shown, that is

@@ -1,5 +1,5 @@
-// Cases as text: lines of words with a space between them. A word is bytes in hex or decimal numbers with commas between them, and `-`
-// where there are none.
+// Cases as text: lines of words with a space between them. A word is bytes in hex, `-` for none, or decimal numbers with commas
+// between them.
 ghost use Prim.Native.Nat.{_≤_};
 ghost use lib.ListN.{length};
 
@@ -55,17 +55,8 @@ fn digit(byte: u8) -> u8 {
     }
 }
 
-// Whether a line has so many words and no more.
-pub fn ends(line: &[u8], count: usize) -> bool {
-    word(line, count).len() == 0
-}
-
-// The bytes of word k, put in front of `out`, and how many they are.
-pub fn hex_bytes(line: &[u8], k: usize, out: &mut [u8]) -> usize {
-    read_hex(word(line, k), out)
-}
-
-fn read_hex(word: &[u8], out: &mut [u8]) -> usize {
+// The bytes of a word, put in front of `out`, and how many they are.
+pub fn read_hex(word: &[u8], out: &mut [u8]) -> usize {
     if check::same(word, b"-") {
         return 0;
     }
@@ -101,13 +92,9 @@ fn with_digit(number: u64, digit: u64) -> u64 {
     tens + digit
 }
 
-// The numbers of word k, put in front of `out`, which holds zeros, and how many they are.
-pub fn numbers(line: &[u8], k: usize, out: &mut [u64]) -> usize {
-    read_numbers(word(line, k), out)
-}
-
-fn read_numbers(word: &[u8], out: &mut [u64]) -> usize {
-    if check::same(word, b"-") {
+// The numbers of a word, put in front of `out`, which holds zeros, and how many they are.
+pub fn read_numbers(word: &[u8], out: &mut [u64]) -> usize {
+    if word.len() == 0 {
         return 0;
     }
     let mut k = 0;

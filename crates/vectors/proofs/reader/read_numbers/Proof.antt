@@ -14,12 +14,6 @@ Inv-loop word out₀ k₀ i₀ out k i = (i ≤ length word) × (k ≤ length ou
 abbrev μ-loop : tie.MeasureT-loop
 μ-loop word out₀ k₀ i₀ out k i = length word - i
 
-slice-aggregate-same : tie.Need-slice-aggregate-same Inv-loop μ-loop
-slice-aggregate-same c = search needs
-
-same-requires : tie.Need-same-requires Inv-loop μ-loop
-same-requires c κs = search needs
-
 returns : tie.Need-returns Inv-loop μ-loop
 returns c = search needs
 
@@ -93,8 +87,6 @@ read-numbers-spec =
     (tie.spec
     Inv-loop
     μ-loop
-    slice-aggregate-same
-    same-requires
     returns
     loop-holds
     same-length
