@@ -27,7 +27,7 @@ fn as_room(x: u64) -> usize {
     x as usize
 }
 
-// The list checked, the sheet measured and encoded, and what the buffers then hold decoded into as much room as the sheet has.
+// The list checked, the sheet measured and encoded, and what the buffers then hold decoded.
 fn show_all(
     list: &[u8],
     n: u64,
@@ -52,6 +52,7 @@ fn show_all(
     end_line();
 }
 
+// The sheet comes back into as much room as it takes.
 fn encode(list: &[u8], sheet: &[u8], numbers: &[u64]) -> bool {
     let mut rows = [0xEEu8; BYTES];
     let mut offsets = [9u64; NUMBERS];

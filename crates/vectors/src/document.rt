@@ -5,8 +5,7 @@ use crate::show::show;
 use crate::show::show_bytes;
 use crate::show::show_offsets;
 
-// One column of variable bytes, nulls first: the sheet encoded, with the whole of both buffers shown, so that what is past the
-// written part is seen to stay.
+// One column of variable bytes, nulls first: the sheet encoded.
 fn encode_names(name: &[u8], n: u64, sheet: &[u8]) {
     let list = [16u8, 2];
     let mut rows = [0xEEu8; 20];
@@ -18,7 +17,7 @@ fn encode_names(name: &[u8], n: u64, sheet: &[u8]) {
     end_line();
 }
 
-// The longest value, 65,535 bytes, whose sheet finds no room; then its row with one byte more: the last block is full.
+// The longest value, 65,535 bytes, encoded; its row decoded with too little room; and that row with one byte more, its last block full.
 fn run_longest() {
     let list = [16u8, 2];
     let mut sheet = [0x61u8; 65544];

@@ -63,8 +63,11 @@ pub fn show_sign(name: &[u8], sign: i32) {
         0 => {
             io::write_all(STDOUT_FILENO, b" 0");
         }
-        _ => {
+        1 => {
             io::write_all(STDOUT_FILENO, b" 1");
+        }
+        _ => {
+            io::write_all(STDOUT_FILENO, b" neither");
         }
     }
 }
