@@ -2,9 +2,11 @@
 //! The parts of a line stand between spaces: bytes in hex, `-` for none; numbers in decimal, with
 //! commas between them.
 //!
-//!     encode LIST SHEET N,ROWS,OFFSETS      with so much room for row bytes and offsets
-//!     decode LIST ROWS N,SHEET,OFFSET,..    with so much room for the sheet
-//!     compare A B
+//! ```text
+//! encode LIST SHEET N,ROWS,OFFSETS      with so much room for row bytes and offsets
+//! decode LIST ROWS N,SHEET,OFFSET,..    with so much room for the sheet
+//! compare A B
+//! ```
 //!
 //! An answer gives for each entry its name, its three numbers and the whole of the lent buffers,
 //! which held [`FILL`] and [`OFFSET_FILL`]. To `encode` check_list, measure and encode answer, then
