@@ -1,9 +1,9 @@
--- `vectors::show_offsets` is safe and ends: the place stays within the slice. Assumes nothing.
+-- `vectors::show::show_offsets` is safe and ends: the place stays within the slice. Assumes nothing.
 use Prim.Native.Nat.{_≤_, _-_}
 use lib.ListN.{length}
 use borrow.Author.Needs.{needs}
-use Rattle.vectors.proofs.show_offsets.Statement.{statement}
-use Rattle.vectors.proofs.show_offsets.Tie as tie
+use Rattle.vectors.proofs.show.show_offsets.Statement.{statement}
+use Rattle.vectors.proofs.show.show_offsets.Tie as tie
 
 abbrev Inv-loop : tie.InvT-loop
 Inv-loop offsets i₀ i = i ≤ length offsets
