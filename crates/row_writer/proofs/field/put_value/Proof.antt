@@ -29,8 +29,8 @@ put-variable-requires c κs =
       ),
     )
 
-put-fixed-requires : tie.Need-put-fixed-requires
-put-fixed-requires c κs =
+encode-requires : tie.Need-encode-requires
+encode-requires c κs =
     let s = c .before .before .before .before .before in
     let w = wide-arm (s .args .column .kind) (c .before .match .keys3) in (
       w,
@@ -56,8 +56,9 @@ returns-2 c =
 returns-3 : tie.Need-returns-3
 returns-3 c =
     let s = c .before .before .before .before .before .before .before .before in
+    let e = c .before .before .encode .ensures in
     wide-promised (s .args .column .options) (s .args .at) _ (s .args .rows .now) _ (s .args .n) (s .args .r) (s .args .values .now)
-    (wide-arm (s .args .column .kind) (c .before .before .before .before .match .keys3)) (c .before .before .put-fixed .ensures)
+    (wide-arm (s .args .column .kind) (c .before .before .before .before .match .keys3)) (e .0) (e .1)
 
 pub put-value-spec : {M : Type 1} → statement M
 put-value-spec =
@@ -68,7 +69,7 @@ put-value-spec =
     encode-boolean-requires
     (λ c. search needs)
     put-variable-requires
-    put-fixed-requires
+    encode-requires
     (λ c. search needs)
     returns
     (λ c. search needs)
