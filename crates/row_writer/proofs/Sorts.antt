@@ -70,14 +70,14 @@ wide-layout {kind} w = rw (w .says) (go (w .k) (w .other))
 
 -- ---- the last arm of a match, by the places of its kinds: bool is 0, and variable bytes are 15
 
--- after the arms of bool and of variable bytes
-pub wide-arm : (kind : Kind) → OneOf (each 1 14 (λ k. k)) (tagOf the-type kind) → WideKind kind
-wide-arm kind h = go (sort kind)
+-- after those of variable bytes and of bool
+pub wide-arm : (kind : Kind) → OneOf (each 0 15 (λ k. k)) (tagOf the-type kind) → OneOf (each 1 15 (λ k. k)) (tagOf the-type kind) → WideKind kind
+wide-arm kind v b = go (sort kind)
   where
     go : Sort kind → WideKind kind
-    go (inl e) = absurd (miss (each 1 14 (λ k. k)) 0 tt (rw e at h))
+    go (inl e) = absurd (miss (each 1 15 (λ k. k)) 0 tt (rw e at b))
     go (inr (inl w)) = w
-    go (inr (inr e)) = absurd (miss (each 1 14 (λ k. k)) 15 tt (rw e at h))
+    go (inr (inr e)) = absurd (miss (each 0 15 (λ k. k)) 15 tt (rw e at v))
 
 -- after the arm of variable bytes: the null of fixed values
 pub null-arm : (kind : Kind) (o : SortOptions) → OneOf (each 0 15 (λ k. k)) (tagOf the-type kind)

@@ -45,7 +45,8 @@ fn put_variable(
     variable::encode_one(rows, at, &values[from..to], options)
 }
 
-// The value of row r, out of the values of the column.
+// The value of row r, out of the values of the column. Two tests before encode's match, and not a match around it: the
+// optimiser makes one jump of these.
 fn put_value(values: &[u8], n: usize, r: usize, column: Column, rows: &mut [u8], at: usize) -> usize
     requires { ⌜ (n ≤ maxRows) × (r < n) ⌝ }
     requires { ⌜ Passes (λ c. valuesFault (layout column) n c (now values)) ⌝ }
@@ -54,11 +55,13 @@ fn put_value(values: &[u8], n: usize, r: usize, column: Column, rows: &mut [u8],
 {
     let kind = column.kind;
     let options = column.options;
-    match kind {
-        Kind::Bool => fixed::encode_boolean(rows, at, bits::bit(values, r), options),
-        Kind::Variable => put_variable(values, n, r, options, rows, at),
-        _ => fixed::encode(rows, at, kind, values, r, options),
+    if let Kind::Variable = kind {
+        return put_variable(values, n, r, options, rows, at);
     }
+    if let Kind::Bool = kind {
+        return fixed::encode_boolean(rows, at, bits::bit(values, r), options);
+    }
+    fixed::encode(rows, at, kind, values, r, options)
 }
 
 // The slot of row r of the column in front of the part.
