@@ -99,7 +99,9 @@ pub fn encode_boolean(out: &mut [u8], at: usize, val: bool, options: SortOptions
     ensures { λ r. ⌜ r ≡ at + 2 ⌝ }
     ensures { λ _. ⌜ now (out .exit) ≡ sets (now (out .entry)) at (fixedField bool options (some (boolByte val))) ⌝ }
 {
-    put_word8(out, at, val as u8, options)
+    out[at] = 1;
+    out[at + 1] = directed8(options.descending, val as u8);
+    at + 2
 }
 
 // Fixed binary, as it stands.
