@@ -97,22 +97,34 @@ wide-layout {kind} w = rw (w .says) (go (w .k) (w .other))
 elsewhere : (ks : List ℕ) (k j : Kind) → OneOf ks (tagOf the-type k) → T (not (hasKey ks (tagOf the-type j))) → k ≡ j → ⊥
 elsewhere ks k j h t e = miss ks (tagOf the-type j) t (subst (λ (x : Kind). OneOf ks (tagOf the-type x)) e h)
 
--- after the arms of bool and of variable bytes
-abbrev pub wideKeys : List ℕ
-wideKeys = each 1 14 (λ k. k)
-
-pub wide-arm : (kind : Kind) → OneOf wideKeys (tagOf the-type kind) → WideKind kind
-wide-arm kind h = go (sort kind)
+-- no bool and no variable bytes
+neither : (kind : Kind) → (kind ≡ Bool → ⊥) → (kind ≡ Variable → ⊥) → WideKind kind
+neither kind b v = go (sort kind)
   where
     go : Sort kind → WideKind kind
-    go (inl e) = absurd (elsewhere wideKeys kind Bool h tt e)
+    go (inl e) = absurd (b e)
     go (inr (inl w)) = w
-    go (inr (inr e)) = absurd (elsewhere wideKeys kind Variable h tt e)
+    go (inr (inr e)) = absurd (v e)
 
--- after the arm of variable bytes: what holds of bool and of values of one width
+-- all places but that of variable bytes, all but that of bool, and all but the two
 abbrev pub fixedKeys : List ℕ
 fixedKeys = each 0 15 (λ k. k)
 
+abbrev pub otherKeys : List ℕ
+otherKeys = each 1 15 (λ k. k)
+
+abbrev pub wideKeys : List ℕ
+wideKeys = each 1 14 (λ k. k)
+
+-- after the arms of bool and of variable bytes
+pub wide-arm : (kind : Kind) → OneOf wideKeys (tagOf the-type kind) → WideKind kind
+wide-arm kind h = neither kind (elsewhere wideKeys kind Bool h tt) (elsewhere wideKeys kind Variable h tt)
+
+-- after a test for each
+pub wide-left : (kind : Kind) → OneOf fixedKeys (tagOf the-type kind) → OneOf otherKeys (tagOf the-type kind) → WideKind kind
+wide-left kind v b = neither kind (elsewhere otherKeys kind Bool b tt) (elsewhere fixedKeys kind Variable v tt)
+
+-- after the arm of variable bytes: what holds of bool and of values of one width
 pub fixed-arm : (P : Kind → Type 0) (kind : Kind) → P Bool → (WideKind kind → P kind) → OneOf fixedKeys (tagOf the-type kind) → P kind
 fixed-arm P kind b w h = go (sort kind)
   where

@@ -48,31 +48,47 @@ unkey-parted : (ns f : List ℕ) → partsUnkey ns f ≡ parted signedUnkey long
 unkey-parted [] f = refl
 unkey-parted (n ∷ ns) f = ap (λ (h : List ℕ). signedUnkey (take n f) ++ h) (unkey-parted ns (drop n f))
 
--- ---- 01, then the parts of v, which descending inverts
+-- a part of the w bytes in front of l
+take-part : (m n w : ℕ) (l : List ℕ) → m + n ≤ w → take n (drop m (take w l)) ≡ take n (drop m l)
+take-part zero n w l h = take-take n w l (omega arith)
+take-part (suc m) n zero l h = absurd (omega arith)
+take-part (suc m) n (suc w) [] h = refl
+take-part (suc m) n (suc w) (x ∷ l) h = take-part m n w l (omega arith)
 
-module _ (d : Bool) (v out : List ℕ) (at : ℕ) where
+-- ---- 01, then the parts of w bytes of s from a place on, which descending inverts
+module _ (d : Bool) (w from : ℕ) (s out : List ℕ) (at : ℕ) where
+  abbrev value : List ℕ
+  value = take w (drop from s)
+
   abbrev keyed : List ℕ → List ℕ
   keyed f = sets out at (1 ∷ directed d f)
 
-  pub key-first : (n x : ℕ) (o : List ℕ) → lowBytes n x ≡ signedKey (take n v) → o ≡ keyed (lowBytes n x) → o ≡ keyed (partsKey (n ∷ []) v)
-  key-first n x o e p = p ∙ ap keyed (e ∙ sym (append-nil (signedKey (take n v))))
+  -- a part of them, where it stands in s
+  value-at : (m n : ℕ) → m + n ≤ w → take n (drop m value) ≡ take n (drop (from + m) s)
+  value-at m n h = take-part m n w (drop from s) h ∙ ap (take n) (drop-drop m from s)
 
-  pub key-next : (ns : List ℕ) (n x y : ℕ) (o last : List ℕ) → sum ns ≤ length v → o ≡ keyed (partsKey ns v)
-      → lowBytes n x ≡ signedKey (take n (drop (sum ns) v)) → lowBytes n y ≡ directed d (lowBytes n x)
-      → last ≡ sets o (at + suc (sum ns)) (lowBytes n y) → last ≡ keyed (partsKey (ns ++ (n ∷ [])) v)
-  key-next ns n x y o last h p e q s =
-      run-next out at (at + suc (sum ns)) (1 ∷ directed d (partsKey ns v)) (lowBytes n y) o last p (ap (λ (k : ℕ). at + suc k) (sym long)) s
+  pub key-first : (n x : ℕ) (o : List ℕ) → n ≤ w → lowBytes n x ≡ signedKey (take n (drop from s)) → o ≡ keyed (lowBytes n x) → o ≡ keyed (partsKey (n ∷ []) value)
+  key-first n x o h e p = p ∙ ap keyed (e ∙ ap signedKey (sym (take-part 0 n w (drop from s) (omega arith))) ∙ sym (append-nil (signedKey (take n value))))
+
+  pub key-next : (ns : List ℕ) (n x y : ℕ) (o last : List ℕ) → sum ns + n ≤ w → from + w ≤ length s → o ≡ keyed (partsKey ns value)
+      → lowBytes n x ≡ signedKey (take n (drop (from + sum ns) s)) → lowBytes n y ≡ directed d (lowBytes n x)
+      → last ≡ sets o (at + suc (sum ns)) (lowBytes n y) → last ≡ keyed (partsKey (ns ++ (n ∷ [])) value)
+  key-next ns n x y o last h l p e q t =
+      run-next out at (at + suc (sum ns)) (1 ∷ directed d (partsKey ns value)) (lowBytes n y) o last p (ap (λ (k : ℕ). at + suc k) (sym long)) t
       ∙ ap (λ (f : List ℕ). sets out at (1 ∷ f)) joined
     where
-      long : length (directed d (partsKey ns v)) ≡ sum ns
-      long = length-directed d (partsKey ns v) ∙ ap length (key-parted ns v) ∙ parted-long signedKey long-signed ns v h
+      room : sum ns ≤ length value
+      room = omega (arith, length-take-le w (drop from s) (omega (arith, length-drop from s)))
 
-      joined : directed d (partsKey ns v) ++ lowBytes n y ≡ directed d (partsKey (ns ++ (n ∷ [])) v)
+      long : length (directed d (partsKey ns value)) ≡ sum ns
+      long = length-directed d (partsKey ns value) ∙ ap length (key-parted ns value) ∙ parted-long signedKey long-signed ns value room
+
+      joined : directed d (partsKey ns value) ++ lowBytes n y ≡ directed d (partsKey (ns ++ (n ∷ [])) value)
       joined =
-          ap (λ (f : List ℕ). directed d (partsKey ns v) ++ f) (q ∙ ap (directed d) e)
-          ∙ sym (directed-append d (partsKey ns v) (signedKey (take n (drop (sum ns) v))))
-          ∙ ap (directed d) (ap (λ (f : List ℕ). f ++ signedKey (take n (drop (sum ns) v))) (key-parted ns v)
-          ∙ sym (key-parted (ns ++ (n ∷ [])) v ∙ parted-more signedKey long-signed ns n v))
+          ap (λ (f : List ℕ). directed d (partsKey ns value) ++ f) (q ∙ ap (directed d) (e ∙ ap signedKey (sym (value-at (sum ns) n h))))
+          ∙ sym (directed-append d (partsKey ns value) (signedKey (take n (drop (sum ns) value))))
+          ∙ ap (directed d) (ap (λ (f : List ℕ). f ++ signedKey (take n (drop (sum ns) value))) (key-parted ns value)
+          ∙ sym (key-parted (ns ++ (n ∷ [])) value ∙ parted-more signedKey long-signed ns n value))
 
 -- ---- the parts back: of the value bytes of a row, w of them, inverted back under descending
 
@@ -87,12 +103,6 @@ directed-drop false n f = refl
 directed-drop true zero f = refl
 directed-drop true (suc n) [] = refl
 directed-drop true (suc n) (x ∷ f) = directed-drop true n f
-
-take-part : (m n w : ℕ) (l : List ℕ) → m + n ≤ w → take n (drop m (take w l)) ≡ take n (drop m l)
-take-part zero n w l h = take-take n w l (omega arith)
-take-part (suc m) n zero l h = absurd (omega arith)
-take-part (suc m) n (suc w) [] h = refl
-take-part (suc m) n (suc w) (x ∷ l) h = take-part m n w l (omega arith)
 
 module _ (d : Bool) (w : ℕ) (row out : List ℕ) (at : ℕ) where
   abbrev body : List ℕ

@@ -1,5 +1,5 @@
 -- A number and its bytes, low byte first, over the count of bytes: there and back, and by halves. Assumes nothing.
-use Prim.Native.Nat.{ℕ, zero, suc, _+_, _*_, _/_, _%_, _^_, _≤_, _<_}
+use Prim.Native.Nat.{ℕ, zero, suc, _+_, _-_, _*_, _/_, _%_, _^_, _≤_, _<_}
 use mathlib.Core.Path.{_≡_, refl, sym, ap, ap₂, _∙_}
 use mathlib.Core.List.{List, [], _∷_, _++_, reverse, reverse-append}
 use native.Mathlib.Nat.{one-le-pow, mod-lt, mod-add-div, div-add-mod', div-lt-iff-lt-mul, pow-suc, pow-succ', add-zero, mul-comm}
@@ -8,7 +8,7 @@ use lib.Dec.{lit<}
 use lib.Pow.{pow-add}
 use lib.Arith.{digits-div, digits-mod, lt-one}
 use lib.ListN.{length, getD, take, drop, set, length-append, length-drop}
-use lib.Seq.{sets, drop-cons, drop-drop, take-add, length-take-le}
+use lib.Seq.{sets, drop-cons, drop-drop, take-add, take-all, length-take-le}
 use Rattle.format.specs.Lists.{Bytes, low, lowBytes}
 use Rattle.basics.proofs.Bytes.{bytes-append, bytes-drop, bytes-of, bytes-take}
 use Rattle.basics.proofs.Append.{sets-append}
@@ -77,6 +77,14 @@ module _ (m n : ℕ) where
       let k : length (take m (drop at l)) ≡ m = length-take-le m (drop at l) (rw (length-drop at l) (omega arith)) in
       e ∙ sym (ap low (take-add m n (drop at l)) ∙ low-append (take m (drop at l)) (take n (drop m (drop at l)))
       ∙ rw (k, drop-drop, ← p, ← q))
+
+  -- and from the front of what stands from the place on
+  pub read-rest : (l : List ℕ) (at x lo hi : ℕ) → at + m ≤ length l → x ≡ lo + 256 ^ m * hi
+      → lo ≡ low (take m (take (length l - at) (drop at l))) → hi ≡ low (take n (drop m (take (length l - at) (drop at l)))) → x ≡ low (take (m + n) (drop at l))
+  read-rest l at x lo hi h e p q =
+      let rest = take-all (length l - at) (drop at l) (omega (arith, length-drop at l)) in
+      read l at x lo hi h e (p ∙ ap (λ (t : List ℕ). low (take m t)) rest)
+      (q ∙ ap (λ (t : List ℕ). low (take n (drop m t))) rest ∙ ap (λ (t : List ℕ). low (take n t)) (drop-drop m at l))
 
   -- stored by halves
   pub stored : (l k o : List ℕ) (at x : ℕ) → x < 256 ^ (m + n)

@@ -1,5 +1,6 @@
 // Words in memory, low byte first. Each width is two halves of the width below, and the optimiser joins the bytes into
-// one load or store.
+// one load or store. It joins two loads at fixed places of one slice, and not two at places that are each worked out: so a
+// word is read from the front of what stands from its place on.
 ghost use mathlib.Core.Path.{_≡_};
 ghost use Prim.Native.Nat.{_+_, _*_, _≤_};
 ghost use lib.ListN.{length, take, drop};
@@ -37,14 +38,16 @@ pub fn low32(s: &[u8], at: usize) -> u32
     requires { ⌜ at + 4 ≤ length (now s) ⌝ }
     ensures { λ r. ⌜ r ≡ low (take 4 (drop at (now (s .entry)))) ⌝ }
 {
-    join32(low16(s, at), low16(s, at + 2))
+    let word = &s[at..];
+    join32(low16(word, 0), low16(word, 2))
 }
 
 pub fn low64(s: &[u8], at: usize) -> u64
     requires { ⌜ at + 8 ≤ length (now s) ⌝ }
     ensures { λ r. ⌜ r ≡ low (take 8 (drop at (now (s .entry)))) ⌝ }
 {
-    join64(low32(s, at), low32(s, at + 4))
+    let word = &s[at..];
+    join64(low32(word, 0), low32(word, 4))
 }
 
 // The bytes of x stored from a place of out on.

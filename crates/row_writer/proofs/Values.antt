@@ -55,10 +55,6 @@ between n s r a b g l p q =
 
 -- ---- values of one width
 
--- value r, as a part of a slice
-pub one-width : (s : List ℕ) (r w : ℕ) → take ((r * w + w) - r * w) (drop (r * w) s) ≡ valueAt (wide w) 0 s r
-one-width s r w = ap (λ (k : ℕ). take k (drop (r * w) s)) {x = (r * w + w) - r * w} {y = w} (omega arith)
-
 -- the field of each is as long
 pub wide-long : {kind : Kind} (s : Slot) → WideKind kind → fieldLength (shape kind) s ≡ 1 + valueBytes kind
 wide-long s k = rw (k .says)
@@ -79,11 +75,6 @@ module _ (o : SortOptions) (at next : ℕ) (entry exit : List ℕ) where
       let z = null-arm kind o h in
       record { place = omega (arith, z .0); bytes = q ∙ ap (sets entry at) (ap (λ (k : ℕ). nullByte o ∷ replicate k 0) e ∙ sym (z .1)) }
 
-  -- values of one width
-  pub put-wide : {kind : Kind} (v w : List ℕ) → WideKind kind → v ≡ w → next ≡ at + 1 + valueBytes kind → exit ≡ sets entry at (field (shape kind) o (some v))
-      → Put (shape kind) o (some w) at entry exit next
-  put-wide {kind} v w k e p q = record { place = omega (arith, wide-long (some w) k); bytes = rw (← e) q }
-
   module _ (n r : ℕ) (s : List ℕ) where
     -- what is promised of the value of row r
     abbrev Promised : Kind → Type 0
@@ -96,8 +87,8 @@ module _ (o : SortOptions) (at next : ℕ) (entry exit : List ℕ) where
     pub variable-promised : {kind : Kind} → kind ≡ Variable → Put variable o (some (valueAt ended n s r)) at entry exit next → Promised kind
     variable-promised e p = rw e p
 
-    pub wide-promised : {kind : Kind} → WideKind kind → Put (shape kind) o (some (valueAt (wide (valueBytes kind)) 0 s r)) at entry exit next → Promised kind
-    wide-promised w p = rw (wide-layout w) p
+    pub wide-promised : {kind : Kind} → WideKind kind → next ≡ at + 1 + valueBytes kind → exit ≡ sets entry at (field (shape kind) o (some (valueAt (wide (valueBytes kind)) n s r))) → Promised kind
+    wide-promised {kind} w p q = rw (wide-layout w) (record { place = omega (arith, wide-long (some (valueAt (wide (valueBytes kind)) n s r)) w); bytes = q })
 
 -- ---- what the callee asks, from values that pass, by the kind
 module _ {kind : Kind} (n r : ℕ) (s : List ℕ) (l : r < n) (h : Passes (λ c. valuesFault (layoutFor (shape kind)) n c s)) where

@@ -1,14 +1,13 @@
 // The field of one slot of a checked column, from a place of the row buffer on. Each writer returns the place after the field.
 ghost use mathlib.Core.Option.{none, some};
-ghost use Prim.Native.Nat.{_+_, _*_, _<_, _≤_};
+ghost use Prim.Native.Nat.{_+_, _<_, _≤_};
 ghost use lib.ListN.{length};
 ghost use Rattle.format.specs.Limits.{maxRows};
-ghost use Rattle.format.specs.Kinds.{variable as variableShape, shape, valueBytes, columnShape};
+ghost use Rattle.format.specs.Kinds.{variable as variableShape, columnShape};
 ghost use Rattle.format.specs.Field.{fieldLength};
-ghost use Rattle.format.specs.Sheet.{ended, wide, layout, valuesFault, valueAt, columnFault, slotAt};
+ghost use Rattle.format.specs.Sheet.{ended, layout, valuesFault, valueAt, columnFault, slotAt};
 ghost use Rattle.laws.proofs.Sheets.{Ended};
 ghost use Rattle.row_writer.specs.Put.{Passes, Put};
-ghost use Rattle.basics.specs.Wide.{WideKind};
 use format::Column;
 use format::Kind;
 use format::SortOptions;
@@ -46,27 +45,8 @@ fn put_variable(
     variable::encode_one(rows, at, &values[from..to], options)
 }
 
-// A fixed kind but bool: values of one width, one after the other.
-fn put_fixed(
-    values: &[u8],
-    r: usize,
-    kind: Kind,
-    options: SortOptions,
-    rows: &mut [u8],
-    at: usize,
-) -> usize
-    requires { ⌜ WideKind kind ⌝ }
-    requires { ⌜ r * valueBytes kind + valueBytes kind ≤ length (now values) ⌝ }
-    requires { ⌜ at + 1 + valueBytes kind ≤ length (now rows) ⌝ }
-    ensures { λ x. ⌜ Put (shape kind) options (some (valueAt (wide (valueBytes kind)) 0 (now (values .entry)) r)) at (now (rows .entry)) (now (rows .exit)) x ⌝ }
-{
-    let width = format::width(kind);
-    let from = r * width;
-    let to = from + width;
-    fixed::encode(rows, at, kind, &values[from..to], options)
-}
-
-// The value of row r, out of the values of the column.
+// The value of row r, out of the values of the column. Two tests before encode's match, and not a match around it: the
+// optimiser makes one jump of these.
 fn put_value(values: &[u8], n: usize, r: usize, column: Column, rows: &mut [u8], at: usize) -> usize
     requires { ⌜ (n ≤ maxRows) × (r < n) ⌝ }
     requires { ⌜ Passes (λ c. valuesFault (layout column) n c (now values)) ⌝ }
@@ -75,11 +55,13 @@ fn put_value(values: &[u8], n: usize, r: usize, column: Column, rows: &mut [u8],
 {
     let kind = column.kind;
     let options = column.options;
-    match kind {
-        Kind::Bool => fixed::encode_boolean(rows, at, bits::bit(values, r), options),
-        Kind::Variable => put_variable(values, n, r, options, rows, at),
-        _ => put_fixed(values, r, kind, options, rows, at),
+    if let Kind::Variable = kind {
+        return put_variable(values, n, r, options, rows, at);
     }
+    if let Kind::Bool = kind {
+        return fixed::encode_boolean(rows, at, bits::bit(values, r), options);
+    }
+    fixed::encode(rows, at, kind, values, r, options)
 }
 
 // The slot of row r of the column in front of the part.

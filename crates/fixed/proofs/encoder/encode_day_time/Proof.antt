@@ -14,9 +14,9 @@ returns c =
     let keys = first .before .before in
     let start = keys .before .before .before .before in
     let A = start .args in
-    let one = key-first (A .descending) (A .val .now) (A .out .now) (A .at) 4 _ _ (keys .before .key32 .ensures) (first .put-word32 .ensures .1) in (
+    let one = key-first (A .options .descending) 8 (A .from) (A .values .now) (A .out .now) (A .at) 4 _ _ (omega arith) (keys .before .key32 .ensures) (first .put-word32 .ensures .1) in (
       refl,
-      key-next (A .descending) (A .val .now) (A .out .now) (A .at) (4 ∷ []) 4 _ _ _ _ (omega (arith, start .pre)) one
+      key-next (A .options .descending) 8 (A .from) (A .values .now) (A .out .now) (A .at) (4 ∷ []) 4 _ _ _ _ (omega arith) (start .pre .0) one
           (keys .key322 .ensures) (second .before .directed32 .ensures) (second .put32 .ensures),
     )
 
@@ -25,6 +25,7 @@ encode-day-time-spec =
     tie.close
     (tie.spec
     (λ c κs. search needs)
+    (λ c. search needs)
     (λ c κs. search needs)
     (λ c κs. search needs)
     (λ c. search needs)

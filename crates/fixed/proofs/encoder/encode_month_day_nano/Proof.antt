@@ -15,12 +15,12 @@ returns c =
     let keys = first .before .before in
     let start = keys .before .before .before .before .before in
     let A = start .args in
-    let one = key-first (A .descending) (A .val .now) (A .out .now) (A .at) 4 _ _ (keys .before .before .key32 .ensures) (first .put-word32 .ensures .1) in
+    let one = key-first (A .options .descending) 16 (A .from) (A .values .now) (A .out .now) (A .at) 4 _ _ (omega arith) (keys .before .before .key32 .ensures) (first .put-word32 .ensures .1) in
     let two =
-    key-next (A .descending) (A .val .now) (A .out .now) (A .at) (4 ∷ []) 4 _ _ _ _ (omega (arith, start .pre)) one
+    key-next (A .options .descending) 16 (A .from) (A .values .now) (A .out .now) (A .at) (4 ∷ []) 4 _ _ _ _ (omega arith) (start .pre .0) one
     (keys .before .key322 .ensures) (second .before .directed32 .ensures) (second .put32 .ensures) in (
       refl,
-      key-next (A .descending) (A .val .now) (A .out .now) (A .at) (4 ∷ 4 ∷ []) 8 _ _ _ _ (omega (arith, start .pre)) two
+      key-next (A .options .descending) 16 (A .from) (A .values .now) (A .out .now) (A .at) (4 ∷ 4 ∷ []) 8 _ _ _ _ (omega arith) (start .pre .0) two
           (keys .key64 .ensures) (third .before .directed64 .ensures) (third .put64 .ensures),
     )
 
@@ -29,7 +29,9 @@ encode-month-day-nano-spec =
     tie.close
     (tie.spec
     (λ c κs. search needs)
+    (λ c. search needs)
     (λ c κs. search needs)
+    (λ c. search needs)
     (λ c κs. search needs)
     (λ c κs. search needs)
     (λ c. search needs)

@@ -11,7 +11,7 @@ returns : tie.Need-returns
 returns c =
     let stored = c .before .before in
     let A = stored .before .before .before .before .args in
-    (refl, word-field 2 (A .out .now) (A .at) (A .descending) _ _ _ (stored .before .directed16 .ensures) (stored .put16 .ensures))
+    (refl, word-field 2 (A .out .now) (A .at) (A .options .descending) _ _ _ (stored .before .directed16 .ensures) (stored .put16 .ensures))
 
 pub put-word16-spec : {M : Type 1} → statement M
 put-word16-spec =

@@ -11,7 +11,7 @@ returns : tie.Need-returns
 returns c =
     let stored = c .before .before in
     let A = stored .before .before .before .before .args in
-    (refl, word-field 4 (A .out .now) (A .at) (A .descending) _ _ _ (stored .before .directed32 .ensures) (stored .put32 .ensures))
+    (refl, word-field 4 (A .out .now) (A .at) (A .options .descending) _ _ _ (stored .before .directed32 .ensures) (stored .put32 .ensures))
 
 pub put-word32-spec : {M : Type 1} → statement M
 put-word32-spec =

@@ -11,7 +11,7 @@ returns : tie.Need-returns
 returns c =
     let stored = c .before .before in
     let A = stored .before .before .before .before .args in
-    (refl, word-field 8 (A .out .now) (A .at) (A .descending) _ _ _ (stored .before .directed64 .ensures) (stored .put64 .ensures))
+    (refl, word-field 8 (A .out .now) (A .at) (A .options .descending) _ _ _ (stored .before .directed64 .ensures) (stored .put64 .ensures))
 
 pub put-word64-spec : {M : Type 1} → statement M
 put-word64-spec =

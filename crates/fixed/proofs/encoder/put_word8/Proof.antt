@@ -10,7 +10,7 @@ use Rattle.fixed.proofs.encoder.put_word8.Tie as tie
 returns : tie.Need-returns
 returns c =
     let A = c .before .before .args in
-    (refl, byte-field (A .out .now) (A .at) (A .descending) _ _ (c .directed8 .ok) (c .directed8 .ensures))
+    (refl, byte-field (A .out .now) (A .at) (A .options .descending) _ _ (c .directed8 .ok) (c .directed8 .ensures))
 
 pub put-word8-spec : {M : Type 1} → statement M
 put-word8-spec =

@@ -1,15 +1,23 @@
 -- `number::word::low64` meets its contract: what the two calls read are the halves. Assumes nothing.
 use borrow.Author.Needs.{needs}
 use native.Mathlib.Omega.{arith}
-use Rattle.number.proofs.Words.{read}
+use Rattle.number.proofs.Words.{read-rest}
 use Rattle.number.proofs.word.low64.Statement.{statement}
 use Rattle.number.proofs.word.low64.Tie as tie
 
 returns : tie.Need-returns
 returns c =
-    let start = c .before .before .before .before in
-    read 4 4 (start .args .s .now) (start .args .at) _ _ _ (omega arith) (c .join64 .ensures) (c .before .before .low32 .ensures) (c .before .low322 .ensures)
+    let start = c .before .before .before .before .before in
+    read-rest 4 4 (start .args .s .now) (start .args .at) _ _ _ (omega arith) (c .join64 .ensures) (c .before .before .low32 .ensures) (c .before .low322 .ensures)
 
 pub low64-spec : {M : Type 1} → statement M
 low64-spec =
-    tie.close (tie.spec (λ c κs. search needs) (λ c. search needs) (λ c κs. search needs) (λ c κs. search needs) returns)
+    tie.close
+    (tie.spec
+    (λ c. search needs)
+    (λ c. search needs)
+    (λ c. search needs)
+    (λ c κs. search needs)
+    (λ c κs. search needs)
+    (λ c κs. search needs)
+    returns)

@@ -1,38 +1,47 @@
--- `row_writer::field::put_value` meets its contract: each arm is the definition's case for the kinds that it takes. Assumes
+-- `row_writer::field::put_value` meets its contract: each call is the definition's case for the kinds that are left to it. Assumes
 -- nothing.
 use borrow.Author.Needs.{needs}
 use native.Mathlib.Omega.{arith}
 use mathlib.Core.Option.{some}
 use Rattle.format.specs.Sheet.{layout, valueAt}
-use Rattle.basics.proofs.Sorts.{wide-arm}
+use Rattle.basics.specs.Wide.{WideKind}
+use Rattle.basics.proofs.Sorts.{wide-left}
 use Rattle.row_writer.proofs.Values.{bool-asked, bool-promised, variable-asked, variable-promised, wide-long, wide-asked, wide-promised}
 use Rattle.row_writer.proofs.field.put_value.Statement.{statement}
 use Rattle.row_writer.proofs.field.put_value.Tie as tie
-
-bit-requires : tie.Need-bit-requires
-bit-requires c κs =
-    let s = c .before .before .before .before .before .before in
-    bool-asked (s .args .n) (s .args .r) (s .args .values .now) (s .pre .0 .1) (s .pre .1 .0) (c .before .enum-told .given .1)
-
-encode-boolean-requires : tie.Need-encode-boolean-requires
-encode-boolean-requires c κs =
-    let s = c .before .before .before .before .before .before .before in
-    rw (c .before .before .enum-told .given .1) at (s .pre .1 .1)
 
 put-variable-requires : tie.Need-put-variable-requires
 put-variable-requires c κs =
     let s = c .before .before .before .before .before .before in (
       s .pre .0,
       (
-        variable-asked (s .args .n) (s .args .r) (s .args .values .now) (s .pre .0 .1) (s .pre .1 .0) (c .before .enum-told2 .given .1),
-        rw (c .before .enum-told2 .given .1) at (s .pre .1 .1),
+        variable-asked (s .args .n) (s .args .r) (s .args .values .now) (s .pre .0 .1) (s .pre .1 .0) (c .before .enum-told .given .1),
+        rw (c .before .enum-told .given .1) at (s .pre .1 .1),
       ),
     )
 
-put-fixed-requires : tie.Need-put-fixed-requires
-put-fixed-requires c κs =
-    let s = c .before .before .before .before .before in
-    let w = wide-arm (s .args .column .kind) (c .before .match .keys3) in (
+bit-requires : tie.Need-bit-requires
+bit-requires c κs =
+    let s = c .before .before .before .before .before .before .before in
+    bool-asked (s .args .n) (s .args .r) (s .args .values .now) (s .pre .0 .1) (s .pre .1 .0) (c .before .enum-told2 .given .1)
+
+encode-boolean-requires : tie.Need-encode-boolean-requires
+encode-boolean-requires c κs =
+    let s = c .before .before .before .before .before .before .before .before in
+    rw (c .before .before .enum-told2 .given .1) at (s .pre .1 .1)
+
+-- what was known at the entry, where both tests fail
+abbrev entry : tie.At-match2-keys2 → tie.Start
+entry c = c .before .before .before .before .before
+
+-- there the kind is neither
+fixed-wide : (c : tie.At-match2-keys2) → WideKind (entry c .args .column .kind)
+fixed-wide c = wide-left (entry c .args .column .kind) (c .before .match .keys2) (c .match2 .keys2)
+
+encode-requires : tie.Need-encode-requires
+encode-requires c κs =
+    let s = entry (c .before) in
+    let w = fixed-wide (c .before) in (
       w,
       (
         wide-asked (s .args .n) (s .args .r) (s .args .values .now) (s .pre .0 .1) (s .pre .1 .0) w,
@@ -42,36 +51,37 @@ put-fixed-requires c κs =
 
 returns : tie.Need-returns
 returns c =
-    let s = c .before .before .before .before .before .before .before .before .before .before in
-    let e = c .before .before .encode-boolean .ensures in
-    bool-promised (s .args .column .options) (s .args .at) _ (s .args .rows .now) _ (s .args .n) (s .args .r) (s .args .values .now) _
-    (c .before .before .before .before .before .enum-told .given .1) (c .before .before .before .bit .ensures) (e .0) (e .1)
+    let s = c .before .before .before .before .before .before .before .before .before in
+    variable-promised (s .args .column .options) (s .args .at) _ (s .args .rows .now) _ (s .args .n) (s .args .r) (s .args .values .now)
+    (c .before .before .before .before .enum-told .given .1) (c .before .before .put-variable .ensures)
 
 returns-2 : tie.Need-returns-2
 returns-2 c =
-    let s = c .before .before .before .before .before .before .before .before .before in
-    variable-promised (s .args .column .options) (s .args .at) _ (s .args .rows .now) _ (s .args .n) (s .args .r) (s .args .values .now)
-    (c .before .before .before .before .enum-told2 .given .1) (c .before .before .put-variable .ensures)
+    let s = c .before .before .before .before .before .before .before .before .before .before .before in
+    let e = c .before .before .encode-boolean .ensures in
+    bool-promised (s .args .column .options) (s .args .at) _ (s .args .rows .now) _ (s .args .n) (s .args .r) (s .args .values .now) _
+    (c .before .before .before .before .before .enum-told2 .given .1) (c .before .before .before .bit .ensures) (e .0) (e .1)
 
 returns-3 : tie.Need-returns-3
 returns-3 c =
-    let s = c .before .before .before .before .before .before .before .before in
-    wide-promised (s .args .column .options) (s .args .at) _ (s .args .rows .now) _ (s .args .n) (s .args .r) (s .args .values .now)
-    (wide-arm (s .args .column .kind) (c .before .before .before .before .match .keys3)) (c .before .before .put-fixed .ensures)
+    let m = c .before .before .before .before in
+    let s = entry m in
+    let e = c .before .before .encode .ensures in
+    wide-promised (s .args .column .options) (s .args .at) _ (s .args .rows .now) _ (s .args .n) (s .args .r) (s .args .values .now) (fixed-wide m) (e .0) (e .1)
 
 pub put-value-spec : {M : Type 1} → statement M
 put-value-spec =
     tie.close
     (tie.spec
     (λ c. search needs)
-    bit-requires
-    encode-boolean-requires
-    (λ c. search needs)
     put-variable-requires
-    put-fixed-requires
     (λ c. search needs)
     returns
     (λ c. search needs)
+    bit-requires
+    encode-boolean-requires
+    (λ c. search needs)
     returns-2
+    encode-requires
     (λ c. search needs)
     returns-3)
