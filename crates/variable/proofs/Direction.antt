@@ -3,7 +3,7 @@
 use Prim.Native.Nat.{ℕ, zero, suc, _+_, _%_, _^_, _<_, _≤_}
 use mathlib.Core.Path.{_≡_, refl, sym, ap, _∙_}
 use mathlib.Core.Bool.{Bool, true, false, cond}
-use mathlib.Core.List.{List, [], _∷_, map}
+use mathlib.Core.List.{List, [], _∷_, _++_, map}
 use native.Mathlib.Omega.{arith}
 use native.Mathlib.Nat.{mod-eq-of-lt}
 use lib.ListN.{length, getD, take, drop, set}
@@ -11,6 +11,8 @@ use lib.Seq.{sets}
 use Rattle.format.specs.Field.{directed}
 use Rattle.format.specs.Key.{invert}
 use Rattle.format.specs.Lists.{low, lowBytes}
+use Rattle.basics.proofs.Append.{sets-append}
+use Rattle.laws.proofs.Directed.{length-directed, directed-append}
 use Rattle.number.proofs.Words.{low-lowBytes, read-back}
 
 -- one byte, inverted under descending
@@ -40,6 +42,13 @@ directed-take false n f = refl
 pub directed-drop : (d : Bool) (n : ℕ) (f : List ℕ) → directed d (drop n f) ≡ drop n (directed d f)
 directed-drop true n f = map-drop invert n f
 directed-drop false n f = refl
+
+-- one run of bytes after another
+pub sets-directed : (d : Bool) (f g l : List ℕ) (i : ℕ) → sets l i (directed d (f ++ g)) ≡ sets (sets l i (directed d f)) (i + length f) (directed d g)
+sets-directed d f g l i =
+    ap (sets l i) (directed-append d f g)
+    ∙ sets-append (directed d f) (directed d g) l i
+    ∙ ap (λ (n : ℕ). sets (sets l i (directed d f)) (i + n) (directed d g)) (length-directed d f)
 
 -- the byte at a place
 pub directed-at : (d : Bool) (f : List ℕ) (i : ℕ) → i < length f → getD (directed d f) i 0 ≡ turn d (getD f i 0)

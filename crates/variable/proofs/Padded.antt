@@ -1,17 +1,17 @@
 -- Bytes with zeros past their end: a block's data and padding, and what a word of them spells. Assumes nothing.
-use Prim.Native.Nat.{ℕ, zero, suc, _+_, _-_, _*_, _/_, _^_, _<_, _≤_}
+use Prim.Native.Nat.{ℕ, zero, suc, _+_, _-_, _*_, _/_, _^_, _≤_}
 use mathlib.Core.Path.{_≡_, refl, sym, ap, _∙_}
 use mathlib.Core.List.{List, [], _∷_, _++_}
-use native.Mathlib.Nat.{zero-add, suc-add, sub-zero, suc-sub-suc, pow-succ', div-one}
+use native.Mathlib.Nat.{zero-add, suc-add, sub-zero, suc-sub-suc, div-one}
 use native.Mathlib.Omega.{arith}
 use lib.Arith.{digits-div}
 use lib.Pow.{shr-shr}
-use lib.ListN.{length, getD, take, drop, replicate, length-drop}
-use lib.Seq.{drop-cons, drop-drop, drop-nil, take-nil}
+use lib.ListN.{length, take, drop, replicate, length-drop}
+use lib.Seq.{drop-drop, drop-nil, length-take-le, take-all, take-nil}
 use Rattle.format.specs.Field.{block}
 use Rattle.format.specs.Lists.{Bytes, low, lowBytes}
-use Rattle.basics.proofs.Bytes.{bytes-drop}
-use Rattle.number.proofs.Words.{powers, spelled}
+use Rattle.basics.proofs.Bytes.{bytes-drop, bytes-take}
+use Rattle.number.proofs.Words.{read, spelled}
 
 -- the first n of x, and zeros past its end
 abbrev pub padded : ℕ → List ℕ → List ℕ
@@ -65,25 +65,8 @@ low-padded (suc n) (y ∷ x) = ap (λ (k : ℕ). y + 256 * k) (low-padded n x)
 pub word-padded : (n : ℕ) (x : List ℕ) → Bytes x → lowBytes n (low (take n x)) ≡ padded n x
 word-padded n x b = spelled n (low (take n x)) (padded n x) (bytes-padded n x b) (length-padded n x) (low-padded n x)
 
--- a number of so many bytes
-low-fits : (n : ℕ) (x : List ℕ) → Bytes x → length x ≤ n → low x < 256 ^ n
-low-fits n [] b h = powers n
-low-fits zero (y ∷ x) b h = absurd (omega arith)
-low-fits (suc n) (y ∷ x) b h = omega (arith, b .0, low-fits n x (b .1) (omega arith), pow-succ' 256 n)
-
--- the bytes from place i on, and the one before them
-pub word-more : (l : List ℕ) (i x : ℕ) → 0 < i → i ≤ length l → x ≡ low (drop i l) → 256 * x + getD l (i - 1) 0 ≡ low (drop (i - 1) l)
-word-more l i x h m e =
-    let k : i - 1 < length l = omega arith in
-    let j : low (drop (suc (i - 1)) l) ≡ low (drop i l) = ap (λ (n : ℕ). low (drop n l)) {x = suc (i - 1)} {y = i} (omega arith) in
-    sym (ap low (drop-cons l (i - 1) 0 k) ∙ omega arith)
-
--- eight of them fit a word
-pub word-fits : (l : List ℕ) (i : ℕ) → Bytes l → length l ≤ i + 8 → low (drop i l) < 256 ^ 8
-word-fits l i b h = low-fits 8 (drop i l) (bytes-drop i l b) (omega (arith, length-drop i l))
-
 -- the bytes above the n lowest
-pub top-bytes : (n : ℕ) (l : List ℕ) → Bytes l → n ≤ length l → low l / 2 ^ (8 * n) ≡ low (drop n l)
+top-bytes : (n : ℕ) (l : List ℕ) → Bytes l → n ≤ length l → low l / 2 ^ (8 * n) ≡ low (drop n l)
 top-bytes zero l b h = div-one (low l)
 top-bytes (suc n) [] b h = absurd (omega arith)
 top-bytes (suc n) (x ∷ l) b h =
@@ -91,3 +74,41 @@ top-bytes (suc n) (x ∷ l) b h =
     ∙ sym (shr-shr (x + 256 * low l) 8 (8 * n))
     ∙ ap (λ (k : ℕ). k / 2 ^ (8 * n)) (ap (λ (k : ℕ). k / 256) {x = x + 256 * low l} {y = low l * 256 + x} (omega arith) ∙ digits-div (low l) (b .0))
     ∙ top-bytes n l (b .1) (omega arith)
+
+-- a part's part
+pub drop-take : (n m : ℕ) (l : List ℕ) → n ≤ m → drop n (take m l) ≡ take (m - n) (drop n l)
+drop-take zero m l h = ap (λ (k : ℕ). take k l) (sym (sub-zero m))
+drop-take (suc n) zero l h = absurd (omega arith)
+drop-take (suc n) (suc m) [] h = sym (take-nil (suc m - suc n))
+drop-take (suc n) (suc m) (x ∷ l) h = drop-take n m l (omega arith) ∙ ap (λ (k : ℕ). take k (drop n l)) (sym (suc-sub-suc m n))
+
+-- the bytes from place i up to `to` are the top bytes of the word that ends there
+pub word-top : (w x : ℕ) (l : List ℕ) (i to : ℕ) → i ≤ to → to - i ≤ w → w ≤ to → to ≤ length l → Bytes l → x ≡ low (take w (drop (to - w) l))
+    → x / 2 ^ (8 * (w - (to - i))) ≡ low (take (to - i) (drop i l))
+word-top w x l i to h k m inside b e =
+    ap (λ (y : ℕ). y / 2 ^ (8 * (w - (to - i)))) e
+    ∙ top-bytes (w - (to - i)) (take w (drop (to - w) l)) (bytes-take w (drop (to - w) l) (bytes-drop (to - w) l b)) (omega (arith, length-take-le w (drop (to - w) l) (omega (arith, length-drop (to - w) l))))
+    ∙ ap low
+    (drop-take (w - (to - i)) w (drop (to - w) l) (omega arith)
+    ∙ ap (take (w - (w - (to - i)))) (drop-drop (w - (to - i)) (to - w) l)
+    ∙ ap (λ (n : ℕ). take n (drop (to - w + (w - (to - i))) l)) {x = w - (w - (to - i))} {y = to - i} (omega arith)
+    ∙ ap (λ (j : ℕ). take (to - i) (drop j l)) {x = to - w + (w - (to - i))} {y = i} (omega arith))
+
+-- the last bytes of l, from place i on
+pub word-last : (w x : ℕ) (l : List ℕ) (i : ℕ) → i ≤ length l → length l ≤ i + w → w ≤ length l → Bytes l → x ≡ low (take w (drop (length l - w) l))
+    → x / 2 ^ (8 * (w - (length l - i))) ≡ low (drop i l)
+word-last w x l i h k m b e =
+    word-top w x l i (length l) h (omega arith) m (omega arith) b e ∙ ap low (take-all (length l - i) (drop i l) (omega (arith, length-drop i l)))
+
+-- all of l: a word at its start and one at its end, which may overlap
+pub words-last : (w lo hi x : ℕ) (l : List ℕ) → w ≤ length l → length l ≤ w + w → Bytes l → lo ≡ low (take w l) → hi ≡ low (take w (drop (length l - w) l))
+    → x ≡ lo + 256 ^ w * (hi / 2 ^ (8 * (w + w - length l))) → x ≡ low l
+words-last w lo hi x l h k b e f g =
+    read w w l 0 x lo (hi / 2 ^ (8 * (w + w - length l))) (omega arith) g e high
+    ∙ ap low (take-all (w + w) l k)
+  where
+    high : hi / 2 ^ (8 * (w + w - length l)) ≡ low (take w (drop (0 + w) l))
+    high =
+        ap (λ (n : ℕ). hi / 2 ^ (8 * n)) {x = w + w - length l} {y = w - (length l - (0 + w))} (omega arith)
+        ∙ word-last w hi l (0 + w) (omega arith) (omega arith) h b f
+        ∙ ap low (sym (take-all w (drop (0 + w) l) (omega (arith, length-drop (0 + w) l))))

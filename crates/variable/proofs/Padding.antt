@@ -3,24 +3,16 @@ use Prim.Native.Nat.{ℕ, zero, suc, _+_, _-_, _*_, _/_, _^_, _<_, _≤_}
 use mathlib.Core.Path.{_≡_, refl, sym, ap, _∙_}
 use mathlib.Core.Bool.{Bool, true, false, cond}
 use mathlib.Core.List.{List, [], _∷_, _++_}
-use native.Mathlib.Nat.{sub-eq-zero-of-le, sub-zero, suc-sub-suc}
+use native.Mathlib.Nat.{sub-eq-zero-of-le}
 use native.Mathlib.Numerals.{add-one}
 use native.Mathlib.Omega.{arith}
 use lib.Dec.{eqb}
 use lib.ListN.{length, getD, take, drop, length-take, length-drop}
-use lib.Seq.{drop-cons, drop-drop, length-take-le, take-add, take-nil}
+use lib.Seq.{drop-cons, drop-drop, length-take-le, take-add}
 use borrow.Author.Tests.{eq-eqb, ne-eqb}
 use Rattle.format.specs.Lists.{Bytes, low}
 use Rattle.format.specs.Read.{fromBad}
-use Rattle.basics.proofs.Bytes.{bytes-drop, bytes-take}
-use Rattle.variable.proofs.Padded.{top-bytes}
-
--- a part's part
-pub drop-take : (n m : ℕ) (l : List ℕ) → n ≤ m → drop n (take m l) ≡ take (m - n) (drop n l)
-drop-take zero m l h = ap (λ (k : ℕ). take k l) (sym (sub-zero m))
-drop-take (suc n) zero l h = absurd (omega arith)
-drop-take (suc n) (suc m) [] h = sym (take-nil (suc m - suc n))
-drop-take (suc n) (suc m) (x ∷ l) h = drop-take n m l (omega arith) ∙ ap (λ (k : ℕ). take k (drop n l)) (sym (suc-sub-suc m n))
+use Rattle.variable.proofs.Padded.{word-top}
 
 -- no more than there are
 few : (n : ℕ) (l : List ℕ) → fromBad (take n l) ≤ n
@@ -99,15 +91,4 @@ module _ {t : List ℕ} {from to i : ℕ} (k : Clear t from to i) where
   -- the top bytes of the word that ends there
   pub clear-top : (w x : ℕ) → to - i ≤ w → w ≤ to → to ≤ length t → Bytes t → x ≡ low (take w (drop (to - w) t)) → x / 2 ^ (8 * (w - (to - i))) ≡ 0
       → fromBad (take (to - from) (drop from t)) ≡ 0
-  clear-top w x h m l b e z =
-      k .same ∙ ap fromBad there
-      ∙ low-clear (drop (w - (to - i)) (take w (drop (to - w) t)))
-      (sym (top-bytes (w - (to - i)) (take w (drop (to - w) t)) (bytes-take w (drop (to - w) t) (bytes-drop (to - w) t b)) (omega (arith, length-take-le w (drop (to - w) t) (omega (arith, length-drop (to - w) t)))))
-      ∙ ap (λ (y : ℕ). y / 2 ^ (8 * (w - (to - i)))) (sym e) ∙ z)
-    where
-      there : take (to - i) (drop i t) ≡ drop (w - (to - i)) (take w (drop (to - w) t))
-      there =
-          ap (λ (n : ℕ). take n (drop i t)) {x = to - i} {y = w - (w - (to - i))} (omega arith)
-          ∙ ap (λ (n : ℕ). take (w - (w - (to - i))) (drop n t)) {x = i} {y = to - w + (w - (to - i))} (omega (arith, k .high))
-          ∙ ap (take (w - (w - (to - i)))) (sym (drop-drop (w - (to - i)) (to - w) t))
-          ∙ sym (drop-take (w - (to - i)) w (drop (to - w) t) (omega arith))
+  clear-top w x h m l b e z = k .same ∙ low-clear (take (to - i) (drop i t)) (sym (word-top w x t i to (k .high) h m l b e) ∙ z)

@@ -17,7 +17,7 @@ use Rattle.format.specs.Field.{directed, blockSize}
 use Rattle.format.specs.Read.{Parsed, got, fault, allZero, fromBad, readBlock, readBlocks}
 use Rattle.laws.proofs.Directed.{length-directed}
 use Rattle.variable.specs.Counted.{blocksRead, blockAt, counted, Ended}
-use Rattle.variable.proofs.Padding.{drop-take}
+use Rattle.variable.proofs.Padded.{drop-take}
 
 -- what is read from block k on, at a place of t, with c bytes of the value before
 abbrev pub Rest : List ℕ → ℕ → ℕ → ℕ → Parsed (List ℕ)

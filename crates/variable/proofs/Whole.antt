@@ -5,14 +5,14 @@ use mathlib.Core.Bool.{Bool, true, false, cond}
 use mathlib.Core.List.{List, [], _∷_, _++_, append-assoc, append-nil}
 use native.Mathlib.Omega.{arith}
 use lib.Dec.{leb}
-use lib.ListN.{length, take, drop, set, length-append, length-drop}
-use lib.Seq.{sets, set-set, length-sets, take-all}
+use lib.ListN.{length, take, drop, set, length-append}
+use lib.Seq.{sets, set-set, length-sets}
 use Rattle.format.specs.Field.{directed, paddedLength, variableBytes}
-use Rattle.basics.proofs.Append.{sets-append, Walk, walk-start, walk-at, walk-piece, walk-room, walk-end}
+use Rattle.basics.proofs.Append.{Walk, walk-start, walk-at, walk-piece, walk-room, walk-end}
 use Rattle.laws.proofs.Directed.{length-directed, directed-append}
 use Rattle.laws.proofs.Lengths.{length-variable}
 use Rattle.variable.specs.Even.{evenBlocks}
-use Rattle.variable.proofs.Direction.{turn, directed-one}
+use Rattle.variable.proofs.Direction.{turn, directed-one, sets-directed}
 use Rattle.variable.proofs.Even.{field-empty, field-short, Long, field-long}
 
 -- the last byte of a run, written again
@@ -24,10 +24,7 @@ again d f a b l i =
     ∙ sym (last b)
   where
     last : (x : ℕ) → sets l i (directed d (f ++ (x ∷ []))) ≡ set (sets l i (directed d f)) (i + length f) (turn d x)
-    last x =
-        ap (sets l i) (directed-append d f (x ∷ []))
-        ∙ sets-append (directed d f) (directed d (x ∷ [])) l i
-        ∙ ap₂ (λ (n : ℕ) (z : List ℕ). sets (sets l i (directed d f)) (i + n) z) (length-directed d f) (directed-one d x)
+    last x = sets-directed d f (x ∷ []) l i ∙ ap (sets (sets l i (directed d f)) (i + length f)) (directed-one d x)
 
 module _ (val out₀ : List ℕ) (at : ℕ) (d : Bool) (fits : at + paddedLength (length val) ≤ length out₀) where
   -- the whole field
@@ -124,15 +121,8 @@ module _ (val out₀ : List ℕ) (at : ℕ) (d : Bool) (fits : at + paddedLength
           later : Walk (directed d (variableBytes val)) (directed d (evenBlocks 32 (drop 32 val))) out₀ at out₃ place
           later = walk-at place (from (evenBlocks 32 (drop 32 val)) out₃ refl fourth (part (L .front ++ (255 ∷ [])) (evenBlocks 32 (drop 32 val)) first₄)) (omega (arith, count, length-append (L .front) (255 ∷ [])))
 
-          -- the bytes past the first 32, as the slice of them has it
-          rest : drop 32 val ≡ take (length val - 32) (drop 32 val)
-          rest = sym (take-all (length val - 32) (drop 32 val) (omega (arith, length-drop 32 val)))
+          pub later-room : place + length (evenBlocks 32 (drop 32 val)) ≤ length out₃
+          later-room = room-last (evenBlocks 32 (drop 32 val)) later
 
-          pub later-room : place + length (evenBlocks 32 (take (length val - 32) (drop 32 val))) ≤ length out₃
-          later-room = subst (λ (z : List ℕ). place + length (evenBlocks 32 z) ≤ length out₃) rest (room-last (evenBlocks 32 (drop 32 val)) later)
-
-          pub one-long : (r : ℕ) (out₄ : List ℕ) → r ≡ place + length (evenBlocks 32 (take (length val - 32) (drop 32 val)))
-              → out₄ ≡ sets out₃ place (directed d (evenBlocks 32 (take (length val - 32) (drop 32 val)))) → Field r out₄
-          one-long r out₄ q e =
-              subst (λ (k : ℕ). Field k out₄) (sym (q ∙ ap (λ (z : List ℕ). place + length (evenBlocks 32 z)) (sym rest)))
-              (part-last (evenBlocks 32 (drop 32 val)) out₄ later (e ∙ ap (λ (z : List ℕ). sets out₃ place (directed d (evenBlocks 32 z))) (sym rest)))
+          pub one-long : (r : ℕ) (out₄ : List ℕ) → r ≡ place + length (evenBlocks 32 (drop 32 val)) → out₄ ≡ sets out₃ place (directed d (evenBlocks 32 (drop 32 val))) → Field r out₄
+          one-long r out₄ q e = subst (λ (k : ℕ). Field k out₄) (sym q) (part-last (evenBlocks 32 (drop 32 val)) out₄ later e)

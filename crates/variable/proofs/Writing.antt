@@ -3,16 +3,18 @@ use Prim.Native.Nat.{ℕ, _+_, _-_, _<_, _≤_}
 use mathlib.Core.Path.{_≡_, refl, sym, ap, ap₂, _∙_, subst}
 use mathlib.Core.Bool.{Bool}
 use mathlib.Core.List.{List, [], _∷_, _++_, append-nil, append-assoc}
-use native.Mathlib.Nat.{sub-zero, sub-eq-zero-of-le}
+use native.Mathlib.Nat.{zero-add, sub-zero, sub-eq-zero-of-le}
 use native.Mathlib.Omega.{arith}
-use lib.ListN.{length, take, drop, length-append, length-drop}
-use lib.Seq.{sets, length-take-le, take-all, drop-drop}
+use lib.ListN.{length, take, drop, replicate, length-append, length-drop}
+use lib.Seq.{sets, length-take-le, drop-drop}
 use Rattle.format.specs.Field.{block, directed}
 use Rattle.format.specs.Lists.{Bytes, low, lowBytes}
-use Rattle.basics.proofs.Append.{Walk, walk-start, walk-first, walk-at, walk-piece, walk-room, walk-end}
+use Rattle.basics.proofs.Append.{sets-append, Walk, walk-start, walk-at, walk-piece, walk-room, walk-end}
 use Rattle.basics.proofs.Bytes.{bytes-drop}
 use Rattle.laws.proofs.Directed.{length-directed, directed-append}
+use Rattle.number.proofs.Words.{length-lowBytes}
 use Rattle.variable.specs.Even.{evenBlocks}
+use Rattle.variable.proofs.Direction.{sets-directed}
 use Rattle.variable.proofs.Padded.{padded, length-padded, padded-step, block-padded, word-padded}
 use Rattle.variable.proofs.Even.{even, even-is, even-last, even-more}
 
@@ -22,60 +24,86 @@ length-block size x end h = ap length (block-padded size x end h) ∙ length-app
 
 -- ---- one block
 
--- i of its bytes are written
-pub record Filling (x : List ℕ) (size end : ℕ) (d : Bool) (out₀ : List ℕ) (at : ℕ) (out : List ℕ) (i : ℕ) : Type 0 where
+-- its bytes from place i on
+abbrev pub left : List ℕ → ℕ → ℕ → Bool → ℕ → List ℕ
+left x size end d i = directed d (padded (size - i) (drop i x) ++ (end ∷ []))
+
+-- begin with a word: data, or zeros past their end
+module _ (x : List ℕ) (size end : ℕ) (d : Bool) (i w word y : ℕ) (h : i + w ≤ size) (b : Bytes x) (e : word ≡ low (take w (drop i x))) (f : lowBytes w y ≡ directed d (lowBytes w word)) where
+  is : lowBytes w y ≡ directed d (padded w (drop i x))
+  is = f ∙ ap (directed d) (ap (lowBytes w) e ∙ word-padded w (drop i x) (bytes-drop i x b))
+
+  left-word : left x size end d i ≡ lowBytes w y ++ left x size end d (i + w)
+  left-word =
+      ap (λ (z : List ℕ). directed d (z ++ (end ∷ []))) (padded-step size i w x h)
+      ∙ ap (directed d) (append-assoc (padded w (drop i x)) (padded (size - (i + w)) (drop (i + w) x)) (end ∷ []))
+      ∙ directed-append d (padded w (drop i x)) (padded (size - (i + w)) (drop (i + w) x) ++ (end ∷ []))
+      ∙ ap (λ (z : List ℕ). z ++ left x size end d (i + w)) (sym is)
+
+-- the first word, and after it the others
+pub fill-whole : (x : List ℕ) (size end : ℕ) (d : Bool) (out₀ out out′ : List ℕ) (at w word y : ℕ) → length x ≤ size → w ≤ size → Bytes x → word ≡ low (take w x) → lowBytes w y ≡ directed d (lowBytes w word)
+    → out ≡ sets out₀ at (lowBytes w y) → out′ ≡ sets out (at + w) (left x size end d w) → out′ ≡ sets out₀ at (directed d (block size x end))
+fill-whole x size end d out₀ out out′ at w word y h k b e f g l =
+    l ∙ ap₂ (λ (n : ℕ) (z : List ℕ). sets z (at + n) (left x size end d w)) (sym (length-lowBytes w y)) g
+    ∙ sym (sets-append (lowBytes w y) (left x size end d w) out₀ at)
+    ∙ ap (sets out₀ at)
+    (ap (λ (n : ℕ). lowBytes w y ++ left x size end d n) (sym (zero-add w))
+    ∙ sym (left-word x size end d 0 w word y (omega arith) b e f)
+    ∙ ap (λ (n : ℕ). directed d (padded n x ++ (end ∷ []))) (sub-zero size)
+    ∙ ap (directed d) (sym (block-padded size x end h)))
+
+-- from place j on, the bytes before place i are written
+pub record Filling (x : List ℕ) (size end : ℕ) (d : Bool) (j : ℕ) (out₀ : List ℕ) (at : ℕ) (out : List ℕ) (i : ℕ) : Type 0 where
   pub few : i ≤ size
-  pub wrote : Walk (directed d (block size x end)) (directed d (padded (size - i) (drop i x) ++ (end ∷ []))) out₀ at out (at + i)
+  pub wrote : Walk (left x size end d j) (left x size end d i) out₀ (at + j) out (at + i)
 
-pub fill-start : (x : List ℕ) (size end : ℕ) (d : Bool) (out : List ℕ) (at : ℕ) → length x ≤ size → Filling x size end d out at out 0
-fill-start x size end d out at h = record {
-  few = omega arith;
-  wrote = walk-first (directed d (block size x end)) (directed d (padded (size - 0) x ++ (end ∷ []))) out at
-      (ap (λ (k : ℕ). directed d (padded k x ++ (end ∷ []))) (sub-zero size) ∙ ap (directed d) (sym (block-padded size x end h)));
-}
+pub fill-start : (x : List ℕ) (size end : ℕ) (d : Bool) (j : ℕ) (out : List ℕ) (at : ℕ) → j ≤ size → Filling x size end d j out at out j
+fill-start x size end d j out at h = record { few = h; wrote = walk-start (left x size end d j) out (at + j) }
 
-module _ {x : List ℕ} {size end : ℕ} {d : Bool} {out₀ : List ℕ} {at : ℕ} {out : List ℕ} {i : ℕ} (t : Filling x size end d out₀ at out i) where
-  -- a word more: data, or zeros past their end
+module _ {x : List ℕ} {size end : ℕ} {d : Bool} {j : ℕ} {out₀ : List ℕ} {at : ℕ} {out : List ℕ} {i : ℕ} (t : Filling x size end d j out₀ at out i) where
+  -- a word more
   pub fill-word : (w word y : ℕ) → i + w ≤ size → Bytes x → word ≡ low (take w (drop i x)) → lowBytes w y ≡ directed d (lowBytes w word)
-      → Filling x size end d out₀ at (sets out (at + i) (lowBytes w y)) (i + w)
+      → Filling x size end d j out₀ at (sets out (at + i) (lowBytes w y)) (i + w)
   fill-word w word y h b e f = record {
     few = h;
-    wrote = walk-at (at + (i + w)) (walk-piece w (lowBytes w y) (directed d (padded (size - (i + w)) (drop (i + w) x) ++ (end ∷ []))) (t .wrote) parted long) (omega arith);
+    wrote = walk-at (at + (i + w)) (walk-piece w (lowBytes w y) (left x size end d (i + w)) (t .wrote) (left-word x size end d i w word y h b e f) (length-lowBytes w y)) (omega arith);
   }
-    where
-      is : lowBytes w y ≡ directed d (padded w (drop i x))
-      is = f ∙ ap (directed d) (ap (lowBytes w) e ∙ word-padded w (drop i x) (bytes-drop i x b))
-
-      long : length (lowBytes w y) ≡ w
-      long = ap length is ∙ length-directed d (padded w (drop i x)) ∙ length-padded w (drop i x)
-
-      parted : directed d (padded (size - i) (drop i x) ++ (end ∷ [])) ≡ lowBytes w y ++ directed d (padded (size - (i + w)) (drop (i + w) x) ++ (end ∷ []))
-      parted =
-          ap (λ (z : List ℕ). directed d (z ++ (end ∷ []))) (padded-step size i w x h)
-          ∙ ap (directed d) (append-assoc (padded w (drop i x)) (padded (size - (i + w)) (drop (i + w) x)) (end ∷ []))
-          ∙ directed-append d (padded w (drop i x)) (padded (size - (i + w)) (drop (i + w) x) ++ (end ∷ []))
-          ∙ ap (λ (z : List ℕ). z ++ directed d (padded (size - (i + w)) (drop (i + w) x) ++ (end ∷ []))) (sym is)
 
   -- the end byte
-  pub fill-end : (out′ : List ℕ) → size ≤ i → out′ ≡ sets out (at + size) (directed d (end ∷ [])) → out′ ≡ sets out₀ at (directed d (block size x end))
+  pub fill-end : (out′ : List ℕ) → size ≤ i → out′ ≡ sets out (at + size) (directed d (end ∷ [])) → out′ ≡ sets out₀ (at + j) (left x size end d j)
   fill-end out′ h e =
       e ∙ ap₂ (λ (k : ℕ) (z : List ℕ). sets out (at + k) (directed d (z ++ (end ∷ [])))) {x = size} {y = i} (omega (arith, t .few)) (sym (ap (λ (k : ℕ). padded k (drop i x)) (sub-eq-zero-of-le h)))
       ∙ t .wrote .says
 
+-- a block that is all data, and the end byte after it
+pub fill-full : (x : List ℕ) (size end : ℕ) (d : Bool) (out₀ out out′ : List ℕ) (at : ℕ) → length x ≡ size → out ≡ sets out₀ at (directed d x) → out′ ≡ sets out (at + size) (directed d (end ∷ []))
+    → out′ ≡ sets out₀ at (directed d (block size x end))
+fill-full x size end d out₀ out out′ at h e f =
+    f ∙ ap₂ (λ (k : ℕ) (z : List ℕ). sets z (at + k) (directed d (end ∷ []))) (sym h) e
+    ∙ sym (sets-directed d x (end ∷ []) out₀ at)
+    ∙ ap (λ (z : List ℕ). sets out₀ at (directed d (z ++ (end ∷ [])))) (sym (ap (λ (k : ℕ). x ++ replicate k 0) {x = size - length x} {y = 0} (omega arith) ∙ append-nil x))
+
 -- ---- a run of blocks of one size
 
--- i bytes of the value are written
-pub record Spreading (val : List ℕ) (size : ℕ) (d : Bool) (out₀ : List ℕ) (at : ℕ) (out : List ℕ) (place i : ℕ) : Type 0 where
-  pub some-left : i < length val
-  pub wrote : Walk (directed d (evenBlocks size val)) (directed d (even size (drop i val))) out₀ at out place
+-- of one block
+pub one-block : (size : ℕ) (x : List ℕ) → 0 < length x → length x ≤ size → (evenBlocks size x ≡ block size x (length x)) × (length (evenBlocks size x) ≡ size + 1)
+one-block size x some h =
+    let e = even-is size x (omega arith) some ∙ even-last size x h in
+    (e, ap length e ∙ length-block size x (length x) h)
 
-pub spread-start : (val : List ℕ) (size : ℕ) (d : Bool) (out : List ℕ) (at : ℕ) → 0 < size → 0 < length val → Spreading val size d out at out at 0
-spread-start val size d out at room h = record {
+-- of the value from `from` on, what comes before place i is written
+pub record Spreading (val : List ℕ) (from size : ℕ) (d : Bool) (out₀ : List ℕ) (at : ℕ) (out : List ℕ) (place i : ℕ) : Type 0 where
+  pub some-left : i < length val
+  pub wrote : Walk (directed d (evenBlocks size (drop from val))) (directed d (even size (drop i val))) out₀ at out place
+
+pub spread-start : (val : List ℕ) (from size : ℕ) (d : Bool) (out : List ℕ) (at : ℕ) → 0 < size → from < length val → Spreading val from size d out at out at from
+spread-start val from size d out at room h = record {
   some-left = h;
-  wrote = subst (λ (z : List ℕ). Walk (directed d z) (directed d (even size val)) out at out at) (sym (even-is size val room h)) (walk-start (directed d (even size val)) out at);
+  wrote = subst (λ (z : List ℕ). Walk (directed d z) (directed d (even size (drop from val))) out at out at) (sym (even-is size (drop from val) room (omega (arith, length-drop from val))))
+      (walk-start (directed d (even size (drop from val))) out at);
 }
 
-module _ {val : List ℕ} {size : ℕ} {d : Bool} {out₀ : List ℕ} {at : ℕ} {out : List ℕ} {place i : ℕ} (t : Spreading val size d out₀ at out place i) where
+module _ {val : List ℕ} {from size : ℕ} {d : Bool} {out₀ : List ℕ} {at : ℕ} {out : List ℕ} {place i : ℕ} (t : Spreading val from size d out₀ at out place i) where
   -- a full block, and what follows
   module _ (room : 0 < size) (h : size < length val - i) where
     parted : directed d (even size (drop i val)) ≡ directed d (block size (take size (drop i val)) 255) ++ directed d (even size (drop (i + size) val))
@@ -90,16 +118,16 @@ module _ {val : List ℕ} {size : ℕ} {d : Bool} {out₀ : List ℕ} {at : ℕ}
         ∙ length-block size (take size (drop i val)) 255 (omega (arith, length-take-le size (drop i val) (omega (arith, length-drop i val))))
 
     -- there is room for it, and the walk goes on
-    pub more-room : at + length (evenBlocks size val) ≤ length out₀ → place + size < length out
+    pub more-room : at + length (evenBlocks size (drop from val)) ≤ length out₀ → place + size < length out
     more-room fits =
-        omega (arith, long, walk-room (t .wrote) (directed d (block size (take size (drop i val)) 255)) (directed d (even size (drop (i + size) val))) parted (omega (arith, length-directed d (evenBlocks size val))))
+        omega (arith, long, walk-room (t .wrote) (directed d (block size (take size (drop i val)) 255)) (directed d (even size (drop (i + size) val))) parted (omega (arith, length-directed d (evenBlocks size (drop from val)))))
 
-    pub spread-more : (out′ : List ℕ) → out′ ≡ sets out place (directed d (block size (take (i + size - i) (drop i val)) 255)) → Spreading val size d out₀ at out′ (place + (size + 1)) (i + size)
+    pub spread-more : (out′ : List ℕ) → out′ ≡ sets out place (directed d (block size (take size (drop i val)) 255)) → Spreading val from size d out₀ at out′ (place + (size + 1)) (i + size)
     spread-more out′ f = record {
       some-left = omega arith;
       wrote =
-          subst (λ (z : List ℕ). Walk (directed d (evenBlocks size val)) (directed d (even size (drop (i + size) val))) out₀ at z (place + (size + 1)))
-          (sym (f ∙ ap (λ (k : ℕ). sets out place (directed d (block size (take k (drop i val)) 255))) {x = i + size - i} {y = size} (omega arith)))
+          subst (λ (z : List ℕ). Walk (directed d (evenBlocks size (drop from val))) (directed d (even size (drop (i + size) val))) out₀ at z (place + (size + 1)))
+          (sym f)
           (walk-piece (size + 1) (directed d (block size (take size (drop i val)) 255)) (directed d (even size (drop (i + size) val))) (t .wrote) parted long);
     }
 
@@ -114,14 +142,14 @@ module _ {val : List ℕ} {size : ℕ} {d : Bool} {out₀ : List ℕ} {at : ℕ}
     last = length-directed d (block size (drop i val) (length val - i)) ∙ length-block size (drop i val) (length val - i) (omega (arith, length-drop i val))
 
     -- there is room for it, and the walk ends
-    pub last-room : at + length (evenBlocks size val) ≤ length out₀ → place + size < length out
+    pub last-room : at + length (evenBlocks size (drop from val)) ≤ length out₀ → place + size < length out
     last-room fits =
-        omega (arith, last, walk-room (t .wrote) (directed d (block size (drop i val) (length val - i))) [] ended (omega (arith, length-directed d (evenBlocks size val))))
+        omega (arith, last, walk-room (t .wrote) (directed d (block size (drop i val) (length val - i))) [] ended (omega (arith, length-directed d (evenBlocks size (drop from val)))))
 
-    pub spread-end : (out′ : List ℕ) → out′ ≡ sets out place (directed d (block size (take (length val - i) (drop i val)) (length val - i)))
-        → (place + size + 1 ≡ at + length (evenBlocks size val)) × (out′ ≡ sets out₀ at (directed d (evenBlocks size val)))
+    pub spread-end : (out′ : List ℕ) → out′ ≡ sets out place (directed d (block size (drop i val) (length val - i)))
+        → (place + size + 1 ≡ at + length (evenBlocks size (drop from val))) × (out′ ≡ sets out₀ at (directed d (evenBlocks size (drop from val))))
     spread-end out′ f =
         let w = walk-end (walk-piece (size + 1) (directed d (block size (drop i val) (length val - i))) [] (t .wrote) ended last) refl in (
-          omega (arith, w .0, length-directed d (evenBlocks size val)),
-          f ∙ ap (λ (z : List ℕ). sets out place (directed d (block size z (length val - i)))) (take-all (length val - i) (drop i val) (omega (arith, length-drop i val))) ∙ w .1,
+          omega (arith, w .0, length-directed d (evenBlocks size (drop from val))),
+          f ∙ w .1,
         )

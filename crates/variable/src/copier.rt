@@ -25,8 +25,15 @@ pub struct Copied {
     pub value: usize,
 }
 
-// Bytes of a row inverted back, a word at a time.
-fn copy_words(row: &[u8], from: usize, count: usize, descending: bool, out: &mut [u8], at: usize)
+// Bytes of a row inverted back, a word at a time. Of a value into a row, the same inverts them.
+pub fn copy_words(
+    row: &[u8],
+    from: usize,
+    count: usize,
+    descending: bool,
+    out: &mut [u8],
+    at: usize,
+)
     requires { ⌜ count % 8 ≡ 0 ⌝ }
     requires { ⌜ from + count ≤ length (now row) ⌝ }
     requires { ⌜ at + count ≤ length (now out) ⌝ }

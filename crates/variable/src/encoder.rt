@@ -1,7 +1,7 @@
 // A slot into its field, from a place of the row buffer on. Each writer returns the place after what it wrote.
 ghost use mathlib.Core.Path.{_≡_};
 ghost use mathlib.Core.Option.{none, some};
-ghost use Prim.Native.Nat.{_+_, _%_, _<_, _≤_};
+ghost use Prim.Native.Nat.{_+_, _-_, _%_, _<_, _≤_};
 ghost use lib.ListN.{length, take, drop};
 ghost use lib.Seq.{sets};
 ghost use Rattle.format.specs.Lists.{low};
@@ -13,9 +13,12 @@ use crate::block::EMPTY_SENTINEL;
 use crate::block::MINI_BLOCK_SIZE;
 use crate::block::NON_EMPTY_SENTINEL;
 use crate::byte::put_byte;
+use crate::copier::copy_words;
 use format::SortOptions;
 use format::null_sentinel;
 use number::directed64;
+use number::low16;
+use number::low32;
 use number::low64;
 use number::put64;
 
@@ -36,75 +39,132 @@ fn wide(x: u8) -> u64
     x as u64
 }
 
-// The bytes of input from a place to its end, eight at most, as a number, low byte first.
-fn last_word(input: &[u8], from: usize) -> u64
-    requires { ⌜ from ≤ length (now input) ⌝ }
-    requires { ⌜ length (now input) ≤ from + 8 ⌝ }
-    ensures { λ r. ⌜ r ≡ low (drop from (now (input .entry))) ⌝ }
+// The bytes of val, eight at most, as a number, low byte first: a word of half the width at its start and one at its end,
+// which may overlap.
+fn short_word(val: &[u8]) -> u64
+    requires { ⌜ 0 < length (now val) ⌝ }
+    requires { ⌜ length (now val) ≤ 8 ⌝ }
+    ensures { λ r. ⌜ r ≡ low (now (val .entry)) ⌝ }
 {
-    let mut x: u64 = 0;
-    let mut i = input.len();
-    while from < i {
-        i -= 1;
-        x = 256 * x + wide(input[i]);
+    let len = val.len();
+    if 4 <= len {
+        let high = low32(val, len - 4) as u64 >> (8 * (8 - len));
+        return low32(val, 0) as u64 + 4294967296 * high;
     }
-    x
+    if 2 <= len {
+        let high = low16(val, len - 2) as u64 >> (8 * (4 - len));
+        return low16(val, 0) as u64 + 65536 * high;
+    }
+    wide(val[0])
 }
 
-// The eight bytes of input at a place, as a number, low byte first; zeros stand for those past its end.
-fn word_at(input: &[u8], from: usize) -> u64
-    ensures { λ r. ⌜ r ≡ low (take 8 (drop from (now (input .entry)))) ⌝ }
+// The one block of a value that is shorter than a word.
+fn encode_short(out: &mut [u8], at: usize, val: &[u8], descending: bool) -> usize
+    requires { ⌜ (0 < length (now val)) × (length (now val) < 8) ⌝ }
+    requires { ⌜ at + length (evenBlocks 8 (now val)) ≤ length (now out) ⌝ }
+    ensures { λ r. ⌜ r ≡ at + length (evenBlocks 8 (now (val .entry))) ⌝ }
+    ensures { λ _. ⌜ now (out .exit) ≡ sets (now (out .entry)) at (directed descending (evenBlocks 8 (now (val .entry)))) ⌝ }
 {
-    let len = input.len();
-    if len <= from {
+    let len = val.len();
+    let word = short_word(val);
+    put64(out, at, directed64(descending, word));
+    put_byte(out, at + 8, len as u8, descending);
+    at + 9
+}
+
+// The bytes of val from a place to its end, eight at most, as a number, low byte first: the top bytes of the word that
+// ends there, which may start before the place.
+fn last_word(val: &[u8], from: usize) -> u64
+    requires { ⌜ 8 ≤ length (now val) ⌝ }
+    requires { ⌜ from < length (now val) ⌝ }
+    requires { ⌜ length (now val) ≤ from + 8 ⌝ }
+    ensures { λ r. ⌜ r ≡ low (drop from (now (val .entry))) ⌝ }
+{
+    let len = val.len();
+    low64(val, len - 8) >> (8 * (8 - (len - from)))
+}
+
+// The eight bytes of val at a place, as a number, low byte first; zeros stand for those past its end.
+fn word_at(val: &[u8], from: usize) -> u64
+    requires { ⌜ 8 ≤ length (now val) ⌝ }
+    requires { ⌜ from < length (now val) ⌝ }
+    ensures { λ r. ⌜ r ≡ low (take 8 (drop from (now (val .entry)))) ⌝ }
+{
+    if val.len() - from <= 8 {
+        return last_word(val, from);
+    }
+    low64(val, from)
+}
+
+// The same at any place.
+fn padded_word(val: &[u8], from: usize) -> u64
+    requires { ⌜ 8 ≤ length (now val) ⌝ }
+    ensures { λ r. ⌜ r ≡ low (take 8 (drop from (now (val .entry)))) ⌝ }
+{
+    if val.len() <= from {
         return 0;
     }
-    if len - from < 8 {
-        return last_word(input, from);
-    }
-    low64(input, from)
+    word_at(val, from)
 }
 
-// A block: data, zeros up to its size, and the end byte. Word by word, so that padding is written with the data.
-fn encode_block(out: &mut [u8], at: usize, input: &[u8], size: usize, end: u8, descending: bool)
-    requires { ⌜ length (now input) ≤ size ⌝ }
+// A block that more follow: all of it is data, and FF ends it.
+fn encode_full(out: &mut [u8], at: usize, val: &[u8], from: usize, size: usize, descending: bool)
     requires { ⌜ size % 8 ≡ 0 ⌝ }
+    requires { ⌜ from + size ≤ length (now val) ⌝ }
     requires { ⌜ at + size < length (now out) ⌝ }
-    ensures { λ _. ⌜ now (out .exit) ≡ sets (now (out .entry)) at (directed descending (block size (now (input .entry)) end)) ⌝ }
+    ensures { λ _. ⌜ now (out .exit) ≡ sets (now (out .entry)) at (directed descending (block size (take size (drop from (now (val .entry)))) 255)) ⌝ }
 {
-    let mut i = 0;
+    copy_words(val, from, size, descending, out, at);
+    put_byte(out, at + size, BLOCK_CONTINUATION, descending);
+}
+
+// The last block: the bytes of val from a place on, zeros up to its size, and their count. Word by word, so that padding
+// is written with the data; there are data in the first.
+fn encode_last(out: &mut [u8], at: usize, val: &[u8], from: usize, size: usize, descending: bool)
+    requires { ⌜ (0 < size) × (size < 255) × (size % 8 ≡ 0) ⌝ }
+    requires { ⌜ 8 ≤ length (now val) ⌝ }
+    requires { ⌜ (from < length (now val)) × (length (now val) ≤ from + size) ⌝ }
+    requires { ⌜ at + size < length (now out) ⌝ }
+    ensures { λ _. ⌜ now (out .exit) ≡ sets (now (out .entry)) at (directed descending (block size (drop from (now (val .entry))) (length (now (val .entry)) - from))) ⌝ }
+{
+    let len = val.len();
+    let first = word_at(val, from);
+    put64(out, at, directed64(descending, first));
+    let mut i = 8;
     while i < size {
-        let word = word_at(input, i);
+        let word = padded_word(val, from + i);
         put64(out, at + i, directed64(descending, word));
         i += 8;
     }
-    put_byte(out, at + size, end, descending);
+    put_byte(out, at + size, (len - from) as u8, descending);
 }
 
-// The blocks of val, each of `size` bytes: FF ends all but the last, and the count of its data bytes ends that.
-fn encode_blocks(out: &mut [u8], at: usize, val: &[u8], size: usize, descending: bool) -> usize
+// The blocks of val from a place on, each of `size` bytes: FF ends all but the last, and the count of its data bytes ends
+// that.
+fn encode_blocks(
+    out: &mut [u8],
+    at: usize,
+    val: &[u8],
+    from: usize,
+    size: usize,
+    descending: bool,
+) -> usize
     requires { ⌜ (0 < size) × (size < 255) × (size % 8 ≡ 0) ⌝ }
-    requires { ⌜ 0 < length (now val) ⌝ }
-    requires { ⌜ at + length (evenBlocks size (now val)) ≤ length (now out) ⌝ }
-    ensures { λ r. ⌜ r ≡ at + length (evenBlocks size (now (val .entry))) ⌝ }
-    ensures { λ _. ⌜ now (out .exit) ≡ sets (now (out .entry)) at (directed descending (evenBlocks size (now (val .entry)))) ⌝ }
+    requires { ⌜ 8 ≤ length (now val) ⌝ }
+    requires { ⌜ from < length (now val) ⌝ }
+    requires { ⌜ at + length (evenBlocks size (drop from (now val))) ≤ length (now out) ⌝ }
+    ensures { λ r. ⌜ r ≡ at + length (evenBlocks size (drop from (now (val .entry)))) ⌝ }
+    ensures { λ _. ⌜ now (out .exit) ≡ sets (now (out .entry)) at (directed descending (evenBlocks size (drop from (now (val .entry))))) ⌝ }
 {
     let len = val.len();
     let mut place = at;
-    let mut i = 0;
+    let mut i = from;
     while size < len - i {
-        encode_block(
-            out,
-            place,
-            &val[i..i + size],
-            size,
-            BLOCK_CONTINUATION,
-            descending,
-        );
+        encode_full(out, place, val, i, size, descending);
         place += size + 1;
         i += size;
     }
-    encode_block(out, place, &val[i..], size, (len - i) as u8, descending);
+    encode_last(out, place, val, i, size, descending);
     place + size + 1
 }
 
@@ -130,11 +190,21 @@ pub fn encode_one(out: &mut [u8], at: usize, val: &[u8], options: SortOptions) -
         return at + 1;
     }
     put_byte(out, at, NON_EMPTY_SENTINEL, descending);
-    if len <= BLOCK_SIZE {
-        return encode_blocks(out, at + 1, val, MINI_BLOCK_SIZE, descending);
+    if len < MINI_BLOCK_SIZE {
+        return encode_short(out, at + 1, val, descending);
     }
-    let place = encode_blocks(out, at + 1, &val[..BLOCK_SIZE], MINI_BLOCK_SIZE, descending);
+    if len <= BLOCK_SIZE {
+        return encode_blocks(out, at + 1, val, 0, MINI_BLOCK_SIZE, descending);
+    }
+    let place = encode_blocks(
+        out,
+        at + 1,
+        &val[..BLOCK_SIZE],
+        0,
+        MINI_BLOCK_SIZE,
+        descending,
+    );
     // More follow, so the end byte 08 of the fourth block gives way to FF.
     put_byte(out, place - 1, BLOCK_CONTINUATION, descending);
-    encode_blocks(out, place, &val[BLOCK_SIZE..], BLOCK_SIZE, descending)
+    encode_blocks(out, place, val, BLOCK_SIZE, BLOCK_SIZE, descending)
 }
