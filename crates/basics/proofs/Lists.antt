@@ -128,6 +128,18 @@ pub cut-at : (xs : List (List ℕ)) (t : List ℕ) (i : ℕ) → i < length xs
     → take (endAt 0 xs (suc i) - endAt 0 xs i) (drop (endAt 0 xs i) (joined xs ++ t)) ≡ getD xs i []
 cut-at xs t i h = cut-from [] xs t i 0 refl h
 
+-- ---- a function at every element of a part
+module _ {A B : Type 0} (f : A → B) where
+  pub map-take : (n : ℕ) (xs : List A) → map f (take n xs) ≡ take n (map f xs)
+  map-take zero xs = refl
+  map-take (suc n) [] = refl
+  map-take (suc n) (x ∷ xs) = ap (λ (l : List B). f x ∷ l) (map-take n xs)
+
+  pub map-drop : (n : ℕ) (xs : List A) → map f (drop n xs) ≡ drop n (map f xs)
+  map-drop zero xs = refl
+  map-drop (suc n) [] = refl
+  map-drop (suc n) (x ∷ xs) = map-drop n xs
+
 -- ---- adding up f at 0, 1, .., n - 1
 
 -- t is the sum of the first i of n

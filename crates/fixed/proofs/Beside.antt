@@ -16,7 +16,8 @@ use Rattle.format.specs.Kinds.{Slot, bool, plain}
 use Rattle.format.specs.Cleared.{valid}
 use Rattle.format.specs.Field.{directed, nullByte}
 use Rattle.format.specs.Read.{Parsed, got, fault, allZero, fromBad, fieldRead, readBytes, readFixed, readKey, readNull, slotRead}
-use Rattle.fixed.proofs.Writing.{turn, directed-map}
+use Rattle.laws.proofs.Directed.{turn}
+use Rattle.fixed.proofs.Writing.{directed-map}
 use Rattle.fixed.proofs.Reading.{lead-null, lead-bad, lead-value, bytes-cut, bytes-whole}
 use Rattle.fixed.proofs.Standing.{one-byte}
 

@@ -10,13 +10,8 @@ use Rattle.format.specs.Lists.{lowBytes, sum}
 use Rattle.format.specs.Key.{invert, partsKey, partsUnkey, signedKey, signedUnkey, topFlipped}
 use Rattle.format.specs.Field.{directed}
 use Rattle.basics.proofs.Bytes.{length-topFlipped, long-signed}
+use Rattle.laws.proofs.Directed.{length-directed, directed-append, directed-take, directed-drop}
 use Rattle.fixed.proofs.Writing.{run-next}
-use Rattle.fixed.proofs.Reading.{length-directed}
-
-pub directed-append : (d : Bool) (f g : List ℕ) → directed d (f ++ g) ≡ directed d f ++ directed d g
-directed-append false f g = refl
-directed-append true [] g = refl
-directed-append true (x ∷ f) g = ap (λ (h : List ℕ). invert x ∷ h) (directed-append true f g)
 
 -- ---- g of each part: what partsKey and partsUnkey have in common
 module _ (g : List ℕ → List ℕ) (long : (a : List ℕ) → length (g a) ≡ length a) where
@@ -92,18 +87,6 @@ module _ (d : Bool) (w from : ℕ) (s out : List ℕ) (at : ℕ) where
 
 -- ---- the parts back: of the value bytes of a row, w of them, inverted back under descending
 
-directed-take : (d : Bool) (n : ℕ) (f : List ℕ) → take n (directed d f) ≡ directed d (take n f)
-directed-take false n f = refl
-directed-take true zero f = refl
-directed-take true (suc n) [] = refl
-directed-take true (suc n) (x ∷ f) = ap (λ (h : List ℕ). invert x ∷ h) (directed-take true n f)
-
-directed-drop : (d : Bool) (n : ℕ) (f : List ℕ) → drop n (directed d f) ≡ directed d (drop n f)
-directed-drop false n f = refl
-directed-drop true zero f = refl
-directed-drop true (suc n) [] = refl
-directed-drop true (suc n) (x ∷ f) = directed-drop true n f
-
 module _ (d : Bool) (w : ℕ) (row out : List ℕ) (at : ℕ) where
   abbrev body : List ℕ
   body = directed d (take w (drop 1 row))
@@ -111,7 +94,7 @@ module _ (d : Bool) (w : ℕ) (row out : List ℕ) (at : ℕ) where
   -- a part of them, where it stands in the row
   part-at : (m n : ℕ) → m + n ≤ w → take n (drop m body) ≡ directed d (take n (drop (1 + m) row))
   part-at m n h =
-      ap (take n) (directed-drop d m (take w (drop 1 row))) ∙ directed-take d n (drop m (take w (drop 1 row)))
+      ap (take n) (sym (directed-drop d m (take w (drop 1 row)))) ∙ sym (directed-take d n (drop m (take w (drop 1 row))))
       ∙ ap (directed d) (take-part m n w (drop 1 row) h ∙ ap (take n) (drop-drop m 1 row))
 
   pub unkey-first : (n x : ℕ) (o : List ℕ) → n ≤ w → lowBytes n x ≡ signedUnkey (directed d (take n (drop 1 row))) → o ≡ sets out at (lowBytes n x)

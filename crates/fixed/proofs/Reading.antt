@@ -5,7 +5,7 @@ use mathlib.Core.Bool.{Bool, true, false}
 use mathlib.Core.List.{List, [], _∷_}
 use native.Mathlib.Omega.{arith}
 use lib.Dec.{ltb}
-use lib.ListN.{length, getD, take, drop, length-drop, length-map}
+use lib.ListN.{length, getD, take, drop, length-drop}
 use lib.Seq.{length-take-le, getD-take, getD-drop}
 use borrow.Author.Tests.{lt-ltb, le-ltb, eq-eqb, ne-eqb}
 use Rattle.format.specs.declared.SortOptions.{SortOptions}
@@ -13,16 +13,13 @@ use Rattle.format.specs.declared.FieldRead.{FieldRead}
 use Rattle.format.specs.declared.FieldRead.the-variants.{Null, Value, Fault}
 use Rattle.format.specs.declared.RowFault.the-variants.{Cut, Lead, NullRest}
 use Rattle.format.specs.Kinds.{Fixed, bool, plain, number, integer, float, parts, width}
-use Rattle.format.specs.Key.{allowed, invert}
+use Rattle.format.specs.Key.{allowed}
 use Rattle.format.specs.Field.{directed, nullByte}
 use Rattle.format.specs.Read.{fault, fieldRead, readBytes, readFixed, readKey, readNull}
+use Rattle.laws.proofs.Directed.{length-directed}
 use Rattle.laws.proofs.Unkey.{length-unkey}
 use Rattle.basics.specs.Wide.{WideShape}
 use Rattle.fixed.proofs.Scan.{Clean, clean-bad, clean-end, clean-more}
-
-pub length-directed : (d : Bool) (f : List ℕ) → length (directed d f) ≡ length f
-length-directed true f = length-map f invert
-length-directed false f = refl
 
 -- ---- after the null byte
 

@@ -18,7 +18,8 @@ use Rattle.format.specs.Key.{allowed, unkey}
 use Rattle.format.specs.Field.{directed, nullByte}
 use Rattle.format.specs.Read.{Good, Parsed, got, fault, allZero, fromBad, readBytes, readField, readFixed, readKey, slotRead}
 use Rattle.format.specs.Cleared.{fixedSlot, isTrue, valid}
-use Rattle.fixed.proofs.Writing.{turn, directed-map}
+use Rattle.laws.proofs.Directed.{turn}
+use Rattle.fixed.proofs.Writing.{directed-map}
 use Rattle.fixed.proofs.Reading.{lead-null, lead-value}
 
 good-no : {A : Type 0} (t : Bool) (f : RowFault) (l : ℕ) (x : Parsed A) → Good (cond t (fault f l) x) → (t ≡ false) × Good x

@@ -1,7 +1,7 @@
 -- What the writers share: a lead byte, and after it a run of bytes. Assumes nothing.
-use Prim.Native.Nat.{ℕ, _+_, _-_, _<_}
+use Prim.Native.Nat.{ℕ, _+_, _<_}
 use mathlib.Core.Path.{_≡_, refl, sym, ap, ap₂, _∙_}
-use mathlib.Core.Bool.{Bool, true, false, cond}
+use mathlib.Core.Bool.{Bool, true, false}
 use mathlib.Core.List.{List, [], _∷_, _++_, map}
 use native.Mathlib.Nat.{mod-eq-of-lt}
 use native.Mathlib.Numerals.{add-one}
@@ -10,6 +10,7 @@ use lib.Seq.{sets}
 use Rattle.format.specs.Lists.{lowBytes}
 use Rattle.format.specs.Field.{directed}
 use Rattle.basics.proofs.Append.{sets-append}
+use Rattle.laws.proofs.Directed.{turn}
 
 -- the byte a, then f
 pub lead-run : (out : List ℕ) (at a b : ℕ) (f last : List ℕ) → a ≡ b → last ≡ sets (set out at a) (at + 1) f → last ≡ sets out at (b ∷ f)
@@ -29,9 +30,6 @@ pub byte-set : (out : List ℕ) (at x : ℕ) → x < 256 → set out at x ≡ se
 byte-set out at x h = ap (sets out at) (sym (byte-word x h))
 
 -- descending inverts, byte by byte
-abbrev pub turn : Bool → ℕ → ℕ
-turn d b = cond d (255 - b) b
-
 pub directed-map : (d : Bool) (f : List ℕ) → directed d f ≡ map (turn d) f
 directed-map true f = refl
 directed-map false [] = refl
@@ -41,13 +39,6 @@ directed-map false (x ∷ f) = ap (λ (g : List ℕ). x ∷ g) (directed-map fal
 pub byte-field : (out : List ℕ) (at : ℕ) (d : Bool) (x y : ℕ) → y < 256 → lowBytes 1 y ≡ directed d (lowBytes 1 x)
     → set (set out at 1) (at + 1) y ≡ sets out at (1 ∷ directed d (lowBytes 1 x))
 byte-field out at d x y h q = word-field 1 out at d x y (set (set out at 1) (at + 1) y) q (byte-set (set out at 1) (at + 1) y h)
-
--- a byte, inverted under descending, as a copy has it
-pub byte-turn : (d : Bool) (x y : ℕ) → x < 256 → y < 256 → lowBytes 1 y ≡ directed d (lowBytes 1 x) → y ≡ turn d x
-byte-turn d x y hx hy q = head (sym (byte-word y hy) ∙ q ∙ ap (directed d) (byte-word x hx) ∙ directed-map d (x ∷ []))
-  where
-    head : {a b : ℕ} → a ∷ [] ≡ b ∷ [] → a ≡ b
-    head e = cc
 
 -- one run after another
 pub run-next : (out : List ℕ) (at next : ℕ) (f g o last : List ℕ) → o ≡ sets out at f → next ≡ at + length f → last ≡ sets o next g → last ≡ sets out at (f ++ g)

@@ -98,7 +98,7 @@ module _ (size : ℕ → ℕ) (room : (k : ℕ) → 0 < size k) (small : (k : �
 -- ---- the converse: what is read is the blocks of a value
 
 -- what was read after this block's data
-after-got : (p : List ℕ) (m : Parsed (List ℕ)) {v r : List ℕ} → after p m ≡ got v r → (w : List ℕ) × (m ≡ got w r) × (v ≡ p ++ w)
+pub after-got : (p : List ℕ) (m : Parsed (List ℕ)) {v r : List ℕ} → after p m ≡ got v r → (w : List ℕ) × (m ≡ got w r) × (v ≡ p ++ w)
 after-got p (got w s) e = (w, cc, cc)
 after-got p (fault f l) e = absurd (fault-got e)
 

@@ -1,6 +1,6 @@
 -- A sheet that passes: its columns have their bytes, and its slots fit. Assumes nothing.
 use Prim.Native.Nat.{ℕ, zero, suc, _+_, _-_, _*_, _<_, _≤_}
-use mathlib.Core.Path.{_≡_, refl, subst}
+use mathlib.Core.Path.{_≡_, refl, ap, subst}
 use mathlib.Core.Bool.{Bool, true, false, not}
 use mathlib.Core.List.{List, [], _∷_}
 use mathlib.Core.Logic.{_⊎_, inl, inr}
@@ -9,6 +9,7 @@ use lib.Dec.{T, eqb}
 use lib.ListN.{length, take, drop, length-take, length-drop}
 use lib.Seq.{length-take-le}
 use borrow.Author.Tests.{eqb-true, not-false}
+use Rattle.format.specs.declared.Check.{Check}
 use Rattle.format.specs.declared.Check.the-variants.{Pass}
 use Rattle.format.specs.declared.Column.{Column}
 use Rattle.format.specs.Limits.{maxSlot}
@@ -46,6 +47,11 @@ pub record Ended (n : ℕ) (s : List ℕ) : Type 0 where
   pub step : (j : ℕ) → j < n → Step s j
   pub room : 4 * suc n + end s n ≤ length s
 
+-- no end is past the last
+pub last-end : (n : ℕ) (s : List ℕ) → Ended n s → (k j : ℕ) → j + k ≡ n → end s j ≤ end s n
+last-end n s g zero j e = omega (arith, ap (end s) (let z : j ≡ n = omega arith in z))
+last-end n s g (suc k) j e = omega (arith, g .step j (omega arith) .0, last-end n s g k (suc j) (omega arith))
+
 pub variable-passed : (n c : ℕ) (s : List ℕ) → variableFault n c s ≡ Pass → Ended n s
 variable-passed n c s e =
     let cut = enough (length s) (4 * suc n) _ _ e in
@@ -67,6 +73,15 @@ values-room ended n c s e = variable-passed n c s e .room
 -- a column that passes: its validity, then its values
 pub column-passed : (ly : Layout) (n c : ℕ) (s : List ℕ) → columnFault ly n c s ≡ Pass → (bitsFault n c s ≡ Pass) × (valuesFault ly n c (drop (packed n) s) ≡ Pass)
 column-passed ly n c s e = both-pass (bitsFault n c s) _ e
+
+-- a check of a column passes, whichever number the column has
+pub record Passes (fault : ℕ → Check) : Type 0 where
+  pub c : ℕ
+  pub pass : fault c ≡ Pass
+
+-- its validity bytes are there
+pub valid-bytes : (ly : Layout) (n : ℕ) (s : List ℕ) → Passes (λ c. columnFault ly n c s) → packed n ≤ length s
+valid-bytes ly n s h = bits-passed n (h .c) s (column-passed ly n (h .c) s (h .pass) .0) .0
 
 pub column-room : (ly : Layout) (n c : ℕ) (s : List ℕ) → columnFault ly n c s ≡ Pass → columnBytes ly n s ≤ length s
 column-room ly n c s e =

@@ -17,11 +17,10 @@ use Rattle.basics.proofs.Bytes.{bytes-drop}
 use Rattle.laws.proofs.Fields.{length-field}
 use Rattle.basics.proofs.Lists.{each-at, each-next, each-same, map-each}
 use Rattle.laws.proofs.Places.{Stands, placeFrom, past-column}
-use Rattle.laws.proofs.Sheets.{slot-fits}
+use Rattle.laws.proofs.Sheets.{Passes, slot-fits}
 use Rattle.laws.proofs.Turned.{slotsAt}
 use Rattle.sheet_reader.specs.declared.sheet.Facts.{Facts}
 use Rattle.sheet_reader.specs.Sheets.{noFacts, Known}
-use Rattle.row_writer.specs.Put.{Passes}
 
 -- the slot of row r in a column that stands at a place, and its field
 abbrev pub slotIn : ℕ → List ℕ → ℕ → Column → ℕ → Slot

@@ -22,16 +22,11 @@ use Rattle.format.specs.Sheet.{Layout, ended, wide, layoutFor, packed, bit, end
 use Rattle.bits.proofs.Nulls.{bits-passed}
 use Rattle.basics.proofs.Checks.{enough}
 use Rattle.basics.proofs.Sorts.{wide-layout, fixedKeys, fixed-arm}
-use Rattle.laws.proofs.Sheets.{Ended, column-passed, variable-passed, within}
-use Rattle.row_writer.specs.Put.{Passes, Put}
+use Rattle.laws.proofs.Sheets.{Ended, Passes, last-end, column-passed, variable-passed, within}
+use Rattle.row_writer.specs.Put.{Put}
 use Rattle.basics.specs.Wide.{WideKind}
 
 -- ---- variable bytes
-
--- no end is past the last
-last-end : (n : ℕ) (s : List ℕ) → Ended n s → (k j : ℕ) → j + k ≡ n → end s j ≤ end s n
-last-end n s g zero j e = omega (arith, ap (end s) (let z : j ≡ n = omega arith in z))
-last-end n s g (suc k) j e = omega (arith, g .step j (omega arith) .0, last-end n s g k (suc j) (omega arith))
 
 -- the value of row r lies between the ends a and b, counted from the first byte after the ends
 pub record Between (n : ℕ) (s : List ℕ) (r a b : ℕ) : Type 0 where
@@ -103,11 +98,7 @@ module _ {kind : Kind} (n r : ℕ) (s : List ℕ) (l : r < n) (h : Passes (λ c.
 
 -- ---- the slot of row r
 
--- the validity bytes are there
-pub valid-bytes : (ly : Layout) (n : ℕ) (s : List ℕ) → Passes (λ c. columnFault ly n c s) → packed n ≤ length s
-valid-bytes ly n s h = bits-passed n (h .c) s (column-passed ly n (h .c) s (h .pass) .0) .0
-
--- and the values after them pass
+-- the values after the validity bytes pass
 pub values-pass : (ly : Layout) (n : ℕ) (s : List ℕ) → Passes (λ c. columnFault ly n c s) → Passes (λ c. valuesFault ly n c (drop (packed n) s))
 values-pass ly n s h = record { c = h .c; pass = column-passed ly n (h .c) s (h .pass) .1 }
 

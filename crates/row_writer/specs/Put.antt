@@ -1,18 +1,11 @@
--- What writing a field promises, and what it asks of the column.
+-- What writing a field promises.
 use Prim.Native.Nat.{ℕ, _+_}
 use mathlib.Core.Path.{_≡_}
 use mathlib.Core.List.{List}
 use lib.Seq.{sets}
-use Rattle.format.specs.declared.Check.{Check}
-use Rattle.format.specs.declared.Check.the-variants.{Pass}
 use Rattle.format.specs.declared.SortOptions.{SortOptions}
 use Rattle.format.specs.Kinds.{Shape, Slot}
 use Rattle.format.specs.Field.{field, fieldLength}
-
--- a check of a column passes, whichever number the column has
-pub record Passes (fault : ℕ → Check) : Type 0 where
-  pub c : ℕ
-  pub pass : fault c ≡ Pass
 
 -- the field of a slot is written at a place, and the place after it is returned
 pub record Put (sh : Shape) (o : SortOptions) (slot : Slot) (at : ℕ) (entry exit : List ℕ) (next : ℕ) : Type 0 where

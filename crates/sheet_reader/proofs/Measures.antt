@@ -21,22 +21,13 @@ use Rattle.format.specs.Entries.{sheetTotal}
 use Rattle.bits.proofs.Nulls.{bits-passed}
 use Rattle.basics.proofs.Lists.{each-same}
 use Rattle.laws.proofs.Places.{place}
-use Rattle.laws.proofs.Sheets.{Ended, column-passed, variable-passed}
+use Rattle.laws.proofs.Sheets.{Ended, last-end, column-passed, variable-passed}
 use Rattle.laws.proofs.Totals.{columnTotal, maxField, total-is, total-most}
 use Rattle.sheet_reader.specs.declared.sheet.Facts.{Facts}
 use Rattle.sheet_reader.specs.Sheets.{noFacts, Known}
 use Rattle.sheet_reader.specs.Measures.{Passed, variableLength, variableTotal}
 
 -- ---- variable bytes
-
--- the validity bytes are there
-pub valid-bytes : (ly : Layout) (n : ℕ) (s : List ℕ) → Passed ly n s → packed n ≤ length s
-valid-bytes ly n s p = bits-passed n (p .c) s (column-passed ly n (p .c) s (p .passes) .0) .0
-
--- no end is past the last
-pub last-end : (n : ℕ) (s : List ℕ) → Ended n s → (k j : ℕ) → j + k ≡ n → end s j ≤ end s n
-last-end n s g zero j e = omega (arith, ap (end s) (let z : j ≡ n = omega arith in z))
-last-end n s g (suc k) j e = omega (arith, g .step j (omega arith) .0, last-end n s g k (suc j) (omega arith))
 
 -- a value is as long as its ends are apart
 value-long : (n : ℕ) (s : List ℕ) (r : ℕ) → Ended n s → r < n → length (valueAt ended n s r) ≡ end s (suc r) - end s r
@@ -46,7 +37,7 @@ value-long n s r g l =
 
 module _ (n : ℕ) (s : List ℕ) (p : Passed ended n s) where
   pub ends : Ended n (drop (packed n) s)
-  ends = variable-passed n (p .c) (drop (packed n) s) (column-passed ended n (p .c) s (p .passes) .1)
+  ends = variable-passed n (p .c) (drop (packed n) s) (column-passed ended n (p .c) s (p .pass) .1)
 
   -- the ends of all rows are there
   pub ends-room : 4 * suc n ≤ length (drop (packed n) s)
@@ -71,7 +62,7 @@ module _ (n : ℕ) (s : List ℕ) (p : Passed ended n s) where
 
 -- the fields of n rows fit
 pub variable-most : (n : ℕ) (s : List ℕ) → Bytes s → Passed ended n s → variableTotal n s ≤ n * maxField
-variable-most n s b p = total-most (record { kind = Variable; options = noColumn .options }) n (p .c) s b (p .passes) (omega arith)
+variable-most n s b p = total-most (record { kind = Variable; options = noColumn .options }) n (p .c) s b (p .pass) (omega arith)
 
 -- ---- fields of one length
 pub sum-same : (f : ℕ → ℕ) (b i k : ℕ) → ((j : ℕ) → f j ≡ b) → sum (each i k f) ≡ k * b

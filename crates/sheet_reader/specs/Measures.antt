@@ -1,17 +1,15 @@
 -- What measuring asks of a column, and what it adds up in one of variable bytes.
 use Prim.Native.Nat.{ℕ}
-use mathlib.Core.Path.{_≡_}
 use mathlib.Core.List.{List}
-use Rattle.format.specs.declared.Check.the-variants.{Pass}
 use Rattle.format.specs.Lists.{each, sum}
 use Rattle.format.specs.Kinds.{variable}
 use Rattle.format.specs.Field.{fieldLength}
 use Rattle.format.specs.Sheet.{Layout, ended, columnFault, slotAt}
+use Rattle.laws.proofs.Sheets.{Passes}
 
 -- a column in front of s passes, whichever number it has
-pub record Passed (ly : Layout) (n : ℕ) (s : List ℕ) : Type 0 where
-  pub c : ℕ
-  pub passes : columnFault ly n c s ≡ Pass
+abbrev pub Passed : Layout → ℕ → List ℕ → Type 0
+Passed ly n s = Passes (λ c. columnFault ly n c s)
 
 -- the length of the field of a row in a column of variable bytes in front of s
 abbrev pub variableLength : ℕ → List ℕ → ℕ → ℕ

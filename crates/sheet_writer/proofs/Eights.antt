@@ -16,7 +16,7 @@ use Rattle.bits.proofs.Flags.{byte-last, byte-small}
 use Rattle.bits.proofs.Bits.{length-pack}
 use Rattle.sheet_writer.specs.Cursors.{inByte}
 use Rattle.basics.proofs.Append.{Walk, walk-start, walk-piece, walk-room, walk-end}
-use Rattle.sheet_writer.proofs.Maps.{map-take, map-drop}
+use Rattle.basics.proofs.Lists.{map-take, map-drop}
 
 -- ---- a byte
 

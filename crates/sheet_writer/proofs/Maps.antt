@@ -1,23 +1,13 @@
--- A function at every element: parts, and functions that agree. Assumes nothing.
+-- A function at every element: at an index, and functions that agree. Assumes nothing.
 use Prim.Native.Nat.{ℕ, zero, suc, _<_}
 use mathlib.Core.Path.{_≡_, refl, sym, ap, ap₂, _∙_}
 use mathlib.Core.List.{List, [], _∷_, map}
 use native.Mathlib.Omega.{arith}
-use lib.ListN.{length, getD, take, drop, length-map, List·getD-map}
+use lib.ListN.{length, getD, length-map, List·getD-map}
 use Rattle.format.specs.Lists.{each}
 use Rattle.basics.proofs.Lists.{each-is}
 
 module _ {A B : Type 0} (f : A → B) where
-  pub map-take : (n : ℕ) (xs : List A) → map f (take n xs) ≡ take n (map f xs)
-  map-take zero xs = refl
-  map-take (suc n) [] = refl
-  map-take (suc n) (x ∷ xs) = ap (λ (l : List B). f x ∷ l) (map-take n xs)
-
-  pub map-drop : (n : ℕ) (xs : List A) → map f (drop n xs) ≡ drop n (map f xs)
-  map-drop zero xs = refl
-  map-drop (suc n) [] = refl
-  map-drop (suc n) (x ∷ xs) = map-drop n xs
-
   -- at an index there is, whatever stands for one there is not
   pub at-map : (xs : List A) (i : ℕ) (d : A) (e : B) → i < length xs → getD (map f xs) i e ≡ f (getD xs i d)
   at-map [] i d e h = absurd (omega arith)

@@ -12,7 +12,7 @@ use Rattle.format.specs.Lists.{low, lowBytes}
 use Rattle.basics.proofs.Append.{sets-append, Walk, walk-first, walk-at, walk-piece, walk-end}
 use Rattle.laws.proofs.Directed.{length-directed, directed-append}
 use Rattle.number.proofs.Words.{read-back}
-use Rattle.variable.proofs.Direction.{directed-take, directed-drop}
+use Rattle.laws.proofs.Directed.{directed-take, directed-drop}
 
 -- i of m bytes from place q on are copied
 pub record Copied (l : List ℕ) (q m : ℕ) (d : Bool) (out₀ : List ℕ) (at : ℕ) (out : List ℕ) (i : ℕ) : Type 0 where

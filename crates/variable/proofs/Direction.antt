@@ -1,47 +1,17 @@
 -- The bytes of a field as they are read and written under either direction: what stands where, and how many there are.
 -- Assumes nothing.
-use Prim.Native.Nat.{ℕ, zero, suc, _+_, _%_, _^_, _<_, _≤_}
+use Prim.Native.Nat.{ℕ, zero, suc, _+_, _^_, _<_, _≤_}
 use mathlib.Core.Path.{_≡_, refl, sym, ap, _∙_}
-use mathlib.Core.Bool.{Bool, true, false, cond}
-use mathlib.Core.List.{List, [], _∷_, _++_, map}
+use mathlib.Core.Bool.{Bool, true, false}
+use mathlib.Core.List.{List, [], _∷_, _++_}
 use native.Mathlib.Omega.{arith}
-use native.Mathlib.Nat.{mod-eq-of-lt}
 use lib.ListN.{length, getD, take, drop, set}
 use lib.Seq.{sets}
 use Rattle.format.specs.Field.{directed}
-use Rattle.format.specs.Key.{invert}
 use Rattle.format.specs.Lists.{low, lowBytes}
 use Rattle.basics.proofs.Append.{sets-append}
-use Rattle.laws.proofs.Directed.{length-directed, directed-append}
+use Rattle.laws.proofs.Directed.{length-directed, turn, directed-cons, turned, directed-append, directed-take, directed-drop}
 use Rattle.number.proofs.Words.{low-lowBytes, read-back}
-
--- one byte, inverted under descending
-abbrev pub turn : Bool → ℕ → ℕ
-turn d x = cond d (invert x) x
-
--- byte by byte
-pub directed-cons : (d : Bool) (x : ℕ) (f : List ℕ) → directed d (x ∷ f) ≡ turn d x ∷ directed d f
-directed-cons true x f = refl
-directed-cons false x f = refl
-
--- a part of it
-map-take : (g : ℕ → ℕ) (n : ℕ) (f : List ℕ) → map g (take n f) ≡ take n (map g f)
-map-take g zero f = refl
-map-take g (suc n) [] = refl
-map-take g (suc n) (x ∷ f) = ap (λ (z : List ℕ). g x ∷ z) (map-take g n f)
-
-map-drop : (g : ℕ → ℕ) (n : ℕ) (f : List ℕ) → map g (drop n f) ≡ drop n (map g f)
-map-drop g zero f = refl
-map-drop g (suc n) [] = refl
-map-drop g (suc n) (x ∷ f) = map-drop g n f
-
-pub directed-take : (d : Bool) (n : ℕ) (f : List ℕ) → directed d (take n f) ≡ take n (directed d f)
-directed-take true n f = map-take invert n f
-directed-take false n f = refl
-
-pub directed-drop : (d : Bool) (n : ℕ) (f : List ℕ) → directed d (drop n f) ≡ drop n (directed d f)
-directed-drop true n f = map-drop invert n f
-directed-drop false n f = refl
 
 -- one run of bytes after another
 pub sets-directed : (d : Bool) (f g l : List ℕ) (i : ℕ) → sets l i (directed d (f ++ g)) ≡ sets (sets l i (directed d f)) (i + length f) (directed d g)
@@ -56,11 +26,7 @@ directed-at d [] i h = absurd (omega arith)
 directed-at d (x ∷ f) zero h = ap (λ (z : List ℕ). getD z 0 0) (directed-cons d x f)
 directed-at d (x ∷ f) (suc i) h = ap (λ (z : List ℕ). getD z (suc i) 0) (directed-cons d x f) ∙ directed-at d f i (omega arith)
 
--- a byte that was turned as a number of one byte, and stored
-pub turned : (d : Bool) (x r : ℕ) → x < 256 → r < 256 → lowBytes 1 r ≡ directed d (lowBytes 1 x) → r ≡ turn d x
-turned d x r hx hr e =
-    sym (mod-eq-of-lt hr) ∙ ap (λ (z : List ℕ). getD z 0 0) (e ∙ directed-cons d (x % 256) []) ∙ ap (turn d) (mod-eq-of-lt hx)
-
+-- a byte that was turned, and stored
 pub directed-one : (d : Bool) (x : ℕ) → directed d (x ∷ []) ≡ turn d x ∷ []
 directed-one true x = refl
 directed-one false x = refl

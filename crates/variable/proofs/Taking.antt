@@ -15,10 +15,10 @@ use Rattle.format.specs.Field.{directed, blockSize}
 use Rattle.format.specs.Read.{Parsed, got, fault, Good, after, allZero}
 use Rattle.basics.proofs.Append.{Walk, walk-first, walk-at, walk-piece, walk-room, walk-end}
 use Rattle.basics.proofs.Compare.{choose}
-use Rattle.laws.proofs.Directed.{length-directed}
+use Rattle.laws.proofs.Directed.{length-directed, directed-take, directed-drop}
 use Rattle.laws.proofs.Parsed.{fault-got, not-fault, yes-got, or-false}
+use Rattle.laws.proofs.ReadBlocks.{after-got}
 use Rattle.variable.specs.Counted.{blocksRead, blockAt, valueOf, restOf}
-use Rattle.variable.proofs.Direction.{directed-take, directed-drop}
 use Rattle.variable.proofs.Reading.{Rest, rest-start, rest-cut, rest-block}
 
 -- at a place of the row, before block k, with c bytes of the value written
@@ -27,11 +27,6 @@ pub record Taking (d : Bool) (row out₀ : List ℕ) (at : ℕ) (out : List ℕ)
   pub rest : List ℕ
   pub read : Rest (directed d row) from k c ≡ got rest (restOf (blocksRead d row))
   pub wrote : Walk (valueOf (blocksRead d row)) rest out₀ at out (at + c)
-
--- what is read after a block's data
-after-got : (p : List ℕ) (m : Parsed (List ℕ)) {v r : List ℕ} → after p m ≡ got v r → (w : List ℕ) × (m ≡ got w r) × (v ≡ p ++ w)
-after-got p (got w s) e = (w, cc, cc)
-after-got p (fault f l) e = absurd (fault-got e)
 
 -- at the first block
 pub taking-start : (d : Bool) (row out : List ℕ) (at : ℕ) → Good (blocksRead d row) → Taking d row out at out 1 0 0

@@ -9,10 +9,10 @@ use lib.ListN.{length, take, drop, set, length-append}
 use lib.Seq.{sets, set-set, length-sets}
 use Rattle.format.specs.Field.{directed, paddedLength, variableBytes}
 use Rattle.basics.proofs.Append.{Walk, walk-start, walk-at, walk-piece, walk-room, walk-end}
-use Rattle.laws.proofs.Directed.{length-directed, directed-append}
+use Rattle.laws.proofs.Directed.{turn, length-directed, directed-append}
 use Rattle.laws.proofs.Lengths.{length-variable}
 use Rattle.variable.specs.Even.{evenBlocks}
-use Rattle.variable.proofs.Direction.{turn, directed-one, sets-directed}
+use Rattle.variable.proofs.Direction.{directed-one, sets-directed}
 use Rattle.variable.proofs.Even.{field-empty, field-short, Long, field-long}
 
 -- the last byte of a run, written again

@@ -2,7 +2,7 @@
 use borrow.Author.Needs.{needs}
 use native.Mathlib.Omega.{arith}
 use Rattle.format.specs.Kinds.{bool}
-use Rattle.fixed.proofs.Writing.{byte-turn}
+use Rattle.laws.proofs.Directed.{turned}
 use Rattle.fixed.proofs.Standing.{stands, true-byte}
 use Rattle.fixed.proofs.decoder.decode_boolean.Statement.{statement}
 use Rattle.fixed.proofs.decoder.decode_boolean.Tie as tie
@@ -16,7 +16,7 @@ returns : tie.Need-returns
 returns c =
     let s = c .before .before .before in
     let A = s .args in
-    true-byte (A .options) (A .row .now) _ (byte-turn (A .options .descending) 1 _ (omega arith) (c .directed8 .ok) (c .directed8 .ensures))
+    true-byte (A .options) (A .row .now) _ (turned (A .options .descending) 1 _ (omega arith) (c .directed8 .ok) (c .directed8 .ensures))
     (c .before .shared-slice-known2 .given 1 .fits) (s .pre)
 
 pub decode-boolean-spec : {M : Type 1} → statement M

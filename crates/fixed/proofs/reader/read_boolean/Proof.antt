@@ -7,7 +7,7 @@ use lib.ListN.{getD}
 use native.Mathlib.Omega.{arith}
 use Rattle.format.specs.Kinds.{plain}
 use Rattle.basics.specs.Wide.{WideShape}
-use Rattle.fixed.proofs.Writing.{turn, byte-turn}
+use Rattle.laws.proofs.Directed.{turn, turned as turned-byte}
 use Rattle.fixed.proofs.Beside.{bool-alike, bool-whole, bool-bad, bool-good}
 use Rattle.fixed.proofs.reader.read_boolean.Statement.{statement}
 use Rattle.fixed.proofs.reader.read_boolean.Tie as tie
@@ -26,7 +26,7 @@ index c =
 turned : (c : tie.After-directed8) → let A = c .before .before .before .before .before .before .args in c .directed8 .result ≡ turn (A .options .descending) (getD (A .row .now) 1 0)
 turned c =
     let A = c .before .before .before .before .before .before .args in
-    byte-turn (A .options .descending) (getD (A .row .now) 1 0) _ (c .before .shared-slice-known2 .given 1 .fits) (c .directed8 .ok) (c .directed8 .ensures)
+    turned-byte (A .options .descending) (getD (A .row .now) 1 0) _ (c .before .shared-slice-known2 .given 1 .fits) (c .directed8 .ok) (c .directed8 .ensures)
 
 bad : tie.Need-returns
 bad c =

@@ -7,7 +7,8 @@ use lib.ListN.{length, getD, drop}
 use lib.Seq.{sets}
 use borrow.Author.Needs.{needs}
 use Rattle.basics.proofs.Append.{Walk, walk-first, walk-byte, walk-end, copy-step, copy-end}
-use Rattle.fixed.proofs.Writing.{turn, directed-map, byte-turn}
+use Rattle.laws.proofs.Directed.{turn, turned}
+use Rattle.fixed.proofs.Writing.{directed-map}
 use Rattle.fixed.proofs.runs.copy_directed.Statement.{statement}
 use Rattle.fixed.proofs.runs.copy_directed.Tie as tie
 
@@ -24,7 +25,7 @@ again c =
     let A = at .before .before .before .args in
     let i = at .loop .i in
     let x = getD (A .src .now) i 0 in
-    let e = byte-turn (A .descending) x (c .directed8 .result) (c .before .shared-slice-known2 .given i .fits) (c .directed8 .ok) (c .directed8 .ensures) in
+    let e = turned (A .descending) x (c .directed8 .result) (c .before .shared-slice-known2 .given i .fits) (c .directed8 .ok) (c .directed8 .ensures) in
     (omega arith, rw e (walk-byte (A .at) i _ _ (at .loop .inv .1) (copy-step (turn (A .descending)) (A .src .now) i (c .before .before .loop-test .taken))))
 
 returns : tie.Need-returns Inv-loop μ-loop

@@ -9,7 +9,8 @@ use lib.ListN.{length, drop}
 use Rattle.format.specs.Kinds.{Slot}
 use Rattle.format.specs.Sheet.{layout, packed, valueAt, slotAt}
 use Rattle.laws.proofs.Parts.{part-rest}
-use Rattle.row_writer.proofs.Values.{valid-bytes, values-pass, slot-valid, slot-null}
+use Rattle.laws.proofs.Sheets.{valid-bytes}
+use Rattle.row_writer.proofs.Values.{values-pass, slot-valid, slot-null}
 use Rattle.row_writer.proofs.field.put_field.Statement.{statement}
 use Rattle.row_writer.proofs.field.put_field.Tie as tie
 

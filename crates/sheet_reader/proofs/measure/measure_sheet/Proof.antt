@@ -57,7 +57,7 @@ rest c = part-rest (entry c .args .sheet .now) (facts c .base)
 measure-column-requires : tie.Need-measure-column-requires Inv-loop μ-loop
 measure-column-requires c κs =
     let y = c .before .before .before in
-    (entry y .pre .0, (narrow y, rw (rest y) (record { c = y .before .loop .c; passes = known y .stands .passes })))
+    (entry y .pre .0, (narrow y, rw (rest y) (record { c = y .before .loop .c; pass = known y .stands .passes })))
 
 added : (c : tie.After-measure-column Inv-loop μ-loop)
     → c .measure-column .result ≡ factsTotal (entry (c .before .before .before .before) .args .n) (entry (c .before .before .before .before) .args .sheet .now) (entry (c .before .before .before .before) .args .t4) (c .before .before .before .before .before .loop .c)

@@ -19,7 +19,7 @@ abbrev μ-loop : tie.MeasureT-loop
 
 -- all rows together fit
 most : (c : tie.After-shared-slice-known Inv-loop μ-loop) → variableTotal (c .before .args .n) (c .before .args .part .now) ≤ c .before .args .n * maxField
-most c = variable-most _ _ (bytes-of (c .before .args .part .now) (λ i. c .shared-slice-known .given i .fits)) (c .before .pre .1)
+most c = variable-most (c .before .args .n) (c .before .args .part .now) (bytes-of (c .before .args .part .now) (λ i. c .shared-slice-known .given i .fits)) (c .before .pre .1)
 
 variable-length-requires : tie.Need-variable-length-requires Inv-loop μ-loop
 variable-length-requires c κs =

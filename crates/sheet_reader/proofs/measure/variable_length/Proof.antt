@@ -9,12 +9,17 @@ use lib.ListN.{length, take, drop}
 use Rattle.format.specs.Limits.{maxSlot}
 use Rattle.format.specs.Sheet.{ended, packed, end}
 use Rattle.laws.proofs.Parts.{part-rest}
-use Rattle.sheet_reader.proofs.Measures.{valid-bytes, ends-room, null-length, value-length, apart}
+use Rattle.laws.proofs.Sheets.{valid-bytes}
+use Rattle.sheet_reader.proofs.Measures.{ends-room, null-length, value-length, apart}
 use Rattle.sheet_reader.proofs.measure.variable_length.Statement.{statement}
 use Rattle.sheet_reader.proofs.measure.variable_length.Tie as tie
 
+-- the validity bytes are there
+valid : (y : tie.Start) → packed (y .args .n) ≤ length (y .args .part .now)
+valid y = valid-bytes ended (y .args .n) (y .args .part .now) (y .pre .1)
+
 bit-requires : tie.Need-bit-requires
-bit-requires c κs = omega (arith, valid-bytes ended _ _ (c .before .pre .1), c .before .pre .0)
+bit-requires c κs = omega (arith, valid (c .before), c .before .pre .0)
 
 -- ---- after the validity bytes
 abbrev Start : Type 0
@@ -24,10 +29,10 @@ abbrev values : Start → List ℕ
 values y = drop (packed (y .args .n)) (y .args .part .now)
 
 inside : tie.Need-sub-values
-inside c = omega (arith, valid-bytes ended _ _ (c .before .before .before .before .pre .1))
+inside c = omega (arith, valid (c .before .before .before .before))
 
 starts : tie.Need-part-values-start
-starts c = omega (arith, valid-bytes ended _ _ (c .before .before .before .before .pre .1))
+starts c = omega (arith, valid (c .before .before .before .before))
 
 -- the part is the values
 rest : (c : tie.After-packed) → take (length (c .before .before .before .before .args .part .now) - c .packed .result) (drop (c .packed .result) (c .before .before .before .before .args .part .now)) ≡ values (c .before .before .before .before)
@@ -38,12 +43,12 @@ rest c =
 end-at-requires : tie.Need-end-at-requires
 end-at-requires c κs =
     let y = c .before .before .before .before .before in
-    rw (rest (c .before)) (omega (arith, ends-room _ _ (y .pre .1), y .pre .0))
+    rw (rest (c .before)) (omega (arith, ends-room (y .args .n) (y .args .part .now) (y .pre .1), y .pre .0))
 
 end-at-requires-2 : tie.Need-end-at-requires-2
 end-at-requires-2 c κs =
     let y = c .before .before .before .before .before .before in
-    rw (rest (c .before .before)) (omega (arith, ends-room _ _ (y .pre .1), y .pre .0))
+    rw (rest (c .before .before)) (omega (arith, ends-room (y .args .n) (y .args .part .now) (y .pre .1), y .pre .0))
 
 -- ---- the two ends
 abbrev start : tie.After-end-at2 → Start
@@ -56,7 +61,7 @@ to : (c : tie.After-end-at2) → c .before .end-at .result ≡ end (values (star
 to c = c .before .end-at .ensures .0 ∙ ap (λ (s : List ℕ). end s (start c .args .row + 1)) (rest (c .before .before .before))
 
 distance : (c : tie.After-end-at2) → (c .end-at2 .result ≤ c .before .end-at .result) × (c .before .end-at .result - c .end-at2 .result ≤ maxSlot)
-distance c = apart _ _ (start c .pre .1) _ (start c .pre .0 .1) _ _ (from c) (to c)
+distance c = apart (start c .args .n) (start c .args .part .now) (start c .pre .1) _ (start c .pre .0 .1) _ _ (from c) (to c)
 
 returns : tie.Need-returns
 returns c =
@@ -67,7 +72,7 @@ returns c =
 returns-2 : tie.Need-returns-2
 returns-2 c =
     let y = c .before .before .before in
-    null-length _ _ (y .pre .1) _ (y .pre .0 .1) (sym (c .before .bit .ensures) ∙ c .if1 .left)
+    null-length (y .args .n) (y .args .part .now) (y .pre .1) _ (y .pre .0 .1) (sym (c .before .bit .ensures) ∙ c .if1 .left)
 
 pub variable-length-spec : {M : Type 1} → statement M
 variable-length-spec =

@@ -1,7 +1,8 @@
 -- `variable::byte::byte_at` meets its contract: the byte that was turned is the turned row's. Assumes nothing.
 use mathlib.Core.Path.{_∙_, sym}
 use borrow.Author.Needs.{needs}
-use Rattle.variable.proofs.Direction.{turned, directed-at}
+use Rattle.laws.proofs.Directed.{turned}
+use Rattle.variable.proofs.Direction.{directed-at}
 use Rattle.variable.proofs.byte.byte_at.Statement.{statement}
 use Rattle.variable.proofs.byte.byte_at.Tie as tie
 
