@@ -1,7 +1,7 @@
 -- What the native comparison of two numbers says.
 use Prim.Native.Nat.{ℕ, zero, suc, _<_, _≤_, suc-le-suc, compare, Ordering, Ordering·lt as lt, Ordering·eq as eq, Ordering·gt as gt}
-use Prim.Native.Nat.{compare·zero-zero, compare·zero-suc, compare·suc-zero, compare·suc-suc}
-use mathlib.Core.Path.{_≡_, refl, ap, sym, _∙_, subst}
+use Prim.Native.Nat.{compare·zero-suc, compare·suc-zero, compare·suc-suc}
+use mathlib.Core.Path.{_≡_, refl, ap, sym, subst}
 use mathlib.Core.Logic.{_⊎_, inl, inr}
 use native.Mathlib.Nat.{zero-lt-suc}
 use native.Mathlib.Omega.{arith}

@@ -9,10 +9,7 @@ use lib.Dec.{T, ltb}
 use lib.ListN.{length, getD, take, drop}
 use lib.Seq.{drop-cons, drop-length, length-take-le}
 use borrow.Author.Tests.{ltb-false}
-use Rattle.format.specs.declared.Refusal.{Refusal}
-use Rattle.format.specs.declared.Check.{Check}
 use Rattle.format.specs.declared.Check.the-variants.{Pass}
-use Rattle.format.specs.Check.{failIf}
 use Rattle.format.specs.Lists.{Bytes, each}
 use Rattle.format.specs.Kinds.{Slot}
 use Rattle.format.specs.Sheet.{Layout, packed, bit, anyBit, spareSet, bitsFault, slotIf, valueAt, slotAt, columnSlots, nullsIn}

@@ -1,13 +1,13 @@
 -- Intervals: a part after the others, keyed or turned back. Assumes nothing.
 use Prim.Native.Nat.{ℕ, zero, suc, _+_, _≤_}
 use mathlib.Core.Path.{_≡_, refl, sym, ap, ap₂, _∙_}
-use mathlib.Core.Bool.{Bool, true, false}
+use mathlib.Core.Bool.{Bool}
 use mathlib.Core.List.{List, [], _∷_, _++_, append-nil, append-assoc}
 use native.Mathlib.Omega.{arith}
 use lib.ListN.{length, take, drop, length-append, length-drop, length-reverse}
 use lib.Seq.{sets, length-take-le, drop-drop, take-take}
 use Rattle.format.specs.Lists.{lowBytes, sum}
-use Rattle.format.specs.Key.{invert, partsKey, partsUnkey, signedKey, signedUnkey, topFlipped}
+use Rattle.format.specs.Key.{partsKey, partsUnkey, signedKey, signedUnkey, topFlipped}
 use Rattle.format.specs.Field.{directed}
 use Rattle.basics.proofs.Bytes.{length-topFlipped, long-signed}
 use Rattle.laws.proofs.Directed.{length-directed, directed-append, directed-take, directed-drop}

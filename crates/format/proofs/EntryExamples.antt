@@ -5,7 +5,7 @@ use mathlib.Core.Path.{_≡_, refl}
 use mathlib.Core.Option.{none}
 use mathlib.Core.List.{List, [], _∷_, _++_}
 use lib.IntN.{pos, negsuc}
-use lib.ListN.{length, replicate}
+use lib.ListN.{replicate}
 use Rattle.format.specs.declared.Kind.the-variants.{FixedBinary}
 use Rattle.format.specs.Kinds.{shape}
 use Rattle.format.specs.Field.{fieldLength}

@@ -6,7 +6,7 @@ use mathlib.Core.List.{List, [], _∷_, _++_}
 use lib.ListN.{replicate}
 use Rattle.format.specs.declared.Kind.the-variants.{I32, FixedBinary, Variable}
 use Rattle.format.specs.Columns.{listFault, columns}
-use Rattle.format.specs.Lists.{each, joined}
+use Rattle.format.specs.Lists.{joined}
 use Rattle.format.specs.Numbers.{three, numbersOf}
 use Rattle.format.specs.Entries.{checkListAnswer}
 

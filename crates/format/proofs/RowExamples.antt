@@ -1,11 +1,11 @@
 -- Rows, computed: fields of each shape under both options, the order of values, and faults 16 to 23 with how many bytes are left
 -- from the bad byte on. Assumes nothing.
-use Prim.Native.Nat.{ℕ, Ordering·lt as lt, Ordering·gt as gt, Ordering·eq as eq}
+use Prim.Native.Nat.{Ordering·lt as lt, Ordering·gt as gt, Ordering·eq as eq}
 use mathlib.Core.Path.{_≡_, refl}
 use mathlib.Core.Bool.{true, false}
 use mathlib.Core.Option.{none, some}
-use mathlib.Core.List.{List, [], _∷_, _++_}
-use lib.ListN.{length, getD, replicate}
+use mathlib.Core.List.{[], _∷_, _++_}
+use lib.ListN.{replicate}
 use Rattle.format.specs.declared.SortOptions.{SortOptions}
 use Rattle.format.specs.declared.Kind.the-variants.{Bool, I16, U16, F16, MonthDayNano, FixedBinary, Variable}
 use Rattle.format.specs.declared.RowFault.the-variants.{Cut, Lead, NullRest, BoolByte, EndByte, Padding, Extra, TooLong}

@@ -1,7 +1,7 @@
 -- The sheet, computed: refusals 7 to 11 with their values, in order; its slots, its nulls, and the cleared sheet. Assumes nothing.
 use Prim.Native.Nat.{ℕ}
 use mathlib.Core.Path.{_≡_, refl}
-use mathlib.Core.Bool.{true, false}
+use mathlib.Core.Bool.{false}
 use mathlib.Core.Option.{none, some}
 use mathlib.Core.List.{List, [], _∷_, _++_}
 use Rattle.format.specs.declared.Kind.the-variants.{Bool, I16, Variable}

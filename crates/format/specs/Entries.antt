@@ -1,7 +1,7 @@
 -- The public entries: what each one answers, and every byte and offset of the lent buffers at exit, for all inputs.
 use Prim.Native.Nat.{ℕ, zero, suc, _-_, Ordering, Ordering·lt as lt, Ordering·eq as eq, Ordering·gt as gt}
 use mathlib.Core.Bool.{not}
-use mathlib.Core.List.{List, [], _∷_, map}
+use mathlib.Core.List.{List, map}
 use lib.Dec.{ltb, eqb}
 use lib.IntN.{ℤ, pos, negsuc}
 use lib.ListN.{length, getD, take, drop}

@@ -1,6 +1,6 @@
 -- Reading rows back: each field is read from the part of the row that the previous one left.
 use Prim.Native.Nat.{ℕ, zero, suc, _+_, _-_}
-use mathlib.Core.Bool.{Bool, true, false, cond, _&&_, _||_}
+use mathlib.Core.Bool.{Bool, true, cond, _&&_, _||_}
 use mathlib.Core.Option.{none, some}
 use mathlib.Core.List.{List, [], _∷_, _++_}
 use lib.Dec.{ltb, leb, eqb}
@@ -17,7 +17,7 @@ use Rattle.format.specs.declared.Refusal.the-variants.{Row}
 use Rattle.format.specs.Limits.{maxSlot}
 use Rattle.format.specs.Check.{both}
 use Rattle.format.specs.Kinds.{Fixed, Shape, fixed, variable, Slot, width, columnShape}
-use Rattle.format.specs.Key.{inverted, unkey, allowed}
+use Rattle.format.specs.Key.{unkey, allowed}
 use Rattle.format.specs.Field.{directed, nullByte, blockSize}
 
 -- what was read and the bytes that are left; or the fault, and how many bytes are left from the bad byte on

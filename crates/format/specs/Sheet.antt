@@ -1,8 +1,8 @@
 -- The sheet: columns follow one another in list order, each with its validity bytes and then its values, for n rows.
 use Prim.Native.Nat.{ℕ, zero, suc, _+_, _-_, _*_, _/_, _%_, _^_}
-use mathlib.Core.Bool.{Bool, true, false, cond, not, _||_}
+use mathlib.Core.Bool.{Bool, false, cond, not, _||_}
 use mathlib.Core.Option.{none, some}
-use mathlib.Core.List.{List, [], _∷_, _++_, map}
+use mathlib.Core.List.{List, [], _∷_, map}
 use lib.Dec.{ltb, eqb}
 use lib.ListN.{length, getD, take, drop}
 use Rattle.format.specs.declared.Column.{Column}
@@ -11,8 +11,8 @@ use Rattle.format.specs.declared.Check.the-variants.{Pass}
 use Rattle.format.specs.declared.Refusal.the-variants.{ColumnCut, SpareBit, Ends, LongSlot, BytesAfter}
 use Rattle.format.specs.Limits.{maxSlot}
 use Rattle.format.specs.Check.{both, failIf}
-use Rattle.format.specs.Lists.{each, joined, low}
-use Rattle.format.specs.Kinds.{Fixed, bool, plain, number, integer, float, parts, Shape, fixed, variable, Slot, width, columnShape}
+use Rattle.format.specs.Lists.{each, low}
+use Rattle.format.specs.Kinds.{bool, plain, number, integer, float, parts, Shape, fixed, variable, Slot, width, columnShape}
 
 -- how the values of a column stand: packed bits; values of w bytes each; ends, and the bytes between them
 pub data Layout : Type 0 where

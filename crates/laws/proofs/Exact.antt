@@ -1,6 +1,6 @@
 -- Which checks refuse a row by its content, and that they name the first row that no values within the limits have. Assumes nothing.
-use Prim.Native.Nat.{ℕ, zero, suc, _+_, _-_, _<_, _≤_}
-use mathlib.Core.Path.{_≡_, refl, ap, sym, subst, _∙_}
+use Prim.Native.Nat.{ℕ, zero, suc, _+_, _-_, _<_}
+use mathlib.Core.Path.{_≡_, refl, ap, sym, _∙_}
 use mathlib.Core.Bool.{Bool, true, false, cond, not, _||_, true≢false}
 use mathlib.Core.List.{List, [], _∷_, map}
 use native.Mathlib.Omega.{arith}
@@ -16,15 +16,15 @@ use Rattle.format.specs.declared.Refusal.{Refusal}
 use Rattle.format.specs.declared.Refusal.the-variants.{ListCut, UnknownKind, OptionBits, Width, ManyColumns, ManyRows, ColumnCut, SpareBit, Ends, LongSlot, BytesAfter, ManyBytes, RowRoom, OffsetRoom, Offsets, Row, SheetRoom, Input}
 use Rattle.format.specs.Limits.{maxRows, maxWidth, maxTotal}
 use Rattle.format.specs.Check.{both, failIf}
-use Rattle.format.specs.Lists.{Bytes, each}
+use Rattle.format.specs.Lists.{Bytes}
 use Rattle.format.specs.Kinds.{Slot, columnShape}
 use Rattle.format.specs.Columns.{descriptionBytes, descriptionFault, listFaultFrom, listFault, widthAt}
 use Rattle.format.specs.Fits.{RowFits}
 use Rattle.format.specs.Row.{row}
 use Rattle.format.specs.Read.{Parsed, got, fault, readField, fieldCheck, rowFault, rowSlots, rowsFault}
-use Rattle.format.specs.Entries.{rowCountFault, offsetRoomFault, fallFault, offsetsFault, rowBytes, cutRows}
+use Rattle.format.specs.Entries.{rowCountFault, offsetRoomFault, fallFault, offsetsFault}
 use Rattle.basics.proofs.Lists.{Every}
-use Rattle.basics.proofs.Checks.{refuse-pass, both-pass, pass-both}
+use Rattle.basics.proofs.Checks.{refuse-pass, pass-both}
 use Rattle.laws.proofs.ReadRow.{row-passes, passed-row, refused-none}
 
 -- ---- refusals by content: 16 to 23

@@ -1,10 +1,9 @@
--- Law B: inverted bytes stand in the reverse order.
-use Prim.Native.Nat.{ℕ, zero, suc, _+_, _-_, _<_, compare, Ordering, Ordering·lt as lt, Ordering·eq as eq, Ordering·gt as gt}
+-- Inverted bytes stand in the reverse order.
+use Prim.Native.Nat.{ℕ, _-_, _<_, compare, Ordering}
 use mathlib.Core.Path.{_≡_, refl, ap, ap₂, sym, _∙_}
-use mathlib.Core.List.{List, [], _∷_, _++_, map}
+use mathlib.Core.List.{List, [], _∷_}
 use native.Mathlib.Omega.{arith}
-use native.Mathlib.Nat.{sub-le}
-use lib.ListN.{length, getD, length-map}
+use lib.ListN.{length}
 use Rattle.format.specs.Key.{invert, inverted}
 use Rattle.format.specs.Lists.{Bytes}
 use Rattle.format.specs.Order.{cmp, swap, then}
@@ -25,14 +24,14 @@ sep-invert (x ∷ xs) [] bf bg = refl
 sep-invert (x ∷ xs) (y ∷ ys) bf bg =
     ap₂ then (compare-invert x y (bf .0) (bg .0)) (sep-invert xs ys (bf .1) (bg .1)) ∙ sym (swap-then (compare x y) (sep xs ys))
 
--- Law B, for strings of which neither begins the other
+-- for strings of which neither begins the other
 pub ranks-invert : {o : Ordering} {f g : List ℕ} → Bytes f → Bytes g → Ranks o f g → Ranks (swap o) (inverted f) (inverted g)
 ranks-invert {o} {f} {g} bf bg k = record {
   first = sep-invert f g bf bg ∙ ap swap (k .first);
   alike = λ e. ap inverted (k .alike (swap-eq o e));
 }
 
--- Law B, for strings of one length
+-- for strings of one length
 pub cmp-invert : (f g : List ℕ) → Bytes f → Bytes g → length f ≡ length g → cmp (inverted f) (inverted g) ≡ swap (cmp f g)
 cmp-invert f g bf bg e = ranks-cmp (ranks-invert bf bg (ranks-even f g e))
 

@@ -1,19 +1,17 @@
 -- the bytes of a row stand as the numbers do, for every count of bytes.
-use Prim.Native.Nat.{ℕ, zero, suc, _+_, _-_, _*_, _^_, _<_, _≤_, compare, Ordering, Ordering·lt as lt, Ordering·eq as eq, Ordering·gt as gt}
-use mathlib.Core.Path.{_≡_, refl, ap, ap₂, sym, _∙_, subst}
-use mathlib.Core.Bool.{Bool, true, false, cond, not}
+use Prim.Native.Nat.{ℕ, suc, _+_, _-_, _*_, _^_, _<_, _≤_, compare, Ordering}
+use mathlib.Core.Path.{_≡_, refl, ap, ap₂, sym, _∙_}
 use mathlib.Core.Logic.{_⊎_, inl, inr}
-use mathlib.Core.List.{List, [], _∷_, _++_, map, reverse, reverse-cons}
+use mathlib.Core.List.{List, [], _∷_, _++_, reverse, reverse-cons}
 use native.Mathlib.Omega.{arith}
 use native.Mathlib.Nat.{suc-inj, pow-succ', add-mul, sub-add-cancel, mul-le-mul-right, le-pred-of-lt, add-sub-cancel-left}
 use lib.Arith.{digits-lt}
-use lib.Dec.{ltb, T, ltb→lt, nltb→le}
 use lib.Pow.{pow-add}
 use lib.ListN.{length, length-append, length-reverse, length-map}
-use lib.IntN.{ℤ, pos, negsuc, subℕ}
+use lib.IntN.{ℤ, pos, negsuc}
 use Rattle.format.specs.Key.{flip, floatKey, invert, inverted, restInverted, signedKey, topFlipped, unsignedKey}
 use Rattle.format.specs.Lists.{Bytes, low}
-use Rattle.format.specs.Order.{cmp, cmpℤ, swap, then}
+use Rattle.format.specs.Order.{cmp, cmpℤ, then}
 use Rattle.format.specs.Value.{floatRank, half, signed}
 use Rattle.basics.proofs.Compare.{choose, Tri, below, same, above, tri, compare-of, compare-lt, compare-gt}
 use borrow.Author.Tests.{lt-ltb, le-ltb}

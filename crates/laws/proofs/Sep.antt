@@ -1,12 +1,12 @@
 -- The first byte at which two strings differ, and what follows from it.
-use Prim.Native.Nat.{ℕ, zero, suc, _+_, _-_, _<_, _≤_, compare, Ordering, Ordering·lt as lt, Ordering·eq as eq, Ordering·gt as gt}
+use Prim.Native.Nat.{ℕ, _+_, _-_, compare, Ordering, Ordering·lt as lt, Ordering·eq as eq, Ordering·gt as gt}
 use mathlib.Core.Path.{_≡_, refl, ap, ap₂, sym, _∙_, subst}
-use mathlib.Core.List.{List, [], _∷_, _++_, map, tail}
+use mathlib.Core.List.{List, [], _∷_, _++_, tail}
 use native.Mathlib.Omega.{arith}
 use native.Mathlib.Nat.{suc-inj, suc-ne-zero}
 use lib.ListN.{length}
-use Rattle.format.specs.Order.{Begins, cmp, swap, then}
-use Rattle.basics.proofs.Compare.{Tri, below, same, above, tri, compare-of, compare-self, compare-swap, eq-of-compare, lt≢eq, gt≢eq, then-assoc, then-eq-left, then-eq-right, swap-then, swap-eq}
+use Rattle.format.specs.Order.{Begins, cmp, then}
+use Rattle.basics.proofs.Compare.{compare-self, eq-of-compare, lt≢eq, gt≢eq, then-eq-left, then-eq-right}
 
 -- the order at the first byte that both have and that differs; a tie where there is none
 abbrev pub sep : List ℕ → List ℕ → Ordering

@@ -1,20 +1,17 @@
 -- The blocks of a value, byte by byte; the laws of the variableBytes field.
-use Prim.Native.Nat.{ℕ, zero, suc, _+_, _-_, _<_, _≤_, compare, Ordering, Ordering·lt as lt, Ordering·eq as eq, Ordering·gt as gt}
-use mathlib.Core.Path.{_≡_, refl, ap, ap₂, sym, _∙_, subst}
+use Prim.Native.Nat.{ℕ, zero, suc, _+_, _-_, _<_, _≤_, compare, Ordering, Ordering·lt as lt}
+use mathlib.Core.Path.{_≡_, refl, ap, ap₂, sym, _∙_}
 use mathlib.Core.Logic.{_⊎_, inl, inr}
-use mathlib.Core.Bool.{Bool, true, false, cond, not}
-use mathlib.Core.Option.{Option, none, some}
-use mathlib.Core.List.{List, [], _∷_, _++_, map, append-assoc, append-nil}
+use mathlib.Core.Bool.{Bool, true, false, cond}
+use mathlib.Core.List.{List, [], _∷_, _++_, append-assoc, append-nil}
 use native.Mathlib.Omega.{arith}
 use native.Mathlib.Nat.{sub-self, sub-eq-zero-of-le, add-zero, add-suc, suc-add, zero-add}
-use lib.Dec.{ltb, leb, T, ltb→lt, nltb→le}
-use lib.ListN.{length, take, drop, replicate, take-append-drop, length-drop, length-take}
+use lib.Dec.{ltb}
+use lib.ListN.{length, take, drop, replicate, take-append-drop, length-drop}
 use lib.Seq.{length-take-le}
 use Rattle.format.specs.Field.{block, blockSize, blocks, variableBytes}
-use Rattle.format.specs.Key.{inverted}
-use Rattle.format.specs.Lists.{Bytes}
 use Rattle.format.specs.Order.{cmp, swap, then}
-use Rattle.basics.proofs.Compare.{choose, Tri, below, same, above, tri, compare-of, compare-lt, compare-gt, compare-self, compare-swap, swap-then}
+use Rattle.basics.proofs.Compare.{choose, Tri, below, same, above, tri, compare-lt, compare-self, compare-swap, swap-then}
 use Rattle.laws.proofs.Sep.{sep, sep-self, Ranks, cmp-same, ranks-cmp}
 use borrow.Author.Tests.{lt-ltb, le-ltb, le-leb, lt-leb}
 
@@ -123,7 +120,7 @@ module _ (size : ℕ → ℕ) where
           ∙ sym (stream-more room x k l))
       go (inr l) ih = rw (le-leb (length x) (size k) l) (sym (stream-last x k l))
 
--- ---- Law C
+-- ---- the blocks of a field
 
 pub blockSize-room : (k : ℕ) → 0 < blockSize k
 blockSize-room k = go (ltb k 4)

@@ -1,13 +1,12 @@
 -- The value bytes of a fixed field give the bytes of the sheet back, and the other way round.
-use Prim.Native.Nat.{ℕ, zero, suc, _+_, _-_, _<_, _≤_}
-use mathlib.Core.Path.{_≡_, refl, ap, ap₂, sym, _∙_, subst}
+use Prim.Native.Nat.{ℕ, _+_, _-_, _<_, _≤_}
+use mathlib.Core.Path.{_≡_, refl, ap, ap₂, _∙_}
 use mathlib.Core.Logic.{_⊎_, inl, inr}
-use mathlib.Core.Bool.{Bool, true, false, cond, not}
-use mathlib.Core.List.{List, [], _∷_, _++_, map, reverse, reverse-reverse}
+use mathlib.Core.List.{List, [], _∷_, _++_, reverse, reverse-reverse}
 use native.Mathlib.Omega.{arith}
 use lib.ListN.{length, take, drop, take-append-drop, length-drop, length-reverse, length-append}
 use lib.Seq.{length-take-le, take-at, drop-at}
-use Rattle.format.specs.Key.{flip, floatKey, inverted, key, partsKey, partsUnkey, restInverted, signedKey, topFlipped, unkey}
+use Rattle.format.specs.Key.{flip, key, partsKey, partsUnkey, restInverted, signedKey, topFlipped, unkey}
 use Rattle.format.specs.Kinds.{Fixed, bool, float, integer, number, parts, plain, width}
 use Rattle.format.specs.Lists.{Bytes, sum}
 use Rattle.laws.proofs.Invert.{invert-invert}

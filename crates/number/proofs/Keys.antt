@@ -3,7 +3,7 @@ use Prim.Native.Nat.{ℕ, _+_, _-_, _*_, _/_, _%_, _^_, _≤_, _<_}
 use mathlib.Core.Path.{_≡_, refl, sym, ap, _∙_, subst}
 use mathlib.Core.Bool.{Bool, true, false, cond}
 use mathlib.Core.List.{List, [], _∷_, _++_, map, reverse, reverseAux, reverse-append}
-use native.Mathlib.Nat.{mod-lt, mod-add-div, mod-eq-of-lt, div-lt-iff-lt-mul, pow-succ', mul-comm, mul-le-mul-left, sub-add-cancel, mul-add, sub-le}
+use native.Mathlib.Nat.{mod-lt, mod-add-div, mod-eq-of-lt, div-lt-iff-lt-mul, pow-succ', mul-comm, mul-le-mul-left, sub-add-cancel, mul-add}
 use native.Mathlib.Omega.{arith}
 use lib.Dec.{ltb}
 use lib.Pow.{pow-add}

@@ -2,12 +2,12 @@
 use Prim.Native.Nat.{ℕ, zero, suc, _+_, _-_, _*_, _/_, _%_, _^_, _≤_, _<_}
 use mathlib.Core.Path.{_≡_, refl, sym, ap, ap₂, _∙_}
 use mathlib.Core.List.{List, [], _∷_, _++_, reverse, reverse-append}
-use native.Mathlib.Nat.{one-le-pow, mod-lt, mod-add-div, div-add-mod', div-lt-iff-lt-mul, pow-suc, pow-succ', add-zero, mul-comm}
+use native.Mathlib.Nat.{one-le-pow, mod-lt, mod-add-div, div-add-mod', div-lt-iff-lt-mul, pow-suc, pow-succ', mul-comm}
 use native.Mathlib.Omega.{arith}
 use lib.Dec.{lit<}
 use lib.Pow.{pow-add}
 use lib.Arith.{digits-div, digits-mod, lt-one}
-use lib.ListN.{length, getD, take, drop, set, length-append, length-drop}
+use lib.ListN.{length, getD, take, drop, length-append, length-drop}
 use lib.Seq.{sets, drop-cons, drop-drop, take-add, take-all, length-take-le}
 use Rattle.format.specs.Lists.{Bytes, low, lowBytes}
 use Rattle.basics.proofs.Bytes.{bytes-append, bytes-drop, bytes-of, bytes-take}

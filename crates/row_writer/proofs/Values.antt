@@ -1,5 +1,5 @@
 -- A slot of a column that passes: where its value lies, and what its field comes to. Assumes nothing.
-use Prim.Native.Nat.{ℕ, zero, suc, _+_, _-_, _*_, _/_, _<_, _≤_}
+use Prim.Native.Nat.{ℕ, suc, _+_, _-_, _*_, _/_, _<_, _≤_}
 use mathlib.Core.Path.{_≡_, refl, ap, ap₂, sym, _∙_}
 use mathlib.Core.Bool.{Bool as Truth, true, false, cond}
 use mathlib.Core.Option.{none, some}

@@ -1,24 +1,22 @@
 -- The measuring walk: the fields of a column that passes, and those of a sheet known by its facts. Assumes nothing.
-use Prim.Native.Nat.{ℕ, zero, suc, _+_, _-_, _*_, _/_, _<_, _≤_}
-use mathlib.Core.Path.{_≡_, refl, sym, ap, ap₂, _∙_}
-use mathlib.Core.Bool.{Bool, true, false, cond}
-use mathlib.Core.Option.{none, some}
+use Prim.Native.Nat.{ℕ, zero, suc, _+_, _-_, _*_, _<_, _≤_}
+use mathlib.Core.Path.{_≡_, sym, ap, ap₂, _∙_}
+use mathlib.Core.Bool.{Bool, true, false}
 use mathlib.Core.List.{List}
 use native.Mathlib.Numerals.{add-one}
 use native.Mathlib.Omega.{arith}
-use lib.ListN.{length, getD, take, drop, length-drop}
+use lib.ListN.{length, getD, drop, length-drop}
 use lib.Seq.{length-take-le}
 use Rattle.format.specs.declared.Kind.the-variants.{Variable}
 use Rattle.format.specs.declared.Column.{Column}
 use Rattle.format.specs.declared.Check.the-variants.{Pass}
 use Rattle.format.specs.Limits.{maxSlot}
 use Rattle.format.specs.Lists.{Bytes, each, sum}
-use Rattle.format.specs.Kinds.{variable, columnShape}
+use Rattle.format.specs.Kinds.{variable}
 use Rattle.format.specs.Field.{paddedLength, fieldLength}
-use Rattle.format.specs.Sheet.{Layout, ended, layout, packed, bit, end, valueAt, slotIf, slotAt, sheetFault}
+use Rattle.format.specs.Sheet.{ended, packed, bit, end, valueAt, slotIf, sheetFault}
 use Rattle.format.specs.Schemas.{noColumn}
 use Rattle.format.specs.Entries.{sheetTotal}
-use Rattle.bits.proofs.Nulls.{bits-passed}
 use Rattle.basics.proofs.Lists.{each-same}
 use Rattle.laws.proofs.Places.{place}
 use Rattle.laws.proofs.Sheets.{Ended, last-end, column-passed, variable-passed}

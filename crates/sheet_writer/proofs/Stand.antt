@@ -29,7 +29,7 @@ use Rattle.laws.proofs.ReadRow.{passed-row}
 use Rattle.basics.proofs.Checks.{both-pass}
 use Rattle.basics.proofs.Lists.{Every, every-at, each-is}
 use Rattle.laws.proofs.Turned.{slotsAt as slotsIn, turned-tails}
-use Rattle.sheet_writer.specs.Cursors.{fieldAt, slotAt, nextAt, Readable, slotsAt, nextsAt, columnAt, Fields, AllFields, sheetAt}
+use Rattle.sheet_writer.specs.Cursors.{fieldAt, nextAt, Readable, slotsAt, nextsAt, columnAt, Fields, AllFields, sheetAt}
 use Rattle.sheet_writer.proofs.Maps.{at-map, map-same}
 
 -- the slots of the columns to come, from a cursor on

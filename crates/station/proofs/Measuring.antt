@@ -5,7 +5,6 @@ use mathlib.Core.List.{List}
 use Rattle.format.specs.declared.Refusal.{Refusal}
 use Rattle.format.specs.declared.Check.{Check}
 use Rattle.format.specs.declared.Check.the-variants.{Pass, Refuse}
-use Rattle.format.specs.declared.Column.{Column}
 use Rattle.format.specs.Check.{both}
 use Rattle.format.specs.Columns.{listFault, columns}
 use Rattle.format.specs.Schemas.{colsOf}
@@ -18,7 +17,7 @@ use Rattle.sheet_reader.specs.declared.sheet.Sheeted.{Sheeted}
 use Rattle.sheet_reader.specs.Sheets.{SheetedAs}
 use Rattle.station.specs.declared.measure.Measuring.{Measuring}
 use Rattle.station.specs.Begun.{Begins}
-use Rattle.station.specs.Measuring.{batchCheck, Found, Measures}
+use Rattle.station.specs.Measuring.{batchCheck, Measures}
 
 -- checks one after the other, grouped either way
 pub both-grouped : (x y z : Check) → both x (both y z) ≡ both (both x y) z

@@ -12,7 +12,7 @@ use lib.Seq.{sets, length-take-le, take-take}
 use borrow.Author.Tests.{ltb-false, ne-eqb}
 use Rattle.format.specs.Limits.{maxSlot}
 use Rattle.format.specs.Field.{directed, blockSize}
-use Rattle.format.specs.Read.{Parsed, got, fault, Good, after, allZero}
+use Rattle.format.specs.Read.{Parsed, got, fault, Good, allZero}
 use Rattle.basics.proofs.Append.{Walk, walk-first, walk-at, walk-piece, walk-room, walk-end}
 use Rattle.basics.proofs.Compare.{choose}
 use Rattle.laws.proofs.Directed.{length-directed, directed-take, directed-drop}

@@ -1,6 +1,6 @@
 -- `format::numbers` meets its contract: a success is 0 and its two numbers, a refusal what the table has. Assumes nothing.
 use borrow.Author.Needs.{needs}
-use mathlib.Core.Path.{ap, sym, _∙_}
+use mathlib.Core.Path.{ap, sym}
 use Rattle.format.specs.Numbers.{numbersOf}
 use Rattle.format.proofs.numbers.Statement.{statement}
 use Rattle.format.proofs.numbers.Tie as tie

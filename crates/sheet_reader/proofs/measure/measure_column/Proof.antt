@@ -10,13 +10,12 @@ use types.Run.{OneOf}
 use denote.Enum.Declared.{tagOf}
 use lib.Dec.{lit<}
 use Rattle.format.proofs.Kind.{the-type}
-use Rattle.format.specs.declared.Kind.{Kind}
 use Rattle.format.specs.declared.Kind.the-variants.{Variable}
 use Rattle.format.specs.declared.Column.{Column}
 use Rattle.format.specs.Limits.{maxRows, maxWidth}
-use Rattle.format.specs.Kinds.{shape, valueBytes}
+use Rattle.format.specs.Kinds.{valueBytes}
 use Rattle.format.specs.Sheet.{ended, layout, slotAt}
-use Rattle.laws.proofs.Totals.{columnTotal, maxField}
+use Rattle.laws.proofs.Totals.{columnTotal}
 use Rattle.sheet_reader.specs.Measures.{Passed, variableTotal}
 use Rattle.basics.proofs.Sorts.{fixedKeys}
 use Rattle.sheet_reader.proofs.Arms.{field-arm}

@@ -1,13 +1,11 @@
 -- `sheet_reader::measure::measure_sheet` meets its contract. The invariant: the columns so far are added up, by their facts. The
 -- measure is the columns left. Assumes nothing.
 use borrow.Author.Needs.{needs}
-use Prim.Native.Nat.{ℕ, _-_, _*_, _<_, _≤_}
+use Prim.Native.Nat.{ℕ, _-_, _*_, _≤_}
 use mathlib.Core.Path.{_≡_, sym, ap, _∙_}
-use mathlib.Core.List.{List}
 use native.Mathlib.Omega.{arith}
 use lib.ListN.{length, getD, take, drop, length-map}
 use lib.Seq.{length-take-le, getD-take}
-use Rattle.format.specs.declared.Column.{Column}
 use Rattle.format.specs.Limits.{maxColumns, maxRows, maxWidth}
 use Rattle.format.specs.Lists.{each, sum}
 use Rattle.format.specs.Kinds.{valueBytes}

@@ -1,7 +1,6 @@
 -- `sheet_reader::measure::measure_variable` meets its contract. The invariant: the fields of the rows so far are added up. The
 -- measure is the rows left. Assumes nothing.
-use Prim.Native.Nat.{ℕ, _-_, _*_, _≤_}
-use mathlib.Core.Path.{_∙_, ap}
+use Prim.Native.Nat.{_-_, _*_, _≤_}
 use native.Mathlib.Omega.{arith}
 use Rattle.basics.proofs.Bytes.{bytes-of}
 use Rattle.basics.proofs.Lists.{Adding, adding-begin, adding-more, adding-most, adding-end}

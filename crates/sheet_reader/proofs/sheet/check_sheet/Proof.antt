@@ -14,7 +14,6 @@ use Rattle.format.specs.Limits.{maxColumns, maxWidth}
 use Rattle.format.specs.Kinds.{valueBytes}
 use Rattle.format.specs.Sheet.{layout, columnFault, columnBytes, columnSlots, nullsIn}
 use Rattle.bits.proofs.Nulls.{bits-passed}
-use Rattle.basics.proofs.Lists.{every-at}
 use Rattle.laws.proofs.Parts.{part-rest}
 use Rattle.laws.proofs.Sheets.{column-passed, column-room}
 use Rattle.format.specs.Schemas.{noColumn}

@@ -1,6 +1,6 @@
 -- `sheet_writer::columns::write_columns` meets its contract. The invariant: the columns passed are written, and the cursors
 -- stand at the next one's fields. Assumes nothing.
-use Prim.Native.Nat.{ℕ, _+_, _-_, _<_, _≤_}
+use Prim.Native.Nat.{_+_, _-_}
 use mathlib.Core.Path.{_≡_, sym, _∙_}
 use mathlib.Core.List.{List, _∷_}
 use native.Mathlib.Omega.{arith}

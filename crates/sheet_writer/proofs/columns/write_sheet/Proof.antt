@@ -12,7 +12,7 @@ use Rattle.format.specs.Lists.{Bytes}
 use Rattle.format.specs.Schemas.{colsOf}
 use Rattle.format.specs.Entries.{cutRows, decodedSheet}
 use Rattle.basics.proofs.Bytes.{bytes-of}
-use Rattle.laws.proofs.Cuts.{Cuts, offsets-passed}
+use Rattle.laws.proofs.Cuts.{offsets-passed}
 use Rattle.sheet_writer.specs.Cursors.{AllFields, sheetAt}
 use Rattle.sheet_writer.proofs.Stand.{front-long, front-is, start-fields, start-sheet}
 use Rattle.sheet_writer.proofs.columns.write_sheet.Statement.{statement}

@@ -1,5 +1,4 @@
 -- `station::check::total_fault` meets its contract: the test is the definition's. Assumes nothing.
-use borrow.Author.Needs.{needs}
 use borrow.Author.Tests.{lt-ltb, le-ltb}
 use Rattle.station.proofs.check.total_fault.Statement.{statement}
 use Rattle.station.proofs.check.total_fault.Tie as tie

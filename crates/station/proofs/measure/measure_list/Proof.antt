@@ -1,6 +1,6 @@
 -- `station::measure::measure_list` meets its contract: each way out is that of the checks that led there. Assumes nothing.
 use borrow.Author.Needs.{needs}
-use mathlib.Core.Path.{_≡_, sym, _∙_}
+use mathlib.Core.Path.{sym, _∙_}
 use Rattle.station.proofs.Measuring.{bad-begin, bad-sheet, measured}
 use Rattle.station.proofs.measure.measure_list.Statement.{statement}
 use Rattle.station.proofs.measure.measure_list.Tie as tie
