@@ -1,4 +1,3 @@
 -- What the promises of this crate cite beside crate format's definitions.
-pub mod Listing
 pub mod Sheets
 pub mod Measures

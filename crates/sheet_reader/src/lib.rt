@@ -1,4 +1,3 @@
-// What comes in: the column list read into a schema, the sheet checked against it, and its rows measured.
-pub mod list;
+// The sheet: checked against its columns, and its rows measured.
 pub mod measure;
 pub mod sheet;

@@ -9,12 +9,12 @@ ghost use Rattle.format.specs.Kinds.{valueBytes, shape};
 ghost use Rattle.format.specs.Sheet.{Layout, layoutFor, packed as packedFor, spareSet, bitsFault, end, endsFault, variableFault, valuesFault, valuesBytes, columnFault, columnBytes, columnSlots, nullsIn};
 ghost use Rattle.format.specs.Schemas.{colsOf, Limited};
 ghost use Rattle.sheet_reader.specs.Sheets.{SheetedAs};
-use crate::list::no_column;
 use format::Check;
 use format::Column;
 use format::Kind;
 use format::Refusal;
 use format::Schema;
+use list_reader::no_column;
 
 // What is known of a checked column: what it is, and where it stands in the sheet.
 pub struct Facts {

@@ -10,9 +10,9 @@ use Rattle.format.specs.declared.Schema.{Schema}
 use Rattle.format.specs.Limits.{maxRows}
 use Rattle.format.specs.Columns.{listFault}
 use Rattle.basics.proofs.Checks.{refuse-pass}
-use Rattle.sheet_reader.specs.declared.list.Listed.{Listed}
-use Rattle.sheet_reader.specs.Listing.{ListedAs}
-use Rattle.sheet_reader.proofs.Schemas.{sound}
+use Rattle.list_reader.specs.declared.Listed.{Listed}
+use Rattle.list_reader.specs.Listing.{ListedAs}
+use Rattle.list_reader.proofs.Schemas.{sound}
 use Rattle.station.specs.Begun.{Begins}
 
 module _ (list : List ℕ) (n : ℕ) (r : Listed) (l : ListedAs list r) where

@@ -21,7 +21,7 @@ use Rattle.format.specs.Promises.{Decoded}
 use Rattle.laws.proofs.Accept.{decode-answers, decode-writes}
 use Rattle.basics.proofs.Append.{over-sets}
 use Rattle.basics.proofs.Checks.{both-pass}
-use Rattle.sheet_reader.specs.declared.list.Listed.{Listed}
+use Rattle.list_reader.specs.declared.Listed.{Listed}
 use Rattle.row_reader.specs.declared.Checked.{Checked}
 use Rattle.row_reader.specs.Walk.{Checks}
 use Rattle.station.specs.Begun.{Begins}

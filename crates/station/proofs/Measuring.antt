@@ -12,7 +12,7 @@ use Rattle.format.specs.Sheet.{sheetFault}
 use Rattle.format.specs.Entries.{rowCountFault, sheetTotal, totalFault, measureCheck, measureAnswer, answer}
 use Rattle.format.specs.Promises.{Measured}
 use Rattle.basics.proofs.Checks.{refuse-pass}
-use Rattle.sheet_reader.specs.declared.list.Listed.{Listed}
+use Rattle.list_reader.specs.declared.Listed.{Listed}
 use Rattle.sheet_reader.specs.declared.sheet.Sheeted.{Sheeted}
 use Rattle.sheet_reader.specs.Sheets.{SheetedAs}
 use Rattle.station.specs.declared.measure.Measuring.{Measuring}

@@ -7,8 +7,8 @@ use Rattle.format.specs.Limits.{maxRows}
 use Rattle.format.specs.Check.{both}
 use Rattle.format.specs.Columns.{listFault}
 use Rattle.format.specs.Entries.{rowCountFault}
-use Rattle.sheet_reader.specs.declared.list.Listed.{Listed}
-use Rattle.sheet_reader.proofs.Schemas.{Sound}
+use Rattle.list_reader.specs.declared.Listed.{Listed}
+use Rattle.list_reader.proofs.Schemas.{Sound}
 
 -- list, 6; and where neither refuses, the columns of the list and few rows
 pub record Begins (list : List ℕ) (n : ℕ) (r : Listed) : Type 0 where

@@ -13,7 +13,7 @@ use Rattle.format.specs.Schemas.{colsOf}
 use Rattle.format.specs.Sheet.{sheetFault, sheetSlots, nulls}
 use Rattle.format.specs.Entries.{sheetTotal, rowCountFault, offsetRoomFault}
 use Rattle.sheet_reader.specs.Sheets.{Known}
-use Rattle.sheet_reader.proofs.Schemas.{Sound}
+use Rattle.list_reader.proofs.Schemas.{Sound}
 use Rattle.station.specs.declared.measure.Measuring.{Measuring}
 
 -- list, 6, sheet

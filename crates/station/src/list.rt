@@ -4,8 +4,8 @@ ghost use Rattle.station.specs.Begun.{Begins};
 use format::Answer;
 use format::Check;
 use format::Refusal;
-use sheet_reader::list::Listed;
-use sheet_reader::list::read_list;
+use list_reader::Listed;
+use list_reader::read_list;
 
 // The column count and 0, or the refusal.
 pub fn check_list(list: &[u8]) -> Answer

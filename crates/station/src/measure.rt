@@ -11,7 +11,7 @@ use format::Answer;
 use format::Check;
 use format::Refusal;
 use format::Schema;
-use sheet_reader::list::no_column;
+use list_reader::no_column;
 use sheet_reader::measure::measure_sheet;
 use sheet_reader::sheet::Facts;
 use sheet_reader::sheet::check_sheet;

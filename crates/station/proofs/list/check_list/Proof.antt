@@ -12,8 +12,8 @@ use Rattle.format.specs.declared.Answer.the-variants.{Done, Refused}
 use Rattle.format.specs.Columns.{columns}
 use Rattle.format.specs.Entries.{answer, checkListAnswer}
 use Rattle.format.specs.Promises.{ListChecked}
-use Rattle.sheet_reader.specs.declared.list.Listed.{Listed}
-use Rattle.sheet_reader.specs.Listing.{ListedAs}
+use Rattle.list_reader.specs.declared.Listed.{Listed}
+use Rattle.list_reader.specs.Listing.{ListedAs}
 use Rattle.station.proofs.list.check_list.Statement.{statement}
 use Rattle.station.proofs.list.check_list.Tie as tie
 

@@ -1,8 +1,8 @@
--- `sheet_reader::list::kind_of` meets its contract: each arm is the table's entry for the byte that was matched, and past 15 the
+-- `list_reader::kind_of` meets its contract: each arm is the table's entry for the byte that was matched, and past 15 the
 -- table says variable bytes. Assumes nothing.
 use borrow.Author.Tests.{ne-eqb}
-use Rattle.sheet_reader.proofs.list.kind_of.Statement.{statement}
-use Rattle.sheet_reader.proofs.list.kind_of.Tie as tie
+use Rattle.list_reader.proofs.kind_of.Statement.{statement}
+use Rattle.list_reader.proofs.kind_of.Tie as tie
 
 variable : tie.Need-returns-16
 variable c =

@@ -13,9 +13,9 @@ use Rattle.format.specs.declared.Check.the-variants.{Pass, Refuse}
 use Rattle.format.specs.Limits.{maxColumns}
 use Rattle.format.specs.Columns.{descriptionBytes, columnAt, descriptionFault, listFaultFrom, columnsFrom, listFault, columns}
 use Rattle.basics.proofs.Checks.{refuse-pass}
-use Rattle.sheet_reader.specs.declared.list.Listed.{Listed}
+use Rattle.list_reader.specs.declared.Listed.{Listed}
 use Rattle.format.specs.Schemas.{noColumn, schemaOf}
-use Rattle.sheet_reader.specs.Listing.{ListedAs}
+use Rattle.list_reader.specs.Listing.{ListedAs}
 
 -- ---- one turn of the definitions
 

@@ -1,4 +1,4 @@
--- `sheet_reader::list::read_list` meets its contract. The invariant: what was read, with what the definitions say from here on, is
+-- `list_reader::read_list` meets its contract. The invariant: what was read, with what the definitions say from here on, is
 -- what they say of the whole list. The measure is the room for columns. Assumes nothing.
 use borrow.Author.Needs.{needs}
 use Prim.Native.Nat.{_-_}
@@ -6,9 +6,9 @@ use mathlib.Core.Path.{sym, _∙_}
 use native.Mathlib.Omega.{arith}
 use Rattle.format.specs.Limits.{maxColumns}
 use Rattle.laws.proofs.Columns.{description-passed}
-use Rattle.sheet_reader.proofs.ListTurns.{Turn, start, more, empty, full, bad, good}
-use Rattle.sheet_reader.proofs.list.read_list.Statement.{statement}
-use Rattle.sheet_reader.proofs.list.read_list.Tie as tie
+use Rattle.list_reader.proofs.ListTurns.{Turn, start, more, empty, full, bad, good}
+use Rattle.list_reader.proofs.read_list.Statement.{statement}
+use Rattle.list_reader.proofs.read_list.Tie as tie
 
 abbrev Inv-loop : tie.InvT-loop
 Inv-loop list columns₀ count₀ at₀ columns count at = Turn list columns count at

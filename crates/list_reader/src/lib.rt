@@ -4,7 +4,7 @@ ghost use Prim.Native.Nat.{_+_, _<_, _≤_};
 ghost use lib.ListN.{length, getD};
 ghost use Rattle.format.specs.Columns.{kindOf, optionsOf, descriptionBytes, widthAt, columnAt, descriptionFault};
 ghost use Rattle.format.specs.Schemas.{noColumn};
-ghost use Rattle.sheet_reader.specs.Listing.{ListedAs};
+ghost use Rattle.list_reader.specs.Listing.{ListedAs};
 use format::Check;
 use format::Column;
 use format::Kind;

@@ -1,12 +1,12 @@
--- `sheet_reader::list::width_at` meets its contract: outside kind 15 there is no width, and in kind 15 its two bytes are there,
+-- `list_reader::width_at` meets its contract: outside kind 15 there is no width, and in kind 15 its two bytes are there,
 -- since the description takes four. Assumes nothing.
 use borrow.Author.Needs.{needs}
 use native.Mathlib.Omega.{arith}
 use mathlib.Core.Path.{sym}
 use lib.ListN.{getD}
 use Rattle.laws.proofs.Columns.{bytes-wide, bytes-least, width-wide, width-plain}
-use Rattle.sheet_reader.proofs.list.width_at.Statement.{statement}
-use Rattle.sheet_reader.proofs.list.width_at.Tie as tie
+use Rattle.list_reader.proofs.width_at.Statement.{statement}
+use Rattle.list_reader.proofs.width_at.Tie as tie
 
 shared-slice-read-if1 : tie.Need-shared-slice-read-if1
 shared-slice-read-if1 c = omega (arith, bytes-least (getD (c .before .before .args .list .now) (c .before .before .args .at) 0))

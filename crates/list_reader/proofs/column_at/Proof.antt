@@ -1,10 +1,10 @@
--- `sheet_reader::list::column_at` meets its contract: kind, width and options of the description, which is whole. Assumes nothing.
+-- `list_reader::column_at` meets its contract: kind, width and options of the description, which is whole. Assumes nothing.
 use borrow.Author.Needs.{needs}
 use native.Mathlib.Omega.{arith}
 use lib.ListN.{getD}
 use Rattle.laws.proofs.Columns.{bytes-least}
-use Rattle.sheet_reader.proofs.list.column_at.Statement.{statement}
-use Rattle.sheet_reader.proofs.list.column_at.Tie as tie
+use Rattle.list_reader.proofs.column_at.Statement.{statement}
+use Rattle.list_reader.proofs.column_at.Tie as tie
 
 shared-slice-read-kind-of : tie.Need-shared-slice-read-kind-of
 shared-slice-read-kind-of c = omega (arith, bytes-least (getD (c .before .before .args .list .now) (c .before .before .args .at) 0))

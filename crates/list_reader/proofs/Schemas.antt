@@ -13,9 +13,9 @@ use Rattle.format.specs.Columns.{listFault, columns}
 use Rattle.format.specs.Kinds.{valueBytes}
 use Rattle.basics.proofs.Lists.{every-at}
 use Rattle.laws.proofs.Columns.{Narrow, columns-narrow, columns-few}
-use Rattle.sheet_reader.specs.declared.list.Listed.{Listed}
+use Rattle.list_reader.specs.declared.Listed.{Listed}
 use Rattle.format.specs.Schemas.{noColumn, schemaOf, colsOf, Limited}
-use Rattle.sheet_reader.specs.Listing.{ListedAs}
+use Rattle.list_reader.specs.Listing.{ListedAs}
 
 -- the columns in use of an array are those that it was made of
 pub cols-schema : (cs : List Column) → colsOf (schemaOf cs) ≡ cs

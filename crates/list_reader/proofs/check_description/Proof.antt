@@ -1,9 +1,9 @@
--- `sheet_reader::list::check_description` meets its contract: each return is the definition's case for the tests that led there.
+-- `list_reader::check_description` meets its contract: each return is the definition's case for the tests that led there.
 -- Assumes nothing.
 use borrow.Author.Needs.{needs}
 use borrow.Author.Tests.{lt-ltb, le-ltb}
-use Rattle.sheet_reader.proofs.list.check_description.Statement.{statement}
-use Rattle.sheet_reader.proofs.list.check_description.Tie as tie
+use Rattle.list_reader.proofs.check_description.Statement.{statement}
+use Rattle.list_reader.proofs.check_description.Tie as tie
 
 returns : tie.Need-returns
 returns c = simp (lt-ltb _ _ (c .if1 .taken))

@@ -5,7 +5,7 @@ use mathlib.Core.List.{List}
 use Rattle.format.specs.declared.Check.the-variants.{Pass}
 use Rattle.format.specs.Schemas.{schemaOf}
 use Rattle.format.specs.Columns.{listFault, columns}
-use Rattle.sheet_reader.specs.declared.list.Listed.{Listed}
+use Rattle.list_reader.specs.declared.Listed.{Listed}
 
 -- its first fault, and if it has none its columns
 pub record ListedAs (list : List ℕ) (r : Listed) : Type 0 where

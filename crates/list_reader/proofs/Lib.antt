@@ -1,0 +1,4 @@
+-- What the proofs of this crate share: what a list that was read is like; what holds at the head of its loop, and what each way out of
+-- a turn gives.
+pub mod Schemas
+pub mod ListTurns
