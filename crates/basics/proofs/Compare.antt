@@ -106,16 +106,6 @@ pub eq-of-compare : (m n : ℕ) → compare m n ≡ eq → m ≡ n
 eq-of-compare m n e = tri-same m n (compare m n) (tri m n) e
 
 -- ---- `then` and `swap`
-pub then-assoc : (a b c : Ordering) → then (then a b) c ≡ then a (then b c)
-then-assoc lt b c = refl
-then-assoc eq b c = refl
-then-assoc gt b c = refl
-
-pub then-eq : (a : Ordering) → then a eq ≡ a
-then-eq lt = refl
-then-eq eq = refl
-then-eq gt = refl
-
 pub swap-then : (a b : Ordering) → swap (then a b) ≡ then (swap a) (swap b)
 swap-then lt b = refl
 swap-then eq b = refl

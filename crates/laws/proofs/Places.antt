@@ -1,7 +1,6 @@
 -- Where the columns of a sheet stand, and a slot from its column's place. Assumes nothing.
 use Prim.Native.Nat.{ℕ, zero, suc, _+_, _<_, _≤_}
 use mathlib.Core.Path.{_≡_, refl, ap, _∙_}
-use mathlib.Core.Option.{none}
 use mathlib.Core.List.{List, [], _∷_}
 use native.Mathlib.Nat.{add-zero, add-suc, suc-add, zero-add}
 use native.Mathlib.Omega.{arith}
@@ -9,10 +8,8 @@ use lib.ListN.{length, getD, drop, length-drop}
 use lib.Seq.{drop-drop}
 use Rattle.format.specs.declared.Check.the-variants.{Pass}
 use Rattle.format.specs.declared.Column.{Column}
-use Rattle.format.specs.Kinds.{Slot}
-use Rattle.format.specs.Sheet.{Layout, layout, columnFault, columnBytes, slotAt, columnSlots, sheetFaultFrom, sheetFault, sheetSlots}
-use Rattle.basics.proofs.Lists.{each-at}
-use Rattle.basics.proofs.Checks.{enough, both-pass}
+use Rattle.format.specs.Sheet.{Layout, layout, columnFault, columnBytes, columnSlots, sheetFaultFrom, sheetFault, sheetSlots}
+use Rattle.basics.proofs.Checks.{both-pass}
 use Rattle.laws.proofs.Sheets.{column-room}
 
 -- the place of column c of a sheet s of n rows, where column 0 stands at `at`; past the last column, the end of the last
@@ -52,13 +49,6 @@ pub column-at : (n : ℕ) (cols : List Column) (s : List ℕ) (c : ℕ) (d : Col
     → getD (sheetSlots n cols s) c [] ≡ columnSlots (layout (getD cols c d)) n (drop (place n cols s c) s)
 column-at n cols s c d l = column-from n 0 cols s c d l
 
--- slot r of column c
-pub slot-at-place : (n : ℕ) (cols : List Column) (s : List ℕ) (c r : ℕ) (d : Column) → c < length cols → r < n
-    → getD (getD (sheetSlots n cols s) c []) r none ≡ slotAt (layout (getD cols c d)) n (drop (place n cols s c) s) r
-slot-at-place n cols s c r d l m =
-    ap (λ (ss : List Slot). getD ss r none) (column-at n cols s c d l)
-    ∙ each-at n (slotAt (layout (getD cols c d)) n (drop (place n cols s c) s)) none r m
-
 -- ---- a sheet that passes
 
 -- each column passes at its place, and ends within the sheet
@@ -88,15 +78,3 @@ pub column-stands : (n : ℕ) (cols : List Column) (s : List ℕ) (c : ℕ) (d :
     → Stands (getD cols c d) n c (place n cols s c) s
 unfolding sheetFault
 column-stands n cols s c d e l = rw zero-add at (stands-from n 0 0 cols s c d (omega arith) e l)
-
-last-from : (n c at : ℕ) (cols : List Column) (s : List ℕ) → at ≤ length s → sheetFaultFrom n c at cols (drop at s) ≡ Pass
-    → placeFrom n at cols s (length cols) ≡ length s
-last-from n c at [] s l e = omega (arith, enough 0 (length (drop at s)) _ _ e .0, length-drop at s)
-last-from n c at (col ∷ cols) s l e =
-    let p = first-stands n c at col cols s l e in
-    last-from n (suc c) (at + columnBytes (layout col) n (drop at s)) cols s (p .0 .room) (p .1)
-
--- the last column ends with the sheet
-pub place-last : (n : ℕ) (cols : List Column) (s : List ℕ) → sheetFault n cols s ≡ Pass → place n cols s (length cols) ≡ length s
-unfolding sheetFault
-place-last n cols s e = last-from n 0 0 cols s (omega arith) e

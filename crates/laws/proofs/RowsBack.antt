@@ -8,20 +8,19 @@ use lib.Seq.{length-take-le}
 use Rattle.format.specs.declared.Check.the-variants.{Pass}
 use Rattle.format.specs.declared.Column.{Column}
 use Rattle.format.specs.Limits.{maxTotal}
-use Rattle.format.specs.Lists.{Bytes, each, endsFrom, joined, sum}
+use Rattle.format.specs.Lists.{Bytes, endsFrom, joined}
 use Rattle.format.specs.Kinds.{Slot}
 use Rattle.format.specs.Fits.{RowFits, SheetFits}
 use Rattle.format.specs.Row.{row}
-use Rattle.format.specs.Sheet.{layout, sheetSlots, nullsIn, nulls, turned}
+use Rattle.format.specs.Sheet.{sheetSlots, turned}
 use Rattle.format.specs.Cleared.{clearedSheet}
 use Rattle.format.specs.Read.{rowFault, rowSlots, rowsFault}
-use Rattle.format.specs.Entries.{sheetRows, sheetTotal, rowBytes, cutRows, rowsSlots, decodedSheet}
-use Rattle.basics.proofs.Lists.{Every, length-each, map-each, map-is}
+use Rattle.format.specs.Entries.{sheetRows, sheetTotal, cutRows, rowsSlots, decodedSheet}
+use Rattle.basics.proofs.Lists.{Every, length-each}
 use Rattle.basics.proofs.Checks.{both-pass, pass-both}
 use Rattle.laws.proofs.Sheets.{sheet-fits}
 use Rattle.laws.proofs.Turned.{turned-turned, rows-many, rows-fit, sheet-count, rows-count, columns-fit}
 use Rattle.laws.proofs.Cleared.{cleared-passes, cleared-slots}
-use Rattle.laws.proofs.Room.{frame, rowAdded, cleared-length, turned-nulls}
 use Rattle.laws.proofs.Cuts.{written-cuts, written-rows, cut-bytes, cut-joined, cut-ends}
 use Rattle.laws.proofs.Accept.{Accepted, Readable}
 use Rattle.laws.proofs.ReadRow.{row-passes, row-slots, passed-row}
@@ -139,20 +138,3 @@ module _ (cols : List Column) (n : ℕ) (bytes offsets : List ℕ) (b : Bytes by
     passes = cleared-passes n cols (rowsSlots cols cut) (r .few) read-fits;
     small = omega (arith, out-total, r .cuts .small);
   }
-
-  -- a number of each row
-  each-row : (f : List Slot → ℕ) → map f read ≡ each 0 n (λ r. f (rowSlots cols (rowBytes bytes offsets r)))
-  each-row f = ap (map f) (map-each (rowSlots cols) 0 n (rowBytes bytes offsets)) ∙ map-each f 0 n (λ r. rowSlots cols (rowBytes bytes offsets r))
-
-  -- how long it is: each column its frame, and what each row adds
-  pub out-length : (d : Column)
-      → length out
-      ≡ sum (each 0 (length cols) (λ c. frame (layout (getD cols c d)) n)) + sum (each 0 n (λ r. rowAdded cols (rowSlots cols (rowBytes bytes offsets r))))
-  out-length d =
-      cleared-length n cols read (r .few) count (passed .1)
-      ∙ ap₂ (λ (x y : List ℕ). sum x + sum y) (map-is (λ col. frame (layout col) n) cols d)
-      (each-row (rowAdded cols))
-
-  -- its nulls, row by row
-  pub out-nulls : nulls (rowsSlots cols cut) ≡ sum (each 0 n (λ r. nullsIn (rowSlots cols (rowBytes bytes offsets r))))
-  out-nulls = turned-nulls cols read (passed .1) ∙ ap sum (each-row nullsIn)

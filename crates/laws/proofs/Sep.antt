@@ -98,9 +98,6 @@ ranks-apart {o} {f} {g} k d = (
   λ b. d (tie k (subst (λ (z : List ℕ). sep z g ≡ eq) (b .1) (sep-begun g (b .0)))),
 )
 
-pub ranks-nil : Ranks eq [] []
-ranks-nil = record { first = refl; alike = λ e. refl }
-
 pub ranks-self : (f : List ℕ) → Ranks eq f f
 ranks-self f = record { first = sep-self f; alike = λ e. refl }
 
