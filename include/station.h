@@ -1,9 +1,20 @@
-/* The row station: sheets of columns to sortable rows, and back. Link target/staticlib/libstation_c.a,
- * which `rt staticlib station_c` makes (x86-64 Linux).
+/* The row station: sheets of columns to sortable rows, and back. Link libstation.a or libstation.so of a
+ * release, which `tools/release` makes, or target/staticlib/libstation_c.a, which `rt staticlib station_c`
+ * makes (x86-64 Linux).
  *
- * A slice is a pointer and a length in bytes. No two slices that are lent to one call may overlap, unless
- * neither is written. A pointer must not be null, even where its length is 0. Nothing is kept after a call,
- * nothing is allocated, and calls on different buffers may run at the same time.
+ * A slice is a pointer and a length in bytes. A slice of length 0 may have any pointer, null too: nothing
+ * is read or written there. Every byte and every number may be anything. A caller owes three things, which
+ * no call can check:
+ *
+ *   - A slice of one byte or more is memory that may be read, and written where its pointer is not const,
+ *     and at most PTRDIFF_MAX bytes long. While the call runs, no other thread writes to it, nor reads it
+ *     if it is written.
+ *   - A slice whose pointer is not const shares no byte with another slice of the same call.
+ *   - As many bytes of stack are left as the entry's STATION_..._STACK says.
+ *
+ * Nothing is kept after a call, nothing is allocated, and calls on different buffers may run at the same
+ * time. A refused call stores nothing but its answer, not even the bytes that are there already; encode
+ * does not read what rows and offsets hold.
  *
  * list     For each column a byte of kind and a byte of options, and for kind 15 also the width in two
  *          bytes, low byte first (0 to 1,024). Options: bit 0 descending, bit 1 nulls first, the others
@@ -77,6 +88,22 @@ extern "C" {
 #endif
 
 enum { STATION_ANSWER_BYTES = 24 };
+
+/* The most bytes of stack that a call takes, from its return address down, whatever it is given. What the C
+ * library's memcpy and memset take of it is counted. */
+enum {
+    STATION_CHECK_LIST_STACK = 1024,
+    STATION_MEASURE_STACK = 5120,
+    STATION_ENCODE_STACK = 38912,
+    STATION_DECODE_STACK = 67584,
+    STATION_COMPARE_STACK = 64
+};
+
+/* The edition that this header describes, 0.1.0: 1,000,000 times the major, 1,000 times the minor, and the patch. */
+enum { STATION_VERSION = 1000 };
+
+/* The edition of the library that is linked, as STATION_VERSION has it. */
+uint64_t station_version(void);
 
 /* Checks a list. Total: columns. */
 void station_check_list(const uint8_t *list, size_t list_len, uint8_t *answer, size_t answer_len);

@@ -2,6 +2,7 @@
 
 use crate::hex::hex_start;
 use crate::model::{self, Checked, Numbers};
+use crate::stack::{self, Stacks, WORDS};
 use crate::trap;
 use crate::yard::{Lend, Yard};
 use station::raw;
@@ -36,6 +37,17 @@ impl Entry {
         }
     }
 
+    /// The C entry itself.
+    fn function(self) -> *const () {
+        match self {
+            Entry::CheckList => raw::station_check_list as *const (),
+            Entry::Measure => raw::station_measure as *const (),
+            Entry::Encode => raw::station_encode as *const (),
+            Entry::Decode => raw::station_decode as *const (),
+            Entry::Compare => raw::station_compare as *const (),
+        }
+    }
+
     /// The names of the slices that the entry reads, and of those that it writes to.
     fn arguments(self) -> (&'static [&'static str], &'static [&'static str]) {
         match self {
@@ -65,6 +77,15 @@ pub struct Exit {
     pub lent: Vec<Vec<u8>>,
     pub answer: Vec<u8>,
     pub sign: i32,
+}
+
+/// How the slices of a call are lent. Those that are only read are always shut.
+#[derive(Clone, Copy)]
+pub struct Lending {
+    /// Slices of no bytes are null pointers.
+    pub nulls: bool,
+    /// Slices lent for writing are shut too: the call must leave them as they are.
+    pub shut: bool,
 }
 
 /// What a lent slice holds at first: bytes that differ from their neighbours, and from zeros.
@@ -123,6 +144,13 @@ impl Call {
         self
     }
 
+    /// Whether a slice has no bytes.
+    pub fn has_empty(&self) -> bool {
+        let given = self.given.iter().map(Vec::len);
+        let mut all = given.chain(self.lent.iter().copied()).chain([self.answer]);
+        all.any(|len| len == 0)
+    }
+
     /// The bytes that are read, to tell small inputs from large ones.
     pub fn size(&self) -> usize {
         self.given.iter().map(Vec::len).sum()
@@ -174,17 +202,43 @@ impl Call {
         Exit { lent, answer, sign }
     }
 
-    /// What the station leaves behind; a fault if it touched anything else.
-    pub fn performed(&self, yard: &mut Yard) -> Result<Exit, String> {
-        let given: Vec<Lend> = self.given.iter().map(|bytes| yard.lend(bytes)).collect();
-        let lent = self.lent.iter().map(|len| yard.lend(&junk(*len)));
+    /// What the station leaves behind; a fault if it touched anything else. The call runs on the
+    /// entry's own stack, if there are such.
+    pub fn performed(
+        &self,
+        yard: &mut Yard,
+        stacks: Option<&mut Stacks>,
+        lending: Lending,
+    ) -> Result<Exit, String> {
+        let mut lend = |bytes: &[u8], shut: bool| {
+            if lending.nulls && bytes.is_empty() {
+                return Lend::NULL;
+            }
+            let lend = yard.lend(bytes);
+            if shut {
+                yard.shut(lend);
+            }
+            lend
+        };
+        let given: Vec<Lend> = self.given.iter().map(|bytes| lend(bytes, true)).collect();
+        let lent = self.lent.iter().map(|len| lend(&junk(*len), lending.shut));
         let lent: Vec<Lend> = lent.collect();
-        let answer = yard.lend(&junk(self.answer));
-        let sign = trap::during(self, || self.enter(&given, &lent, answer));
+        let answer = lend(&junk(self.answer), self.answer < station::ANSWER_BYTES);
+        let (function, words) = (self.entry.function(), self.words(&given, &lent, answer));
+        // SAFETY: each pointer comes with the length of its own slice, and no two overlap.
+        let returned = trap::during(self, || unsafe {
+            match stacks {
+                Some(stacks) => stacks.call(self.entry, function, words),
+                None => stack::call_here(function, words),
+            }
+        });
         let exit = Exit {
             lent: lent.iter().map(|l| yard.bytes(*l).to_vec()).collect(),
             answer: yard.bytes(answer).to_vec(),
-            sign,
+            sign: match self.entry {
+                Entry::Compare => returned as i32,
+                _ => 0,
+            },
         };
         let mut kept = given.iter().zip(&self.given);
         let changed = kept.any(|(lend, before)| yard.bytes(*lend) != before);
@@ -195,30 +249,20 @@ impl Call {
         }
     }
 
-    /// The call itself.
-    fn enter(&self, g: &[Lend], l: &[Lend], a: Lend) -> i32 {
-        let n = self.n;
-        // SAFETY: each pointer comes with the length of its own slice, and no two overlap.
-        unsafe {
-            match self.entry {
-                Entry::CheckList => raw::station_check_list(g[0].at, g[0].len, a.at, a.len),
-                Entry::Measure => {
-                    raw::station_measure(g[0].at, g[0].len, n, g[1].at, g[1].len, a.at, a.len)
-                }
-                Entry::Encode => raw::station_encode(
-                    g[0].at, g[0].len, n, g[1].at, g[1].len, l[0].at, l[0].len, l[1].at, l[1].len,
-                    a.at, a.len,
-                ),
-                Entry::Decode => raw::station_decode(
-                    g[0].at, g[0].len, n, g[1].at, g[1].len, g[2].at, g[2].len, l[0].at, l[0].len,
-                    a.at, a.len,
-                ),
-                Entry::Compare => {
-                    return raw::station_compare(g[0].at, g[0].len, g[1].at, g[1].len)
-                }
-            }
+    /// What the C entry is given: each slice as a pointer and a length, the number of rows after the
+    /// list, the answer last. Words past its own it does not see.
+    fn words(&self, given: &[Lend], lent: &[Lend], answer: Lend) -> [u64; WORDS] {
+        let slice = |lend: &Lend| [lend.at as u64, lend.len as u64];
+        let mut words: Vec<u64> = slice(&given[0]).to_vec();
+        if !matches!(self.entry, Entry::CheckList | Entry::Compare) {
+            words.push(self.n);
         }
-        0
+        words.extend(given[1..].iter().chain(lent).flat_map(slice));
+        if self.entry != Entry::Compare {
+            words.extend(slice(&answer));
+        }
+        words.resize(WORDS, 0);
+        words.try_into().expect("as many")
     }
 }
 
@@ -233,6 +277,16 @@ impl fmt::Display for Call {
             write!(f, " room for {name} {len}")?;
         }
         write!(f, " room for the answer {}", self.answer)
+    }
+}
+
+impl Exit {
+    /// Whether nothing but the answer may have been written: a refusal, or an answer that is too short.
+    pub fn is_refusal(&self) -> bool {
+        match numbers(&self.answer)[..] {
+            [number, _, _, ..] => number != 0,
+            _ => true,
+        }
     }
 }
 

@@ -1,11 +1,12 @@
 //! Holds the station against the crate and the model, counts, and reports the smallest failure.
 
-use crate::call::{eights, junk, numbers, Call, Entry, Exit, ENTRIES};
+use crate::call::{eights, junk, numbers, Call, Entry, Exit, Lending, ENTRIES};
 use crate::crate_side;
 use crate::hex::hex_start;
 use crate::model;
 use crate::order::row_order;
 use crate::shrink::{shrunk_call, shrunk_table};
+use crate::stack::{self, Stacks};
 use crate::table::Table;
 use crate::yard::Yard;
 use std::process::ExitCode;
@@ -26,6 +27,8 @@ struct Tally {
     calls: [u64; ENTRIES.len()],
     answers: [u64; ANSWERS],
     short_answers: u64,
+    null_calls: u64,
+    refusals: u64,
 }
 
 /// An input that fails, with what was wrong when it was found.
@@ -47,6 +50,8 @@ impl Failing {
 
 pub struct Judge {
     yard: Yard,
+    /// A stack for each entry; none where the slices lie on the heap, for a checker of memory.
+    stacks: Option<Stacks>,
     tally: Tally,
     started: Instant,
     shown: Instant,
@@ -57,6 +62,7 @@ pub struct Judge {
 impl Judge {
     pub fn new(yard: Yard) -> Judge {
         Judge {
+            stacks: yard.is_fenced().then(Stacks::painted),
             yard,
             tally: Tally::default(),
             started: Instant::now(),
@@ -105,12 +111,26 @@ impl Judge {
         }
     }
 
+    /// A slice of no bytes is lent as a place first, and then as a null pointer. Where the call must
+    /// refuse, all but the answer is shut.
     fn hold(&mut self, call: &Call) -> Result<(), String> {
         let expected = call.expected();
         self.count(call.entry, &expected);
-        let exit = call.performed(&mut self.yard)?;
-        ensure(exit == expected, || {
-            format!("document 01: {expected}\n  the station: {exit}")
+        let shut = call.entry != Entry::Compare && expected.is_refusal();
+        self.tally.refusals += shut as u64;
+        self.hold_lent(call, &expected, Lending { nulls: false, shut })?;
+        if call.has_empty() {
+            self.tally.null_calls += 1;
+            self.hold_lent(call, &expected, Lending { nulls: true, shut })?;
+        }
+        Ok(())
+    }
+
+    fn hold_lent(&mut self, call: &Call, expected: &Exit, lending: Lending) -> Result<(), String> {
+        let exit = call.performed(&mut self.yard, self.stacks.as_mut(), lending)?;
+        ensure(exit == *expected, || {
+            let nulls = if lending.nulls { ", null pointers" } else { "" };
+            format!("document 01: {expected}\n  the station{nulls}: {exit}")
         })
     }
 
@@ -177,6 +197,7 @@ impl Judge {
         self.ensure(unseen.is_empty(), || {
             format!("no call was answered with {unseen:?}")
         });
+        self.hold_stacks();
         self.print_tally();
         match self.smallest.take() {
             None => {
@@ -191,6 +212,28 @@ impl Judge {
         }
     }
 
+    /// No call took more stack than the header says, and the README says the same.
+    fn hold_stacks(&mut self) {
+        let Some(stacks) = self.stacks.take() else {
+            return;
+        };
+        let mut figures = Vec::new();
+        for entry in ENTRIES {
+            let (taken, promised) = (stacks.deepest(entry), stack::promised(entry));
+            figures.push(format!("{} {taken} of {promised}", entry.name()));
+            self.ensure(taken <= promised, || {
+                format!(
+                    "{} took {taken} bytes of stack, over the {promised} that station.h says",
+                    entry.name()
+                )
+            });
+            self.ensure(stack::is_in_readme(entry), || {
+                format!("the README says another stack of {}", entry.name())
+            });
+        }
+        println!("most bytes of stack: {}", figures.join(", "));
+    }
+
     fn print_tally(&self) {
         let tally = &self.tally;
         if tally.tables > 0 {
@@ -201,7 +244,12 @@ impl Judge {
         }
         let calls = ENTRIES.iter().zip(tally.calls);
         let calls: Vec<String> = calls.map(|(e, n)| format!("{} {n}", e.name())).collect();
-        println!("fenced calls: {}", calls.join(", "));
+        println!(
+            "fenced calls: {}; refused, with what must stay shut: {}; again with null pointers: {}",
+            calls.join(", "),
+            tally.refusals,
+            tally.null_calls
+        );
         let answers = tally.answers.iter().enumerate().filter(|(_, n)| **n > 0);
         let answers: Vec<String> = answers.map(|(i, n)| format!("{i}: {n}")).collect();
         println!(

@@ -22,6 +22,7 @@ pub mod refusals;
 pub mod rng;
 pub mod sample;
 pub mod shrink;
+pub mod stack;
 pub mod sweeps;
 pub mod table;
 pub mod trap;

@@ -158,6 +158,48 @@ pub fn rooms(judge: &mut Judge, rng: &mut Rng) {
     }
 }
 
+/// Every entry with slices of no bytes, in every choice of them. Each such slice is lent as a null
+/// pointer too ([`Judge::call`]).
+pub fn empty(judge: &mut Judge) {
+    let names = one_slot_each(Column::new(VARIABLE, 2), &[Some(b"a"), None]);
+    let good = Good::of(&names);
+    let calls = [
+        Call::check_list(&good.list),
+        Call::measure(&good.list, good.n, &good.sheet),
+        good.encode(),
+        good.decode(),
+        Call::compare(good.row(0), good.row(1)),
+        // No rows: nothing is refused, though slices are empty.
+        Call::encode(&good.list, 0, &[0; 4], 0, 8),
+        Call::decode(&good.list, 0, &[], &[0; 8], 4),
+        Call::measure(&[1, 0], 0, &[]),
+        Call::encode(&[1, 0], 0, &[], 0, 8),
+        Call::decode(&[1, 0], 0, &[], &[0; 8], 0),
+    ];
+    for call in calls {
+        let slices = call.given.len() + call.lent.len() + 1;
+        for choice in 0..1 << slices {
+            judge.call(emptied(&call, choice));
+        }
+    }
+}
+
+/// A call with its chosen slices emptied: bit i of the choice is for slice i, the answer's the last.
+fn emptied(call: &Call, choice: usize) -> Call {
+    let mut call = call.clone();
+    let given = call.given.len();
+    for i in (0..given + call.lent.len() + 1).filter(|i| choice >> i & 1 == 1) {
+        if i < given {
+            call.given[i].clear();
+        } else if let Some(room) = call.lent.get_mut(i - given) {
+            *room = 0;
+        } else {
+            call.answer = 0;
+        }
+    }
+    call
+}
+
 /// Random damage to random tables.
 pub fn damaged(judge: &mut Judge, rng: &mut Rng, count: usize) {
     for i in 0..count {

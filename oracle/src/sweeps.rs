@@ -53,6 +53,16 @@ pub fn tables(judge: &mut Judge, rng: &mut Rng, count: usize) {
     }
 }
 
+/// As many rows as there may be, of all kinds together: what every entry takes of its stack then is
+/// seen in the end ([`crate::stack`]).
+pub fn full(judge: &mut Judge, rng: &mut Rng) {
+    for options in make::OPTIONS {
+        judge.progress("4,096 rows", options as usize, 4);
+        let columns = make::first_columns(16, options);
+        judge.table(&make::table_of(rng, MAX_ROWS as usize, columns));
+    }
+}
+
 /// Row bytes at 16,777,216 and one over, in encode and in decode.
 pub fn ceiling(judge: &mut Judge, rng: &mut Rng) {
     judge.progress("row bytes at the ceiling", 0, 1);

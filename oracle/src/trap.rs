@@ -1,5 +1,5 @@
-//! What happens when the station touches a page that fences a lent slice: the call is printed, and
-//! the program ends.
+//! What happens when the station touches a page that fences a lent slice, or writes to a slice that is
+//! shut: the call is printed, and the program ends.
 
 use crate::call::Call;
 use std::ffi::c_int;
@@ -16,7 +16,8 @@ const SIGSEGV: c_int = 11;
 /// The call that is under way.
 static CURRENT: AtomicPtr<Call> = AtomicPtr::new(null_mut());
 
-/// Prints the call that is under way, should it touch a fence. To be asked for once.
+/// Prints the call that is under way, should it touch a fence or write to a slice that is shut. To be
+/// asked for once.
 pub fn watch() {
     // SAFETY: the handler does not return, so it need not leave anything as it was.
     unsafe { signal(SIGSEGV, caught) };
@@ -35,7 +36,9 @@ extern "C" fn caught(_signal: c_int) {
     // runs, and no lock on standard error is held while the station runs.
     unsafe {
         match CURRENT.load(Ordering::SeqCst).as_ref() {
-            Some(call) => eprintln!("MEMORY OUTSIDE A LENT SLICE WAS TOUCHED\n  {call}"),
+            Some(call) => eprintln!(
+                "MEMORY OUTSIDE A LENT SLICE WAS TOUCHED, OR A SLICE THAT MUST STAY WRITTEN TO\n  {call}"
+            ),
             None => eprintln!("memory fault outside the station"),
         }
         _exit(1)

@@ -2,7 +2,9 @@
 //!
 //! Each slice lies in a pen of its own, flush against a page that may not be touched, now at its
 //! start and now at its end: a read or a write past that side stops the program at once (see
-//! [`crate::trap`]). On the other side stand guard bytes, which are looked at after the call.
+//! [`crate::trap`]). On the other side stand guard bytes, which are looked at after the call. A slice
+//! that must stay as it is can be shut: then a write to it stops the program too, even one of the
+//! byte that is there.
 
 use std::ffi::{c_int, c_void};
 
@@ -28,6 +30,7 @@ extern "C" {
 }
 
 const PROT_NONE: c_int = 0;
+const PROT_READ: c_int = 1;
 const PROT_READ_WRITE: c_int = 1 | 2;
 /// Private, anonymous, with no memory set aside (Linux).
 const MAP_FLAGS: c_int = 0x02 | 0x20 | 0x4000;
@@ -39,13 +42,21 @@ pub struct Lend {
     pub len: usize,
 }
 
+impl Lend {
+    /// No bytes, at no place.
+    pub const NULL: Lend = Lend {
+        at: std::ptr::null_mut(),
+        len: 0,
+    };
+}
+
 /// `PEN` bytes between two pages that trap.
-struct Pen {
+pub struct Pen {
     start: *mut u8,
 }
 
 impl Pen {
-    fn new() -> Pen {
+    pub fn new() -> Pen {
         // SAFETY: a fresh mapping, of which the pages between the first and the last are opened.
         unsafe {
             let len = PEN + 2 * PAGE;
@@ -70,13 +81,13 @@ impl Pen {
         }
     }
 
-    fn part(&self, from: usize, len: usize) -> &[u8] {
+    pub fn part(&self, from: usize, len: usize) -> &[u8] {
         assert!(from + len <= PEN);
         // SAFETY: inside the pen, which lives as long as the program; mapped memory starts as zeros.
         unsafe { std::slice::from_raw_parts(self.start.add(from), len) }
     }
 
-    fn part_mut(&mut self, from: usize, len: usize) -> &mut [u8] {
+    pub fn part_mut(&mut self, from: usize, len: usize) -> &mut [u8] {
         assert!(from + len <= PEN);
         // SAFETY: as in `part`, and the pen is borrowed alone.
         unsafe { std::slice::from_raw_parts_mut(self.start.add(from), len) }
@@ -88,6 +99,8 @@ pub struct Yard {
     pens: Vec<Pen>,
     /// Where the guard bytes of each pen in use start.
     guards: Vec<usize>,
+    /// The pages that are shut.
+    shut: Vec<Lend>,
     turn: usize,
     /// In place of pens: blocks of the heap, each exactly as long as its slice.
     blocks: Option<Vec<Box<[u8]>>>,
@@ -99,6 +112,7 @@ impl Yard {
         Yard {
             pens: (0..PENS).map(|_| Pen::new()).collect(),
             guards: Vec::new(),
+            shut: Vec::new(),
             turn: 0,
             blocks: None,
         }
@@ -109,9 +123,15 @@ impl Yard {
         Yard {
             pens: Vec::new(),
             guards: Vec::new(),
+            shut: Vec::new(),
             turn: 0,
             blocks: Some(Vec::new()),
         }
+    }
+
+    /// Whether slices lie in pens.
+    pub fn is_fenced(&self) -> bool {
+        self.blocks.is_none()
     }
 
     /// Lends a copy of the bytes until [`Yard::take_back`].
@@ -135,8 +155,26 @@ impl Yard {
         Lend { at, len }
     }
 
+    /// Shuts a lent slice: until it is taken back, its pages can only be read. On the heap, where
+    /// blocks share pages, nothing happens.
+    pub fn shut(&mut self, lend: Lend) {
+        if self.blocks.is_some() || lend.len == 0 {
+            return;
+        }
+        let before = lend.at as usize % PAGE;
+        let pages = Lend {
+            at: lend.at.wrapping_sub(before),
+            len: (before + lend.len).next_multiple_of(PAGE),
+        };
+        protect(pages, PROT_READ);
+        self.shut.push(pages);
+    }
+
     /// What a lent slice holds now.
     pub fn bytes(&self, lend: Lend) -> &[u8] {
+        if lend.len == 0 {
+            return &[];
+        }
         // SAFETY: `lend` came from this yard and has not been taken back.
         unsafe { std::slice::from_raw_parts(lend.at, lend.len) }
     }
@@ -146,6 +184,9 @@ impl Yard {
         if let Some(blocks) = &mut self.blocks {
             blocks.clear();
         }
+        for pages in self.shut.drain(..) {
+            protect(pages, PROT_READ_WRITE);
+        }
         let mut kept = self.pens.iter().zip(&self.guards);
         let trespass = kept.any(|(pen, guard)| pen.part(*guard, ZONE).iter().any(|b| *b != GUARD));
         self.guards.clear();
@@ -154,6 +195,13 @@ impl Yard {
             false => Ok(()),
         }
     }
+}
+
+/// Says what may be done with pages of a pen.
+fn protect(pages: Lend, protection: c_int) {
+    // SAFETY: whole pages of a pen, which nothing but the yard and the call under way uses.
+    let done = unsafe { mprotect(pages.at.cast(), pages.len, protection) };
+    assert!(done == 0, "the pages of a slice stay as they were");
 }
 
 #[cfg(test)]
@@ -179,6 +227,17 @@ mod tests {
                 *beside = if turn % 2 == 0 { 7 } else { GUARD };
             }
             assert_eq!(yard.take_back().is_err(), turn % 2 == 0);
+        }
+    }
+
+    #[test]
+    fn a_shut_slice_is_read_and_opens_again() {
+        let mut yard = Yard::fenced();
+        for turn in 0..8 {
+            let lend = yard.lend(&[turn; 5000]);
+            yard.shut(lend);
+            assert_eq!(yard.bytes(lend), [turn; 5000]);
+            assert!(yard.take_back().is_ok());
         }
     }
 

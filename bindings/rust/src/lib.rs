@@ -32,10 +32,13 @@ use std::cmp::Ordering;
 
 /// The C entries as they stand in the archive, for callers that lend bytes themselves.
 ///
-/// A slice is a pointer and a length. Offsets and the answer are bytes, eight a number, low byte
-/// first; `include/station.h` gives the layout of every argument.
+/// A slice is a pointer and a length; one of length 0 may have a null pointer. Offsets and the answer
+/// are bytes, eight a number, low byte first. `include/station.h` gives the layout of every argument,
+/// what a caller owes, and how much stack each entry takes.
 pub mod raw {
     extern "C" {
+        /// The edition of the archive.
+        pub fn station_version() -> u64;
         /// Checks a column list.
         pub fn station_check_list(
             list: *const u8,
@@ -252,6 +255,12 @@ pub fn decode(list: &[u8], n: u64, rows: &[u8], offsets: &[u64], sheet: &mut [u8
 pub fn compare(a: &[u8], b: &[u8]) -> Ordering {
     // SAFETY: each pointer comes with the length of its slice.
     unsafe { raw::station_compare(a.as_ptr(), a.len(), b.as_ptr(), b.len()) }.cmp(&0)
+}
+
+/// The edition of the archive: 1,000,000 times the major, 1,000 times the minor, and the patch.
+pub fn version() -> u64 {
+    // SAFETY: it takes nothing.
+    unsafe { raw::station_version() }
 }
 
 /// [`encode`] into buffers of exactly the right size.

@@ -94,6 +94,32 @@ fn every_reason_reads_well() {
 }
 
 #[test]
+fn null_pointers_are_empty_slices() {
+    use std::ptr::{null, null_mut};
+    let (none, nowhere) = (null(), null_mut());
+    let empty_list = refused(1, 0, 0);
+    // SAFETY: each slice has no bytes, or is the answer, which is borrowed alone.
+    unsafe {
+        let checked = answered(|a| raw::station_check_list(none, 0, a.as_mut_ptr(), a.len()));
+        assert_eq!(checked, empty_list);
+        let measured =
+            answered(|a| raw::station_measure(none, 0, 0, none, 0, a.as_mut_ptr(), a.len()));
+        assert_eq!(measured, empty_list);
+        let encoded = answered(|a| {
+            let (answer, len) = (a.as_mut_ptr(), a.len());
+            raw::station_encode(none, 0, 0, none, 0, nowhere, 0, nowhere, 0, answer, len)
+        });
+        assert_eq!(encoded, empty_list);
+        let decoded = answered(|a| {
+            let (answer, len) = (a.as_mut_ptr(), a.len());
+            raw::station_decode(none, 0, 0, none, 0, none, 0, nowhere, 0, answer, len)
+        });
+        assert_eq!(decoded, empty_list);
+        assert_eq!(raw::station_compare(none, 0, none, 0), 0);
+    }
+}
+
+#[test]
 fn rows_compare_as_bytes() {
     let samples: [&[u8]; 6] = [&[], &[0], &[0, 0], &[1], &[0x7F, 9], &[0x80]];
     for a in samples {
@@ -101,4 +127,16 @@ fn rows_compare_as_bytes() {
             assert_eq!(compare(a, b), a.cmp(b));
         }
     }
+}
+
+#[test]
+fn the_archive_is_of_this_edition() {
+    let number = version();
+    let spelled = format!(
+        "{}.{}.{}",
+        number / 1_000_000,
+        number / 1000 % 1000,
+        number % 1000
+    );
+    assert_eq!(spelled, env!("CARGO_PKG_VERSION"));
 }

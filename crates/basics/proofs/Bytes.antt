@@ -1,6 +1,6 @@
 -- Bytes stay bytes, and keys keep their length: under joining, cutting, reversing, inverting and the keys.
 use Prim.Native.Nat.{ℕ, zero, suc, _+_, _-_, _<_, _≤_}
-use mathlib.Core.Path.{_≡_, refl, ap, _∙_}
+use mathlib.Core.Path.{_≡_, refl, ap, ap₂, _∙_}
 use mathlib.Core.Bool.{Bool, true, false, cond}
 use mathlib.Core.List.{List, [], _∷_, _++_, reverse, reverse-cons}
 use mathlib.Core.Logic.{_⊎_, inl, inr}
@@ -50,6 +50,11 @@ pub bytes-invert : (f : List ℕ) → Bytes (inverted f)
 bytes-invert [] = tt
 bytes-invert (x ∷ xs) = (omega (arith, sub-le 255 x), bytes-invert xs)
 
+-- inverted twice they are the same
+pub invert-invert : (f : List ℕ) → Bytes f → inverted (inverted f) ≡ f
+invert-invert [] b = refl
+invert-invert (x ∷ xs) b = ap₂ {C = List ℕ} (λ a r. a ∷ r) (omega arith) (invert-invert xs (b .1))
+
 pub length-topFlipped : (f : List ℕ) → length (topFlipped f) ≡ length f
 length-topFlipped [] = refl
 length-topFlipped (x ∷ xs) = refl
@@ -88,15 +93,16 @@ long-signed a = length-topFlipped (reverse a) ∙ length-reverse a
 pub long-float : (a : List ℕ) → length (floatKey a) ≡ length a
 long-float a = length-topFlipped (restInverted (reverse a)) ∙ length-restInverted (reverse a) ∙ length-reverse a
 
-pub bytes-signed : (a : List ℕ) → Bytes a → Bytes (signedKey a)
+bytes-signed : (a : List ℕ) → Bytes a → Bytes (signedKey a)
 bytes-signed a b = bytes-topFlipped (reverse a) (bytes-reverse a b)
 
-pub bytes-float : (a : List ℕ) → Bytes a → Bytes (floatKey a)
+bytes-float : (a : List ℕ) → Bytes a → Bytes (floatKey a)
 bytes-float a b = bytes-topFlipped (restInverted (reverse a)) (bytes-restInverted (reverse a) (bytes-reverse a b))
 
 bytes-parts : (ns v : List ℕ) → Bytes v → Bytes (partsKey ns v)
 bytes-parts [] v b = tt
-bytes-parts (n ∷ ns) v b = bytes-append (signedKey (take n v)) (partsKey ns (drop n v)) (bytes-signed (take n v) (bytes-take n v b)) (bytes-parts ns (drop n v) (bytes-drop n v b))
+bytes-parts (n ∷ ns) v b = bytes-append (signedKey (take n v)) (partsKey ns (drop n v)) (bytes-signed (take n v) (bytes-take n v b))
+    (bytes-parts ns (drop n v) (bytes-drop n v b))
 
 -- ---- one column
 pub bytes-key : (k : Fixed) (v : List ℕ) → Bytes v → Bytes (key k v)

@@ -110,7 +110,7 @@ neither kind b v = go (sort kind)
 abbrev pub fixedKeys : List ℕ
 fixedKeys = each 0 15 (λ k. k)
 
-abbrev pub otherKeys : List ℕ
+abbrev otherKeys : List ℕ
 otherKeys = each 1 15 (λ k. k)
 
 abbrev pub wideKeys : List ℕ

@@ -1,2 +1,3 @@
--- Which kinds a function is for.
+-- What contracts of several crates cite beside crate format's definitions.
 pub mod Wide
+pub mod Wrote

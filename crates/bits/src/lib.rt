@@ -1,10 +1,20 @@
-// Bits packed in bytes, least bit first: taken out and put in by shifts and masks, counted, and looked at past the last row.
+// Bits packed in bytes, least bit first: how many bytes, taken out and put in by shifts and masks, counted, and looked at
+// past the last row.
 ghost use mathlib.Core.Path.{_≡_};
 ghost use mathlib.Core.Bool.{cond};
 ghost use Prim.Native.Nat.{_+_, _*_, _/_, _^_, _<_, _≤_};
 ghost use lib.ListN.{length, take};
-ghost use Rattle.format.specs.Sheet.{packed, bit as bitOf, spareSet};
+ghost use Rattle.format.specs.Limits.{maxRows};
+ghost use Rattle.format.specs.Sheet.{packed as packedFor, bit as bitOf, spareSet};
 ghost use Rattle.bits.specs.Ones.{onesIn};
+
+// The bytes that the bits of n rows are packed in.
+pub fn packed(n: usize) -> usize
+    requires { ⌜ n ≤ maxRows ⌝ }
+    ensures { λ r. ⌜ (r ≡ packedFor n) × (r ≤ packedFor maxRows) ⌝ }
+{
+    (n + 7) / 8
+}
 
 // The bit of row i: bit i mod 8 of byte i div 8.
 pub fn bit(s: &[u8], i: usize) -> bool
@@ -25,7 +35,7 @@ pub fn put_bit(b: u8, k: u8, on: bool) -> u8
 
 // The ones of all bytes: at most eight for each.
 pub fn count_ones(s: &[u8]) -> usize
-    requires { ⌜ length (now s) ≤ 512 ⌝ }
+    requires { ⌜ length (now s) ≤ packedFor maxRows ⌝ }
     ensures { λ r. ⌜ r ≡ onesIn (now (s .entry)) ⌝ }
     ensures { λ r. ⌜ r ≤ 8 * length (now (s .entry)) ⌝ }
 {
@@ -40,8 +50,8 @@ pub fn count_ones(s: &[u8]) -> usize
 
 // Whether a bit past row n is set in the packed bits of n rows: those bits are what is left of the last byte above its rows.
 pub fn spare(s: &[u8], n: usize) -> bool
-    requires { ⌜ packed n ≤ length (now s) ⌝ }
-    ensures { λ r. ⌜ r ≡ spareSet (take (packed n) (now (s .entry))) n ⌝ }
+    requires { ⌜ packedFor n ≤ length (now s) ⌝ }
+    ensures { λ r. ⌜ r ≡ spareSet (take (packedFor n) (now (s .entry))) n ⌝ }
 {
     let k = n % 8;
     if k == 0 {

@@ -13,12 +13,13 @@ use Rattle.format.specs.declared.Check.the-variants.{Pass, Refuse}
 use Rattle.format.specs.declared.Refusal.the-variants.{ManyRows, ManyBytes, RowRoom, OffsetRoom, Offsets, SheetRoom}
 use Rattle.format.specs.Limits.{maxRows, maxTotal}
 use Rattle.format.specs.Check.{both, failIf}
-use Rattle.format.specs.Lists.{each, joined, endsFrom, over}
-use Rattle.format.specs.Kinds.{Slot}
+use Rattle.format.specs.Lists.{each, joined, endsFrom, over, sum}
+use Rattle.format.specs.Kinds.{Slot, columnShape}
 use Rattle.format.specs.Columns.{listFault, columns}
 use Rattle.format.specs.Order.{cmp}
+use Rattle.format.specs.Field.{fieldLength}
 use Rattle.format.specs.Row.{row}
-use Rattle.format.specs.Sheet.{sheetFault, sheetSlots, nulls, turned}
+use Rattle.format.specs.Sheet.{layout, slotAt, sheetFault, sheetSlots, nulls, slotsIn, turned}
 use Rattle.format.specs.Cleared.{clearedSheet}
 use Rattle.format.specs.Read.{rowsFault, rowSlots}
 
@@ -52,9 +53,17 @@ checkListAnswer list = answer (listFault list) (length (columns list)) 0
 
 -- ---- measure and encode
 
+-- the values of row r of a sheet of n rows: its slots, column by column
+abbrev pub rowValues : List Column → ℕ → List ℕ → ℕ → List Slot
+rowValues cols n sheet r = slotsIn (sheetSlots n cols sheet) r
+
 -- the rows of a sheet of n rows
 abbrev pub sheetRows : ℕ → List Column → List ℕ → List (List ℕ)
 sheetRows n cols sheet = map (row cols) (turned n (sheetSlots n cols sheet))
+
+-- the bytes that the fields of n rows take in a column that stands in front of s
+abbrev pub columnTotal : Column → ℕ → List ℕ → ℕ
+columnTotal col n s = sum (each 0 n (λ r. fieldLength (columnShape col) (slotAt (layout col) n s r)))
 
 -- total row bytes
 abbrev pub sheetTotal : ℕ → List Column → List ℕ → ℕ

@@ -10,6 +10,7 @@ use Rattle.format.specs.Limits.{maxSlot}
 use Rattle.format.specs.Lists.{Bytes}
 use Rattle.format.specs.Kinds.{Shape, fixed, variable, Slot, width, columnShape}
 use Rattle.format.specs.Key.{allowed}
+use Rattle.format.specs.Row.{row}
 
 -- bytes, as many as the shape asks, for a bool 00 or 01; variable bytes no more than the limit
 abbrev pub Fits : ℕ → Shape → List ℕ → Type 0
@@ -26,6 +27,12 @@ RowFits [] [] = Unit {0}
 RowFits [] (s ∷ ss) = ⊥
 RowFits (col ∷ cols) [] = ⊥
 RowFits (col ∷ cols) (s ∷ ss) = SlotFits maxSlot (columnShape col) s × RowFits cols ss
+
+-- values within the limits have the bytes f
+pub record HasValues (cols : List Column) (f : List ℕ) : Type 0 where
+  pub values : List Slot
+  pub fit : RowFits cols values
+  pub spell : row cols values ≡ f
 
 -- every slot of a column
 abbrev pub AllSlots : Shape → List Slot → Type 0

@@ -12,6 +12,7 @@ pub mod Row
 pub mod Value
 pub mod Fits
 pub mod Sheet
+pub mod Passed
 pub mod Cleared
 pub mod Read
 pub mod Numbers

@@ -1,5 +1,7 @@
 -- The numbers returned: this paper's number and values for each answer.
 use Prim.Native.Nat.{ℕ}
+use mathlib.Core.Bool.{Bool, _&&_}
+use lib.Dec.{leb}
 use Rattle.format.specs.declared.RowFault.{RowFault}
 use Rattle.format.specs.declared.RowFault.the-variants.{Cut, Lead, NullRest, BoolByte, EndByte, Padding, Extra, TooLong}
 use Rattle.format.specs.declared.Refusal.{Refusal}
@@ -41,6 +43,10 @@ refusalNumbers (Offsets i) = three 15 i 0
 refusalNumbers (Row f r c) = three (faultNumber f) r c
 refusalNumbers (SheetRoom bytes) = three 24 bytes 0
 refusalNumbers Input = three 25 0 0
+
+-- refusals by what a row holds: 16 to 23
+abbrev pub byContent : Refusal → Bool
+byContent r = leb 16 (refusalNumbers r .0) && leb (refusalNumbers r .0) 23
 
 abbrev pub numbersOf : Answer → Returned
 numbersOf (Done a b) = three 0 a b

@@ -1,30 +1,32 @@
--- What each public entry promises of its answer r and of every lent buffer at exit, for all inputs.
+-- What each public entry promises of its answer r, by document 01's three numbers for it, and of every lent buffer at exit, for all
+-- inputs. Equal numbers are equal answers: `numbers-injective` in crate laws.
 use Prim.Native.Nat.{ℕ}
 use mathlib.Core.Path.{_≡_}
 use mathlib.Core.List.{List}
 use lib.IntN.{ℤ}
 use lib.ListN.{length}
 use Rattle.format.specs.declared.Answer.{Answer}
+use Rattle.format.specs.Numbers.{numbersOf}
 use Rattle.format.specs.Entries.{checkListAnswer, measureAnswer, encodeAnswer, encodeRows, encodeOffsets, decodeAnswer, decodeSheet, compareAnswer}
 use Rattle.format.specs.Lent.{lentCheckList, lentMeasure, lentEncode, lentEncodeRows, lentEncodeOffsets, lentDecode, lentDecodeSheet}
 
 -- check_list
 pub record ListChecked (list : List ℕ) (r : Answer) : Type 0 where
-  pub answers : r ≡ checkListAnswer list
+  pub answers : numbersOf r ≡ numbersOf (checkListAnswer list)
 
 -- measure
 pub record Measured (list : List ℕ) (n : ℕ) (sheet : List ℕ) (r : Answer) : Type 0 where
-  pub answers : r ≡ measureAnswer list n sheet
+  pub answers : numbersOf r ≡ numbersOf (measureAnswer list n sheet)
 
 -- encode: the lent rows and offsets at entry, and at exit
 pub record Encoded (list : List ℕ) (n : ℕ) (sheet rows offsets : List ℕ) (r : Answer) (rows′ offsets′ : List ℕ) : Type 0 where
-  pub answers : r ≡ encodeAnswer list n sheet (length rows) (length offsets)
+  pub answers : numbersOf r ≡ numbersOf (encodeAnswer list n sheet (length rows) (length offsets))
   pub row-bytes : rows′ ≡ encodeRows list n sheet rows (length offsets)
   pub row-ends : offsets′ ≡ encodeOffsets list n sheet (length rows) offsets
 
 -- decode: the lent sheet at entry, and at exit
 pub record Decoded (list : List ℕ) (n : ℕ) (rows offsets sheet : List ℕ) (r : Answer) (sheet′ : List ℕ) : Type 0 where
-  pub answers : r ≡ decodeAnswer list n rows offsets (length sheet)
+  pub answers : numbersOf r ≡ numbersOf (decodeAnswer list n rows offsets (length sheet))
   pub bytes : sheet′ ≡ decodeSheet list n rows offsets sheet
 
 -- compare

@@ -40,6 +40,10 @@ abbrev pub Good : {A : Type 0} → Parsed A → Type 0
 Good (got v r) = Unit {0}
 Good (fault f l) = ⊥
 
+-- a field whose lead byte is b is null
+abbrev pub nullLead : SortOptions → ℕ → Bool
+nullLead o b = eqb b (nullByte o)
+
 -- ---- variable bytes
 
 -- with the data of this block before that of the later ones
@@ -83,7 +87,7 @@ valueSlot descending (fault f l) = fault f l
 abbrev pub readVariable : ℕ → SortOptions → List ℕ → Parsed Slot
 readVariable limit o [] = fault Cut 0
 readVariable limit o (b ∷ s) =
-    cond (eqb b (nullByte o)) (got none s)
+    cond (nullLead o b) (got none s)
     (valueSlot (o .descending) (readValue limit (directed (o .descending) (b ∷ s))))
 
 -- ---- fixed kinds: lead byte 16, 17; fixed rest 16, 18, 19
@@ -108,7 +112,7 @@ readBytes k descending s =
 abbrev pub readFixed : Fixed → SortOptions → List ℕ → Parsed Slot
 readFixed k o [] = fault Cut 0
 readFixed k o (b ∷ s) =
-    cond (eqb b (nullByte o)) (readNull (width k) s)
+    cond (nullLead o b) (readNull (width k) s)
     (cond (eqb b 1) (readBytes k (o .descending) s)
     (fault Lead (suc (length s))))
 

@@ -11,7 +11,7 @@ use Rattle.format.specs.declared.Check.the-variants.{Pass}
 use Rattle.format.specs.declared.Refusal.the-variants.{ColumnCut, SpareBit, Ends, LongSlot, BytesAfter}
 use Rattle.format.specs.Limits.{maxSlot}
 use Rattle.format.specs.Check.{both, failIf}
-use Rattle.format.specs.Lists.{each, low}
+use Rattle.format.specs.Lists.{each, low, sum}
 use Rattle.format.specs.Kinds.{bool, plain, number, integer, float, parts, Shape, fixed, variable, Slot, width, columnShape}
 
 -- how the values of a column stand: packed bits; values of w bytes each; ends, and the bytes between them
@@ -133,6 +133,15 @@ sheetFaultFrom n c at (col ∷ cols) s =
 unfoldable pub sheetFault : ℕ → List Column → List ℕ → Check
 sheetFault n cols s = sheetFaultFrom n 0 0 cols s
 
+-- the place of column c of a sheet s, where column 0 stands at `at`; past the last column, the end of the last
+abbrev pub placeFrom : ℕ → ℕ → List Column → List ℕ → ℕ → ℕ
+placeFrom n at cols s zero = at
+placeFrom n at [] s (suc c) = at
+placeFrom n at (col ∷ cols) s (suc c) = placeFrom n (at + columnBytes (layout col) n (drop at s)) cols s c
+
+abbrev pub place : ℕ → List Column → List ℕ → ℕ → ℕ
+place n cols s c = placeFrom n 0 cols s c
+
 -- the slots of each column
 abbrev pub sheetSlots : ℕ → List Column → List ℕ → List (List Slot)
 sheetSlots n [] s = []
@@ -151,6 +160,14 @@ abbrev pub nulls : List (List Slot) → ℕ
 nulls [] = 0
 nulls (ss ∷ sss) = nullsIn ss + nulls sss
 
+-- the clear bits among the first n in front of v
+abbrev pub clearBits : ℕ → List ℕ → ℕ
+clearBits n v = sum (each 0 n (λ i. cond (bit v i) 0 1))
+
+-- slot i of each list
+abbrev pub slotsIn : List (List Slot) → ℕ → List Slot
+slotsIn sss i = map (λ ss. getD ss i none) sss
+
 -- from slots column by column to slots row by row, and back: list i of n has slot i of each
 abbrev pub turned : ℕ → List (List Slot) → List (List Slot)
-turned n sss = each 0 n (λ i. map (λ ss. getD ss i none) sss)
+turned n sss = each 0 n (slotsIn sss)

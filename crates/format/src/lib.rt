@@ -2,7 +2,9 @@
 // row mean stands in specs/.
 ghost use mathlib.Core.Path.{_≡_};
 ghost use Rattle.format.specs.Kinds.{valueBytes};
+ghost use Rattle.format.specs.Schemas.{noColumn};
 ghost use Rattle.format.specs.Field.{nullByte};
+ghost use Rattle.format.specs.Read.{nullLead};
 ghost use Rattle.format.specs.Numbers.{faultNumber, refusalNumbers, numbersOf};
 
 // The ceilings of document 01; specs/Limits.antt has the same numbers.
@@ -10,11 +12,17 @@ pub const MAX_COLUMNS: usize = 16;
 
 pub const MAX_ROWS: u64 = 4096;
 
+// Where each row begins and the last ends: no batch uses more offsets.
+pub const MAX_OFFSETS: usize = MAX_ROWS as usize + 1;
+
 pub const MAX_WIDTH: usize = 1024;
 
 pub const MAX_SLOT: usize = 65535;
 
 pub const MAX_TOTAL: u64 = 16777216;
+
+// The highest kind byte.
+pub const LAST_KIND: u8 = 16;
 
 // What the values of a column are, kinds 1 to 16 in this order; fixed binary carries its width.
 pub enum Kind {
@@ -49,7 +57,7 @@ pub struct Column {
 
 // The columns of a list: the first `count` of the array.
 pub struct Schema {
-    pub columns: [Column; 16],
+    pub columns: [Column; MAX_COLUMNS],
     pub count: usize,
 }
 
@@ -142,6 +150,27 @@ pub fn null_sentinel(options: SortOptions) -> u8
         return 0;
     }
     255
+}
+
+// Whether a field with this lead byte is null. Every reader asks here.
+pub fn null_lead(lead: u8, options: SortOptions) -> bool
+    ensures { λ r. ⌜ r ≡ nullLead options lead ⌝ }
+{
+    lead == null_sentinel(options)
+}
+
+// What fills an array of columns after those in use.
+pub fn no_column() -> Column
+    ensures { λ r. ⌜ r ≡ noColumn ⌝ }
+{
+    let options = SortOptions {
+        descending: false,
+        nulls_first: false,
+    };
+    Column {
+        kind: Kind::Bool,
+        options: options,
+    }
 }
 
 // The number of a row's fault.

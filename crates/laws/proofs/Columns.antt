@@ -54,7 +54,7 @@ either : (t : Bool) (k l : Kind) → valueBytes k ≤ maxWidth → valueBytes l 
 either true k l p q = p
 either false k l p q = q
 
-pub kind-narrow : (b w : ℕ) → w ≤ maxWidth → valueBytes (kindOf b w) ≤ maxWidth
+kind-narrow : (b w : ℕ) → w ≤ maxWidth → valueBytes (kindOf b w) ≤ maxWidth
 kind-narrow b w h =
     either (eqb b 1) _ _ (lit≤ tt)
     (either (eqb b 2) _ _ (lit≤ tt)

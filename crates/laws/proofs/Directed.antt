@@ -1,5 +1,5 @@
 -- Directions: what descending does to bytes, and that doing it again undoes it.
-use Prim.Native.Nat.{ℕ, _%_, _<_, Ordering}
+use Prim.Native.Nat.{ℕ, _%_, _<_}
 use mathlib.Core.Path.{_≡_, refl, sym, ap, _∙_}
 use mathlib.Core.Bool.{Bool, true, false, cond}
 use mathlib.Core.List.{List, [], _∷_, _++_, map-append}
@@ -8,11 +8,8 @@ use lib.ListN.{length, getD, take, drop, length-map}
 use Rattle.format.specs.Field.{directed}
 use Rattle.format.specs.Key.{invert}
 use Rattle.format.specs.Lists.{Bytes, lowBytes}
-use Rattle.format.specs.Order.{swap}
-use Rattle.basics.proofs.Bytes.{bytes-invert}
+use Rattle.basics.proofs.Bytes.{bytes-invert, invert-invert}
 use Rattle.basics.proofs.Lists.{map-take, map-drop}
-use Rattle.laws.proofs.Invert.{invert-invert, ranks-invert}
-use Rattle.laws.proofs.Sep.{Ranks}
 
 -- bytes stay bytes, and as many
 pub bytes-directed : (d : Bool) (f : List ℕ) → Bytes f → Bytes (directed d f)
@@ -58,8 +55,3 @@ directed-twice false f b = refl
 -- a field in front of other bytes, turned back
 pub directed-back : (d : Bool) (f t : List ℕ) → Bytes f → directed d (directed d f ++ t) ≡ f ++ directed d t
 directed-back d f t b = directed-append d (directed d f) t ∙ ap (λ (z : List ℕ). z ++ directed d t) (directed-twice d f b)
-
--- descending turns the order round
-pub ranks-directed : (d : Bool) {o : Ordering} {f g : List ℕ} → Bytes f → Bytes g → Ranks o f g → Ranks (cond d (swap o) o) (directed d f) (directed d g)
-ranks-directed true bf bg k = ranks-invert bf bg k
-ranks-directed false bf bg k = k

@@ -38,7 +38,8 @@ bytes-stream size room small (x ∷ xs) k u m b = go (choose u (size k)) (λ k u
 
 pub bytes-variable : (x : List ℕ) → Bytes x → Bytes (variableBytes x)
 bytes-variable [] b = (omega arith, tt)
-bytes-variable (x ∷ xs) b = subst Bytes (sym (variable-stream x xs)) (omega arith, bytes-stream blockSize blockSize-room blockSize-small (x ∷ xs) 0 0 (omega arith) b)
+bytes-variable (x ∷ xs) b =
+    subst Bytes (sym (variable-stream x xs)) (omega arith, bytes-stream blockSize blockSize-room blockSize-small (x ∷ xs) 0 0 (omega arith) b)
 
 -- and the other way round: the data of bytes is bytes
 bytes-data : (size : ℕ → ℕ) (x t : List ℕ) (k u : ℕ) → Bytes (stream size k u x ++ t) → Bytes x
@@ -89,7 +90,7 @@ null-byte o = go (o .«nulls_first»)
     go false = omega arith
 
 -- a field is bytes
-pub bytes-field : (sh : Shape) (o : SortOptions) (s : Slot) → SlotFits maxSlot sh s → Bytes (field sh o s)
+bytes-field : (sh : Shape) (o : SortOptions) (s : Slot) → SlotFits maxSlot sh s → Bytes (field sh o s)
 bytes-field (fixed k) o none h = (null-byte o, subst Bytes (append-nil (replicate (width k) 0)) (bytes-zeros (width k) [] tt))
 bytes-field (fixed k) o (some v) h = (omega arith, bytes-directed (o .descending) (key k v) (bytes-key k v (h .0)))
 bytes-field variable o none h = (null-byte o, tt)

@@ -45,7 +45,12 @@ length-large (suc n) x k hk hn h = go (choose 32 (length x)) (length-large n (dr
         → (length (drop 32 x) ≤ n → 0 < length (drop 32 x) → length (stream blockSize (suc k) 0 (drop 32 x)) ≡ 33 * ((length (drop 32 x) + 31) / 32))
         → length (stream blockSize k 0 x) ≡ 33 * ((length x + 31) / 32)
     go (inl l) ih =
-        omega (arith, ih (omega (arith, length-drop 32 x)) (omega (arith, length-drop 32 x)), length-drop 32 x, rw b at (length-more blockSize blockSize-room x k (rw b l)))
+        omega (
+          arith,
+          ih (omega (arith, length-drop 32 x)) (omega (arith, length-drop 32 x)),
+          length-drop 32 x,
+          rw b at (length-more blockSize blockSize-room x k (rw b l)),
+        )
     go (inr l) ih = length-last blockSize blockSize-room x k (rw b l) ∙ rw b (omega arith)
 
 -- the first blocks, of which m are left
@@ -67,7 +72,8 @@ length-small (suc m) x k e h = go (choose 8 (length x)) (length-small m (drop 8 
     go (inl l) ih =
         let d : length (drop 8 x) ≡ length x - 8 = length-drop 8 x in
         let i : Short m (suc k) (drop 8 x) = ih (omega arith) in
-        let q : length (stream blockSize k 0 x) ≡ 8 + 1 + length (stream blockSize (suc k) 0 (drop 8 x)) = rw b at (length-more blockSize blockSize-room x k (rw b l)) in
+        let q : length (stream blockSize k 0 x) ≡ 8 + 1 + length (stream blockSize (suc k) 0 (drop 8 x))
+        = rw b at (length-more blockSize blockSize-room x k (rw b l)) in
         record {
           few = λ n. omega (arith, q, d, i .few (omega arith));
           many = λ n. omega (arith, q, d, i .many (omega arith));
@@ -86,6 +92,3 @@ length-variable (x ∷ xs) = ap length (variable-stream x xs) ∙ go (choose 32 
     go : (32 < suc (length xs)) ⊎ (suc (length xs) ≤ 32) → suc (length (stream blockSize 0 0 (x ∷ xs))) ≡ paddedLength (suc (length xs))
     go (inl l) = rw (lt-leb (suc (length xs)) 32 l) (omega (arith, s .many (omega arith)))
     go (inr l) = rw (le-leb (suc (length xs)) 32 l) (omega (arith, s .few (omega arith)))
-
-longest : paddedLength 65535 ≡ 67588
-longest = refl

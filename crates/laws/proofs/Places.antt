@@ -1,6 +1,6 @@
 -- Where the columns of a sheet stand, and a slot from its column's place. Assumes nothing.
 use Prim.Native.Nat.{ℕ, zero, suc, _+_, _<_, _≤_}
-use mathlib.Core.Path.{_≡_, refl, ap, _∙_}
+use mathlib.Core.Path.{_≡_, refl}
 use mathlib.Core.List.{List, [], _∷_}
 use native.Mathlib.Nat.{add-zero, add-suc, suc-add, zero-add}
 use native.Mathlib.Omega.{arith}
@@ -8,18 +8,10 @@ use lib.ListN.{length, getD, drop, length-drop}
 use lib.Seq.{drop-drop}
 use Rattle.format.specs.declared.Check.the-variants.{Pass}
 use Rattle.format.specs.declared.Column.{Column}
-use Rattle.format.specs.Sheet.{Layout, layout, columnFault, columnBytes, columnSlots, sheetFaultFrom, sheetFault, sheetSlots}
+use Rattle.format.specs.Sheet.{Layout, layout, columnFault, columnBytes, sheetFaultFrom, sheetFault, placeFrom, place}
+use Rattle.format.specs.Passed.{Stands}
 use Rattle.basics.proofs.Checks.{both-pass}
 use Rattle.laws.proofs.Sheets.{column-room}
-
--- the place of column c of a sheet s of n rows, where column 0 stands at `at`; past the last column, the end of the last
-abbrev pub placeFrom : ℕ → ℕ → List Column → List ℕ → ℕ → ℕ
-placeFrom n at cols s zero = at
-placeFrom n at [] s (suc c) = at
-placeFrom n at (col ∷ cols) s (suc c) = placeFrom n (at + columnBytes (layout col) n (drop at s)) cols s c
-
-abbrev pub place : ℕ → List Column → List ℕ → ℕ → ℕ
-place n cols s c = placeFrom n 0 cols s c
 
 next-from : (n at : ℕ) (cols : List Column) (s : List ℕ) (c : ℕ) (d : Column) → c < length cols
     → placeFrom n at cols s (suc c) ≡ placeFrom n at cols s c + columnBytes (layout (getD cols c d)) n (drop (placeFrom n at cols s c) s)
@@ -36,25 +28,7 @@ place-next n cols s c d l = next-from n 0 cols s c d l
 pub past-column : (ly : Layout) (n at : ℕ) (s : List ℕ) → drop (columnBytes ly n (drop at s)) (drop at s) ≡ drop (at + columnBytes ly n (drop at s)) s
 past-column ly n at s = drop-drop (columnBytes ly n (drop at s)) at s
 
--- ---- the slots of column c, by its place
-column-from : (n at : ℕ) (cols : List Column) (s : List ℕ) (c : ℕ) (d : Column) → c < length cols
-    → getD (sheetSlots n cols (drop at s)) c [] ≡ columnSlots (layout (getD cols c d)) n (drop (placeFrom n at cols s c) s)
-column-from n at [] s c d l = absurd (omega arith)
-column-from n at (col ∷ cols) s zero d l = refl
-column-from n at (col ∷ cols) s (suc c) d l =
-    ap (λ (z : List ℕ). getD (sheetSlots n cols z) c []) (past-column (layout col) n at s)
-    ∙ column-from n (at + columnBytes (layout col) n (drop at s)) cols s c d (omega arith)
-
-pub column-at : (n : ℕ) (cols : List Column) (s : List ℕ) (c : ℕ) (d : Column) → c < length cols
-    → getD (sheetSlots n cols s) c [] ≡ columnSlots (layout (getD cols c d)) n (drop (place n cols s c) s)
-column-at n cols s c d l = column-from n 0 cols s c d l
-
 -- ---- a sheet that passes
-
--- each column passes at its place, and ends within the sheet
-pub record Stands (col : Column) (n c at : ℕ) (s : List ℕ) : Type 0 where
-  pub passes : columnFault (layout col) n c (drop at s) ≡ Pass
-  pub room : at + columnBytes (layout col) n (drop at s) ≤ length s
 
 -- the first of the columns from `at` on, and the others
 first-stands : (n c at : ℕ) (col : Column) (cols : List Column) (s : List ℕ) → at ≤ length s → sheetFaultFrom n c at (col ∷ cols) (drop at s) ≡ Pass

@@ -1,54 +1,22 @@
--- Whole rows: a row is read back as its slots, and a row is refused exactly when no slots within the limits have its bytes.
+-- Rows that pass are those of the slots that are read from them, which fit. Assumes nothing.
 use Prim.Native.Nat.{ℕ, suc}
-use mathlib.Core.Path.{_≡_, refl, ap, sym, _∙_, subst}
-use mathlib.Core.List.{List, [], _∷_, _++_}
+use mathlib.Core.Path.{_≡_, refl, ap, ap₂, sym, _∙_, subst}
+use mathlib.Core.List.{List, [], _∷_, _++_, map}
 use Rattle.format.specs.Field.{field}
 use Rattle.format.specs.Fits.{RowFits, SlotFits}
 use Rattle.format.specs.Kinds.{Slot, columnShape}
 use Rattle.format.specs.Limits.{maxSlot}
 use Rattle.format.specs.Lists.{Bytes}
-use Rattle.format.specs.Read.{Parsed, got, fault, fieldCheck, leftAfter, readField, rowFault, rowSlots, slotRead}
+use Rattle.format.specs.Read.{Parsed, got, fault, fieldCheck, leftAfter, readField, rowFault, rowSlots, rowsFault, slotRead}
 use Rattle.format.specs.Row.{row}
-use Rattle.format.specs.declared.Check.{Check}
-use Rattle.format.specs.declared.Check.the-variants.{Pass, Refuse}
+use Rattle.format.specs.declared.Check.the-variants.{Pass}
 use Rattle.format.specs.declared.Column.{Column}
-use Rattle.format.specs.declared.Refusal.{Refusal}
 use Rattle.basics.proofs.Bytes.{bytes-right}
-use Rattle.basics.proofs.Checks.{refuse-pass}
-use Rattle.laws.proofs.Fields.{bytes-row}
-use Rattle.laws.proofs.ReadField.{field-read, read-field}
+use Rattle.basics.proofs.Checks.{refuse-pass, both-pass}
+use Rattle.basics.proofs.Lists.{Every}
+use Rattle.laws.proofs.ReadField.{read-field}
 
--- ---- what was written is read back
-
--- the first field of a row, read
-first-read : (col : Column) (cols : List Column) (x : Slot) (xs : List Slot) → RowFits (col ∷ cols) (x ∷ xs)
-    → readField (columnShape col) (col .options) (row (col ∷ cols) (x ∷ xs)) ≡ got x (row cols xs)
-first-read col cols x xs h = field-read (columnShape col) (col .options) x (row cols xs) (h .0) (bytes-row cols xs (h .1))
-
--- a row has no fault
-pub row-passes : (r c : ℕ) (cols : List Column) (xs : List Slot) → RowFits cols xs → rowFault r c cols (row cols xs) ≡ Pass
-row-passes r c [] [] h = refl
-row-passes r c [] (x ∷ xs) h = absurd h
-row-passes r c (col ∷ cols) [] h = absurd h
-row-passes r c (col ∷ cols) (x ∷ xs) h =
-    ap (λ (p : Parsed Slot). fieldCheck r c p (rowFault r (suc c) cols)) (first-read col cols x xs h) ∙ row-passes r (suc c) cols xs (h .1)
-
--- and its slots are those that were written
-pub row-slots : (cols : List Column) (xs : List Slot) → RowFits cols xs → rowSlots cols (row cols xs) ≡ xs
-row-slots [] [] h = refl
-row-slots [] (x ∷ xs) h = absurd h
-row-slots (col ∷ cols) [] h = absurd h
-row-slots (col ∷ cols) (x ∷ xs) h =
-    ap (λ (p : Parsed Slot). slotRead p ∷ rowSlots cols (leftAfter p)) (first-read col cols x xs h)
-    ∙ ap (λ (ys : List Slot). x ∷ ys) (row-slots cols xs (h .1))
-
--- so two lists of slots with one row are the same
-pub row-injective : (cols : List Column) (xs ys : List Slot) → RowFits cols xs → RowFits cols ys → row cols xs ≡ row cols ys → xs ≡ ys
-row-injective cols xs ys hx hy e = sym (row-slots cols xs hx) ∙ ap (rowSlots cols) e ∙ row-slots cols ys hy
-
--- ---- and only a row of slots that fit passes
-
--- what passes is the row of the slots that are read from it, and they fit
+-- one row
 pub passed-row : (r c : ℕ) (cols : List Column) (f : List ℕ) → Bytes f → rowFault r c cols f ≡ Pass
     → (row cols (rowSlots cols f) ≡ f) × RowFits cols (rowSlots cols f)
 passed-row r c [] [] b h = (refl, tt)
@@ -60,22 +28,18 @@ passed-row r c (col ∷ cols) f b h = go (readField (columnShape col) (col .opti
         → (row (col ∷ cols) (slotRead p ∷ rowSlots cols (leftAfter p)) ≡ f) × RowFits (col ∷ cols) (slotRead p ∷ rowSlots cols (leftAfter p))
     go (fault e l) q h ih = absurd (refuse-pass h)
     go (got s g) q h ih =
-        let e : (f ≡ field (columnShape col) (col .options) s ++ g) × SlotFits maxSlot (columnShape col) s = read-field (columnShape col) (col .options) f s g b q in
-        let t : (row cols (rowSlots cols g) ≡ g) × RowFits cols (rowSlots cols g) = ih g (bytes-right (field (columnShape col) (col .options) s) g (subst Bytes (e .0) b)) h in
+        let e : (f ≡ field (columnShape col) (col .options) s ++ g) × SlotFits maxSlot (columnShape col) s
+        = read-field (columnShape col) (col .options) f s g b q in
+        let t : (row cols (rowSlots cols g) ≡ g) × RowFits cols (rowSlots cols g)
+        = ih g (bytes-right (field (columnShape col) (col .options) s) g (subst Bytes (e .0) b)) h in
         (ap (λ (z : List ℕ). field (columnShape col) (col .options) s ++ z) (t .0) ∙ sym (e .0), (e .1, t .1))
 
--- ---- a row is refused exactly when no slots within the limits have its bytes
-
--- what is refused is the row of no slots that fit
-pub refused-none : (r c : ℕ) (cols : List Column) (f : List ℕ) (x : Refusal) → rowFault r c cols f ≡ Refuse x
-    → (xs : List Slot) → RowFits cols xs → row cols xs ≡ f → ⊥
-refused-none r c cols f x h xs fits e = refuse-pass (sym h ∙ ap (rowFault r c cols) (sym e) ∙ row-passes r c cols xs fits)
-
--- and what is the row of none is refused
-pub none-refused : (r c : ℕ) (cols : List Column) (f : List ℕ) → Bytes f → ((xs : List Slot) → RowFits cols xs → row cols xs ≡ f → ⊥)
-    → (x : Refusal) × (rowFault r c cols f ≡ Refuse x)
-none-refused r c cols f b never = go (rowFault r c cols f) refl
-  where
-    go : (k : Check) → rowFault r c cols f ≡ k → (x : Refusal) × (rowFault r c cols f ≡ Refuse x)
-    go Pass q = let t : (row cols (rowSlots cols f) ≡ f) × RowFits cols (rowSlots cols f) = passed-row r c cols f b q in absurd (never (rowSlots cols f) (t .1) (t .0))
-    go (Refuse x) q = (x, q)
+-- and each of some rows
+pub rows-passed : (r : ℕ) (cols : List Column) (bs : List (List ℕ)) → Every Bytes bs → rowsFault r cols bs ≡ Pass
+    → (map (row cols) (map (rowSlots cols) bs) ≡ bs) × Every (RowFits cols) (map (rowSlots cols) bs)
+rows-passed r cols [] b e = (refl, tt)
+rows-passed r cols (f ∷ bs) b e =
+    let p = both-pass (rowFault r 0 cols f) _ e in
+    let now = passed-row r 0 cols f (b .0) (p .0) in
+    let later = rows-passed (suc r) cols bs (b .1) (p .1) in
+    (ap₂ {C = List (List ℕ)} (λ x y. x ∷ y) (now .0) (later .0), (now .1, later .1))

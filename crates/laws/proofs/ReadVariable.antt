@@ -36,7 +36,7 @@ module _ (limit : ℕ) where
   -- ---- a value
 
   -- a value is read back, and what follows it is left
-  pub value-read : (x t : List ℕ) → length x ≤ limit → readValue limit (variableBytes x ++ t) ≡ got x t
+  value-read : (x t : List ℕ) → length x ≤ limit → readValue limit (variableBytes x ++ t) ≡ got x t
   value-read [] t h = refl
   value-read (x ∷ xs) t h =
       ap (λ (z : List ℕ). readValue limit (z ++ t)) (variable-stream x xs)
@@ -52,14 +52,15 @@ module _ (limit : ℕ) where
   nonempty s (x ∷ xs) r p = ap (λ (z : List ℕ). 2 ∷ z) (p .bytes) ∙ ap (λ (z : List ℕ). z ++ r) (sym (variable-stream x xs))
 
   -- only the bytes of a value within the limit are read
-  pub read-value : (s v r : List ℕ) → readValue limit s ≡ got v r → (s ≡ variableBytes v ++ r) × (length v ≤ limit)
+  read-value : (s v r : List ℕ) → readValue limit s ≡ got v r → (s ≡ variableBytes v ++ r) × (length v ≤ limit)
   read-value [] v r h = absurd (fault-got h)
   read-value (b ∷ s) v r h = go (eqb b 1) refl h
     where
       Goal : List ℕ → Type 0
       Goal v = (b ∷ s ≡ variableBytes v ++ r) × (length v ≤ limit)
 
-      go : (c : Bool) → eqb b 1 ≡ c → cond c (got [] s) (cond (eqb b 2) (readBlocks blockSize limit (length s) 0 0 s) (fault Lead (suc (length s)))) ≡ got v r → Goal v
+      go : (c : Bool) → eqb b 1 ≡ c
+          → cond c (got [] s) (cond (eqb b 2) (readBlocks blockSize limit (length s) 0 0 s) (fault Lead (suc (length s)))) ≡ got v r → Goal v
       go true q h =
           let e : [] ≡ v = cc in
           let i : s ≡ r = cc in

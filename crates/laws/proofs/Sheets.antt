@@ -9,7 +9,6 @@ use lib.Dec.{T, eqb}
 use lib.ListN.{length, take, drop, length-take, length-drop}
 use lib.Seq.{length-take-le}
 use borrow.Author.Tests.{eqb-true, not-false}
-use Rattle.format.specs.declared.Check.{Check}
 use Rattle.format.specs.declared.Check.the-variants.{Pass}
 use Rattle.format.specs.declared.Column.{Column}
 use Rattle.format.specs.Limits.{maxSlot}
@@ -18,6 +17,7 @@ use Rattle.format.specs.Kinds.{Fixed, bool, plain, number, integer, float, part
 use Rattle.format.specs.Key.{allowed}
 use Rattle.format.specs.Fits.{Fits, SlotFits, AllSlots, SheetFits}
 use Rattle.format.specs.Sheet.{Layout, bits, ended, wide, layoutFor, layout, packed, bit, bitsFault, end, endsFault, variableFault, valuesFault, valuesBytes, boolByte, valueAt, slotIf, columnFault, columnBytes, slotAt, columnSlots, sheetFaultFrom, sheetFault, sheetSlots}
+use Rattle.format.specs.Passed.{Passes, Step, Ended}
 use Rattle.bits.proofs.Nulls.{bits-passed}
 use Rattle.basics.proofs.Compare.{choose}
 use Rattle.basics.proofs.Bytes.{bytes-take, bytes-drop}
@@ -26,32 +26,23 @@ use Rattle.basics.proofs.Checks.{failIf-pass, enough, both-pass}
 
 -- ---- the ends of a column of variable bytes
 
--- ends j and j + 1 do not fall, and are no further apart than the limit
-abbrev pub Step : List ℕ → ℕ → Type 0
-Step s j = (end s j ≤ end s (suc j)) × (end s (suc j) - end s j ≤ maxSlot)
-
 steps-from : (c : ℕ) (s : List ℕ) (i k : ℕ) → endsFault c s i k ≡ Pass → (j : ℕ) → i ≤ j → j < i + k → Step s j
 steps-from c s i zero e j a b = absurd (omega arith)
 steps-from c s i (suc k) e j a b =
     let rises = enough (end s (suc i)) (end s i) _ _ e in
     let short = enough maxSlot (end s (suc i) - end s i) _ _ (rises .1) in
-    go (rises .0, short .0) (steps-from c s (suc i) k (short .1) j) (choose i j)
+    go (record { rises = rises .0; short = short .0 }) (steps-from c s (suc i) k (short .1) j) (choose i j)
   where
     go : Step s i → (suc i ≤ j → j < suc i + k → Step s j) → (i < j) ⊎ (j ≤ i) → Step s j
     go now later (inl l) = later l (omega arith)
     go now later (inr l) = subst (Step s) (let same : i ≡ j = omega arith in same) now
 
--- what a column of variable bytes that passes says of its ends
-pub record Ended (n : ℕ) (s : List ℕ) : Type 0 where
-  pub first : end s 0 ≡ 0
-  pub step : (j : ℕ) → j < n → Step s j
-  pub room : 4 * suc n + end s n ≤ length s
-
 -- no end is past the last
 pub last-end : (n : ℕ) (s : List ℕ) → Ended n s → (k j : ℕ) → j + k ≡ n → end s j ≤ end s n
 last-end n s g zero j e = omega (arith, ap (end s) (let z : j ≡ n = omega arith in z))
-last-end n s g (suc k) j e = omega (arith, g .step j (omega arith) .0, last-end n s g k (suc j) (omega arith))
+last-end n s g (suc k) j e = omega (arith, g .step j (omega arith) .rises, last-end n s g k (suc j) (omega arith))
 
+-- what a column of variable bytes that passes says of its ends
 pub variable-passed : (n c : ℕ) (s : List ℕ) → variableFault n c s ≡ Pass → Ended n s
 variable-passed n c s e =
     let cut = enough (length s) (4 * suc n) _ _ e in
@@ -71,13 +62,9 @@ values-room (wide w) n c s e = enough (length s) (n * w) _ _ e .0
 values-room ended n c s e = variable-passed n c s e .room
 
 -- a column that passes: its validity, then its values
-pub column-passed : (ly : Layout) (n c : ℕ) (s : List ℕ) → columnFault ly n c s ≡ Pass → (bitsFault n c s ≡ Pass) × (valuesFault ly n c (drop (packed n) s) ≡ Pass)
+pub column-passed : (ly : Layout) (n c : ℕ) (s : List ℕ) → columnFault ly n c s ≡ Pass
+    → (bitsFault n c s ≡ Pass) × (valuesFault ly n c (drop (packed n) s) ≡ Pass)
 column-passed ly n c s e = both-pass (bitsFault n c s) _ e
-
--- a check of a column passes, whichever number the column has
-pub record Passes (fault : ℕ → Check) : Type 0 where
-  pub c : ℕ
-  pub pass : fault c ≡ Pass
 
 -- its validity bytes are there
 pub valid-bytes : (ly : Layout) (n : ℕ) (s : List ℕ) → Passes (λ c. columnFault ly n c s) → packed n ≤ length s
@@ -120,7 +107,7 @@ value-fits (fixed (parts ws)) n c s b e i l = wide-fits (parts ws) n c s (λ x. 
 value-fits variable n c s b e i l =
     let t : List ℕ = drop (end s i) (drop (4 * suc n) s) in (
       bytes-take (end s (suc i) - end s i) t (bytes-drop (end s i) (drop (4 * suc n) s) (bytes-drop (4 * suc n) s b)),
-      omega (arith, length-take (end s (suc i) - end s i) t, variable-passed n c s e .step i l .1),
+      omega (arith, length-take (end s (suc i) - end s i) t, variable-passed n c s e .step i l .short),
     )
 
 if-fits : (sh : Shape) (b : Bool) (v : List ℕ) → Fits maxSlot sh v → SlotFits maxSlot sh (slotIf b v)
@@ -137,7 +124,7 @@ slots-fit : (sh : Shape) (i k : ℕ) (f : ℕ → Slot) → ((j : ℕ) → i ≤
 slots-fit sh i zero f h = tt
 slots-fit sh i (suc k) f h = (h i (omega arith) (omega arith), slots-fit sh (suc i) k f (λ j a b. h j (omega arith) (omega arith)))
 
-pub column-fits : (sh : Shape) (n c : ℕ) (s : List ℕ) → Bytes s → columnFault (layoutFor sh) n c s ≡ Pass → AllSlots sh (columnSlots (layoutFor sh) n s)
+column-fits : (sh : Shape) (n c : ℕ) (s : List ℕ) → Bytes s → columnFault (layoutFor sh) n c s ≡ Pass → AllSlots sh (columnSlots (layoutFor sh) n s)
 column-fits sh n c s b e = slots-fit sh 0 n (slotAt (layoutFor sh) n s) (λ j l m. slot-fits sh n c s b e j (omega arith))
 
 -- ---- and those of a sheet

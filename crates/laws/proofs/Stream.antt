@@ -1,73 +1,22 @@
--- The blocks of a value, byte by byte; the laws of the variableBytes field.
-use Prim.Native.Nat.{ℕ, zero, suc, _+_, _-_, _<_, _≤_, compare, Ordering, Ordering·lt as lt}
-use mathlib.Core.Path.{_≡_, refl, ap, ap₂, sym, _∙_}
+-- The blocks of a value, byte by byte. Assumes nothing.
+use Prim.Native.Nat.{ℕ, zero, suc, _+_, _-_, _<_, _≤_}
+use mathlib.Core.Path.{_≡_, ap, sym, _∙_}
 use mathlib.Core.Logic.{_⊎_, inl, inr}
 use mathlib.Core.Bool.{Bool, true, false, cond}
 use mathlib.Core.List.{List, [], _∷_, _++_, append-assoc, append-nil}
 use native.Mathlib.Omega.{arith}
-use native.Mathlib.Nat.{sub-self, sub-eq-zero-of-le, add-zero, add-suc, suc-add, zero-add}
+use native.Mathlib.Nat.{sub-self, add-zero, add-suc, suc-add, zero-add}
 use lib.Dec.{ltb}
 use lib.ListN.{length, take, drop, replicate, take-append-drop, length-drop}
 use lib.Seq.{length-take-le}
 use Rattle.format.specs.Field.{block, blockSize, blocks, variableBytes}
-use Rattle.format.specs.Order.{cmp, swap, then}
-use Rattle.basics.proofs.Compare.{choose, Tri, below, same, above, tri, compare-lt, compare-self, compare-swap, swap-then}
-use Rattle.laws.proofs.Sep.{sep, sep-self, Ranks, cmp-same, ranks-cmp}
+use Rattle.basics.proofs.Compare.{choose}
 use borrow.Author.Tests.{lt-ltb, le-ltb, le-leb, lt-leb}
-
-pub sep-swap : (f g : List ℕ) → sep g f ≡ swap (sep f g)
-sep-swap [] [] = refl
-sep-swap [] (y ∷ ys) = refl
-sep-swap (x ∷ xs) [] = refl
-sep-swap (x ∷ xs) (y ∷ ys) = ap₂ then (compare-swap x y) (sep-swap xs ys) ∙ sym (swap-then (compare x y) (sep xs ys))
-
-pub sep-common : (z f g : List ℕ) → sep (z ++ f) (z ++ g) ≡ sep f g
-sep-common [] f g = refl
-sep-common (x ∷ z) f g = rw (compare-self x) (sep-common z f g)
-
--- a zero byte is before or at any other
-zero-first : (y : ℕ) (o : Ordering) → Tri 0 y o → then o lt ≡ lt
-zero-first y o (below h) = refl
-zero-first y o (same h) = refl
-zero-first y o (above h) = absurd (omega arith)
 
 -- what is left to write of x in block k, of which u bytes are written
 abbrev pub stream : (ℕ → ℕ) → ℕ → ℕ → List ℕ → List ℕ
 stream size k u [] = replicate (size k - u) 0 ++ (u ∷ [])
 stream size k u (x ∷ xs) = cond (ltb u (size k)) (x ∷ stream size k (suc u) xs) (255 ∷ x ∷ stream size (suc k) 1 xs)
-
-one-less : (s u : ℕ) → u < s → s - u ≡ suc (s - suc u)
-one-less s u h = omega arith
-
--- ---- the order: every end byte but FF is below FF
-module _ (size : ℕ → ℕ) (small : (k : ℕ) → size k < 255) where
-  -- zeros and the count u of a block that ends come before any block that holds more than u
-  ends-first : (ys : List ℕ) (k u v : ℕ) → u < v → v ≤ size k → sep (replicate (size k - v) 0 ++ (u ∷ [])) (stream size k v ys) ≡ lt
-  ends-first [] k u v h m = rw (sep-common (replicate (size k - v) 0) (u ∷ []) (v ∷ [])) (rw (compare-lt u v h))
-  ends-first (y ∷ ys) k u v h m = go (choose v (size k)) (λ n. ends-first ys k u (suc v) (omega arith) n)
-    where
-      go : (v < size k) ⊎ (size k ≤ v) → (suc v ≤ size k → sep (replicate (size k - suc v) 0 ++ (u ∷ [])) (stream size k (suc v) ys) ≡ lt)
-          → sep (replicate (size k - v) 0 ++ (u ∷ [])) (stream size k v (y ∷ ys)) ≡ lt
-      go (inl n) ih = rw (lt-ltb v (size k) n) (rw (one-less (size k) v n) (rw (ih n) (zero-first y (compare 0 y) (tri 0 y))))
-      go (inr n) ih = rw (le-ltb v (size k) n) (rw (sub-eq-zero-of-le n) (rw (compare-lt u 255 (omega (arith, small k)))))
-
-  beginning-first : (y : ℕ) (ys : List ℕ) (k u : ℕ) → u ≤ size k → sep (stream size k u []) (stream size k u (y ∷ ys)) ≡ lt
-  beginning-first y ys k u m = go (choose u (size k))
-    where
-      go : (u < size k) ⊎ (size k ≤ u) → sep (stream size k u []) (stream size k u (y ∷ ys)) ≡ lt
-      go (inl n) = rw (lt-ltb u (size k) n) (rw (one-less (size k) u n) (rw (ends-first ys k u (suc u) (omega arith) n) (zero-first y (compare 0 y) (tri 0 y))))
-      go (inr n) = rw (le-ltb u (size k) n) (rw (sub-eq-zero-of-le n) (rw (compare-lt u 255 (omega (arith, small k)))))
-
-  pub stream-order : (some-room : (k : ℕ) → 0 < size k) (x y : List ℕ) (k u : ℕ) → u ≤ size k → sep (stream size k u x) (stream size k u y) ≡ cmp x y
-  stream-order room [] [] k u m = sep-self (stream size k u [])
-  stream-order room [] (y ∷ ys) k u m = beginning-first y ys k u m
-  stream-order room (x ∷ xs) [] k u m = sep-swap (stream size k u []) (stream size k u (x ∷ xs)) ∙ ap swap (beginning-first x xs k u m)
-  stream-order room (x ∷ xs) (y ∷ ys) k u m = go (choose u (size k)) (stream-order room xs ys)
-    where
-      go : (u < size k) ⊎ (size k ≤ u) → ((k u : ℕ) → u ≤ size k → sep (stream size k u xs) (stream size k u ys) ≡ cmp xs ys)
-          → sep (stream size k u (x ∷ xs)) (stream size k u (y ∷ ys)) ≡ then (compare x y) (cmp xs ys)
-      go (inl n) ih = rw (lt-ltb u (size k) n) (ap (then (compare x y)) (ih k (suc u) n))
-      go (inr n) ih = rw (le-ltb u (size k) n) (ap (then (compare x y)) (ih (suc k) 1 (room (suc k))))
 
 -- ---- the blocks are the stream
 
@@ -116,7 +65,8 @@ module _ (size : ℕ → ℕ) where
           → (0 < length (drop (size k) x) → length (drop (size k) x) ≤ n → blocks size n (suc k) (drop (size k) x) ≡ stream size (suc k) 0 (drop (size k) x))
           → blocks size (suc n) k x ≡ stream size k 0 x
       go (inl l) ih = rw (lt-leb (length x) (size k) l)
-          (ap (λ (z : List ℕ). block (size k) (take (size k) x) 255 ++ z) (ih (omega (arith, length-drop (size k) x)) (omega (arith, length-drop (size k) x, room k)))
+          (ap (λ (z : List ℕ). block (size k) (take (size k) x) 255 ++ z)
+          (ih (omega (arith, length-drop (size k) x)) (omega (arith, length-drop (size k) x, room k)))
           ∙ sym (stream-more room x k l))
       go (inr l) ih = rw (le-leb (length x) (size k) l) (sym (stream-last x k l))
 
@@ -139,18 +89,3 @@ blockSize-small k = go (ltb k 4)
 -- the field of a nonempty value, as the stream
 pub variable-stream : (x : ℕ) (xs : List ℕ) → variableBytes (x ∷ xs) ≡ 2 ∷ stream blockSize 0 0 (x ∷ xs)
 variable-stream x xs = ap (λ (z : List ℕ). 2 ∷ z) (blocks-stream blockSize blockSize-room (suc (length xs)) (x ∷ xs) 0 (omega arith) (omega arith))
-
-pub variable-first : (x y : List ℕ) → sep (variableBytes x) (variableBytes y) ≡ cmp x y
-variable-first [] [] = refl
-variable-first [] (y ∷ ys) = refl
-variable-first (x ∷ xs) [] = refl
-variable-first (x ∷ xs) (y ∷ ys) =
-    ap₂ sep (variable-stream x xs) (variable-stream y ys)
-    ∙ stream-order blockSize blockSize-small blockSize-room (x ∷ xs) (y ∷ ys) 0 0 (omega arith)
-
--- the fields of two values stand as the values do; equal, or neither begins the other
-pub variable-ranks : (x y : List ℕ) → Ranks (cmp x y) (variableBytes x) (variableBytes y)
-variable-ranks x y = record { first = variable-first x y; alike = λ e. ap variableBytes (cmp-same x y e) }
-
-pub variable-order : (x y : List ℕ) → cmp (variableBytes x) (variableBytes y) ≡ cmp x y
-variable-order x y = ranks-cmp (variable-ranks x y)

@@ -13,35 +13,31 @@ use Rattle.format.specs.declared.Column.{Column}
 use Rattle.format.specs.Limits.{maxWidth, maxSlot}
 use Rattle.format.specs.Lists.{Bytes, each, joined, sum}
 use Rattle.format.specs.Kinds.{Shape, fixed, variable, Slot, shapeBytes, valueBytes, columnShape}
-use Rattle.format.specs.Field.{field, paddedLength, fieldLength}
+use Rattle.format.specs.Field.{field, paddedLength, fieldLength, maxField}
 use Rattle.format.specs.Fits.{SlotFits, AllSlots, SheetFits}
 use Rattle.format.specs.Row.{row}
-use Rattle.format.specs.Sheet.{layout, columnFault, columnBytes, slotAt, columnSlots, sheetFault, sheetSlots, nullsIn, nulls}
-use Rattle.format.specs.Entries.{sheetTotal}
+use Rattle.format.specs.Sheet.{layout, columnFault, columnBytes, slotAt, columnSlots, sheetFault, sheetSlots, placeFrom, place, slotsIn}
+use Rattle.format.specs.Entries.{sheetTotal, columnTotal}
 use Rattle.laws.proofs.Fields.{length-field}
-use Rattle.basics.proofs.Lists.{each-at, each-next, each-same, sum-most}
-use Rattle.laws.proofs.Places.{placeFrom, place, past-column}
+use Rattle.laws.proofs.Places.{past-column}
 use Rattle.laws.proofs.Sheets.{slot-fits, sheet-fits}
-use Rattle.laws.proofs.Turned.{slotsAt, slot-in}
-
--- the bytes that the fields of n rows take in a column that stands in front of s
-abbrev pub columnTotal : Column → ℕ → List ℕ → ℕ
-columnTotal col n s = sum (each 0 n (λ r. fieldLength (columnShape col) (slotAt (layout col) n s r)))
+use Rattle.laws.proofs.Turned.{slot-in}
+use Rattle.basics.proofs.Lists.{each-at, each-next, each-same, sum-most}
 
 -- k rows from row i on: the fields of the first column, and the rows of the others
 module _ (col : Column) (cols : List Column) (ss : List Slot) (sss : List (List Slot)) (h : AllSlots (columnShape col) ss) where
   one-more : (i k : ℕ)
-      → length (joined (map (row (col ∷ cols)) (each i k (slotsAt (ss ∷ sss)))))
-      ≡ sum (each i k (λ r. fieldLength (columnShape col) (getD ss r none))) + length (joined (map (row cols) (each i k (slotsAt sss))))
+      → length (joined (map (row (col ∷ cols)) (each i k (slotsIn (ss ∷ sss)))))
+      ≡ sum (each i k (λ r. fieldLength (columnShape col) (getD ss r none))) + length (joined (map (row cols) (each i k (slotsIn sss))))
   one-more i zero = refl
   one-more i (suc k) =
       let f : List ℕ = field (columnShape col) (col .options) (getD ss i none) in
-      let r : List ℕ = row cols (slotsAt sss i) in
+      let r : List ℕ = row cols (slotsIn sss i) in
       omega (
         arith,
-        length-append (f ++ r) (joined (map (row (col ∷ cols)) (each (suc i) k (slotsAt (ss ∷ sss))))),
+        length-append (f ++ r) (joined (map (row (col ∷ cols)) (each (suc i) k (slotsIn (ss ∷ sss))))),
         length-append f r,
-        length-append r (joined (map (row cols) (each (suc i) k (slotsAt sss)))),
+        length-append r (joined (map (row cols) (each (suc i) k (slotsIn sss)))),
         length-field (columnShape col) (col .options) (getD ss i none) (slot-in (columnShape col) ss i h),
         one-more (suc i) k,
       )
@@ -52,7 +48,7 @@ no-columns i (suc k) f = no-columns (suc i) k f
 
 total-from : (n at : ℕ) (cols : List Column) (s : List ℕ) (d : Column) → SheetFits n cols (sheetSlots n cols (drop at s))
     → sheetTotal n cols (drop at s) ≡ sum (each 0 (length cols) (λ c. columnTotal (getD cols c d) n (drop (placeFrom n at cols s c) s)))
-total-from n at [] s d h = no-columns 0 n (slotsAt [])
+total-from n at [] s d h = no-columns 0 n (slotsIn [])
 total-from n at (col ∷ cols) s d h =
     one-more col cols (columnSlots (layout col) n (drop at s)) (sheetSlots n cols (drop (columnBytes (layout col) n (drop at s)) (drop at s))) (h .1) 0 n
     ∙ ap₂ _+_ first
@@ -69,24 +65,7 @@ pub total-is : (n : ℕ) (cols : List Column) (s : List ℕ) (d : Column) → By
     → sheetTotal n cols s ≡ sum (each 0 (length cols) (λ c. columnTotal (getD cols c d) n (drop (place n cols s c) s)))
 total-is n cols s d b e = total-from n 0 cols s d (sheet-fits n cols s b e)
 
--- ---- the null total, column by column; of each, bits' `column-nulls` says that nulls and ones make n
-nulls-from : (n at : ℕ) (cols : List Column) (s : List ℕ) (d : Column)
-    → nulls (sheetSlots n cols (drop at s)) ≡ sum (each 0 (length cols) (λ c. nullsIn (columnSlots (layout (getD cols c d)) n (drop (placeFrom n at cols s c) s))))
-nulls-from n at [] s d = refl
-nulls-from n at (col ∷ cols) s d =
-    ap (λ (k : ℕ). nullsIn (columnSlots (layout col) n (drop at s)) + k)
-    (ap (λ (z : List ℕ). nulls (sheetSlots n cols z)) (past-column (layout col) n at s)
-    ∙ nulls-from n (at + columnBytes (layout col) n (drop at s)) cols s d
-    ∙ ap sum (sym (each-next 0 (length cols) (λ c. nullsIn (columnSlots (layout (getD (col ∷ cols) c d)) n (drop (placeFrom n at (col ∷ cols) s c) s))))))
-
-pub nulls-is : (n : ℕ) (cols : List Column) (s : List ℕ) (d : Column)
-    → nulls (sheetSlots n cols s) ≡ sum (each 0 (length cols) (λ c. nullsIn (columnSlots (layout (getD cols c d)) n (drop (place n cols s c) s))))
-nulls-is n cols s d = nulls-from n 0 cols s d
-
 -- ---- no field is longer than that of the longest value, so a column's total is small
-abbrev pub maxField : ℕ
-maxField = paddedLength maxSlot
-
 padded-most : (n : ℕ) → n ≤ maxSlot → paddedLength n ≤ maxField
 padded-most n l = go (leb n 32) refl
   where

@@ -9,10 +9,9 @@ use lib.Seq.{length-take-le, take-at, drop-at}
 use Rattle.format.specs.Key.{flip, key, partsKey, partsUnkey, restInverted, signedKey, topFlipped, unkey}
 use Rattle.format.specs.Kinds.{Fixed, bool, float, integer, number, parts, plain, width}
 use Rattle.format.specs.Lists.{Bytes, sum}
-use Rattle.laws.proofs.Invert.{invert-invert}
 use Rattle.basics.proofs.Compare.{choose}
 use borrow.Author.Tests.{lt-ltb, le-ltb}
-use Rattle.basics.proofs.Bytes.{bytes-append, bytes-drop, bytes-restInverted, bytes-reverse, bytes-take, bytes-topFlipped, length-restInverted, length-topFlipped, long-float, long-signed}
+use Rattle.basics.proofs.Bytes.{bytes-append, bytes-drop, bytes-restInverted, bytes-reverse, bytes-take, bytes-topFlipped, length-restInverted, length-topFlipped, long-float, long-signed, invert-invert}
 
 flip-flip : (x : ℕ) → x < 256 → flip (flip x) ≡ x
 flip-flip x b = go (choose x 128)
@@ -21,11 +20,11 @@ flip-flip x b = go (choose x 128)
     go (inl h) = rw (lt-ltb x 128 h) (rw (le-ltb (x + 128) 128 (omega arith)) (omega arith))
     go (inr h) = rw (le-ltb x 128 h) (rw (lt-ltb (x - 128) 128 (omega arith)) (omega arith))
 
-pub top-top : (f : List ℕ) → Bytes f → topFlipped (topFlipped f) ≡ f
+top-top : (f : List ℕ) → Bytes f → topFlipped (topFlipped f) ≡ f
 top-top [] b = refl
 top-top (x ∷ f) b = ap (λ (z : ℕ). z ∷ f) (flip-flip x (b .0))
 
-pub rest-rest : (f : List ℕ) → Bytes f → restInverted (restInverted f) ≡ f
+rest-rest : (f : List ℕ) → Bytes f → restInverted (restInverted f) ≡ f
 rest-rest [] b = refl
 rest-rest (x ∷ f) b = go (choose x 128)
   where
@@ -46,7 +45,8 @@ parts-back [] v b l = nil v l
     nil [] l = refl
     nil (x ∷ v) l = absurd (omega arith)
 parts-back (n ∷ ns) v b l =
-    ap₂ (λ (p q : List ℕ). reverse (topFlipped p) ++ partsUnkey ns q) (take-at (signedKey (take n v)) (partsKey ns (drop n v)) n long) (drop-at (signedKey (take n v)) (partsKey ns (drop n v)) n long)
+    ap₂ (λ (p q : List ℕ). reverse (topFlipped p) ++ partsUnkey ns q) (take-at (signedKey (take n v)) (partsKey ns (drop n v)) n long)
+    (drop-at (signedKey (take n v)) (partsKey ns (drop n v)) n long)
     ∙ ap₂ (λ (p q : List ℕ). p ++ q) (unsign (take n v) (bytes-take n v b)) (parts-back ns (drop n v) (bytes-drop n v b) (omega (arith, length-drop n v)))
     ∙ take-append-drop n v
   where
@@ -60,7 +60,8 @@ parts-again [] v b l = nil v l
     nil [] l = refl
     nil (x ∷ v) l = absurd (omega arith)
 parts-again (n ∷ ns) f b l =
-    ap₂ (λ (p q : List ℕ). signedKey p ++ partsKey ns q) (take-at (reverse (topFlipped (take n f))) (partsUnkey ns (drop n f)) n long) (drop-at (reverse (topFlipped (take n f))) (partsUnkey ns (drop n f)) n long)
+    ap₂ (λ (p q : List ℕ). signedKey p ++ partsKey ns q) (take-at (reverse (topFlipped (take n f))) (partsUnkey ns (drop n f)) n long)
+    (drop-at (reverse (topFlipped (take n f))) (partsUnkey ns (drop n f)) n long)
     ∙ ap₂ (λ (p q : List ℕ). p ++ q) (resign (take n f) (bytes-take n f b)) (parts-again ns (drop n f) (bytes-drop n f b) (omega (arith, length-drop n f)))
     ∙ take-append-drop n f
   where
@@ -104,7 +105,8 @@ length-key (parts ns) v l = length-parts ns v l
 bytes-partsUnkey : (ns f : List ℕ) → Bytes f → Bytes (partsUnkey ns f)
 bytes-partsUnkey [] f b = tt
 bytes-partsUnkey (n ∷ ns) f b =
-    bytes-append (reverse (topFlipped (take n f))) (partsUnkey ns (drop n f)) (bytes-reverse (topFlipped (take n f)) (bytes-topFlipped (take n f) (bytes-take n f b)))
+    bytes-append (reverse (topFlipped (take n f))) (partsUnkey ns (drop n f))
+    (bytes-reverse (topFlipped (take n f)) (bytes-topFlipped (take n f) (bytes-take n f b)))
     (bytes-partsUnkey ns (drop n f) (bytes-drop n f b))
 
 pub bytes-unkey : (k : Fixed) (f : List ℕ) → Bytes f → Bytes (unkey k f)
@@ -119,7 +121,8 @@ length-partsUnkey : (ns f : List ℕ) → length f ≡ sum ns → length (partsU
 length-partsUnkey [] f l = refl
 length-partsUnkey (n ∷ ns) f l =
     length-append (reverse (topFlipped (take n f))) (partsUnkey ns (drop n f))
-    ∙ ap₂ _+_ (length-reverse (topFlipped (take n f)) ∙ length-topFlipped (take n f) ∙ length-take-le n f (omega arith)) (length-partsUnkey ns (drop n f) (omega (arith, length-drop n f)))
+    ∙ ap₂ _+_ (length-reverse (topFlipped (take n f)) ∙ length-topFlipped (take n f) ∙ length-take-le n f (omega arith))
+    (length-partsUnkey ns (drop n f) (omega (arith, length-drop n f)))
 
 pub length-unkey : (k : Fixed) (f : List ℕ) → length f ≡ width k → length (unkey k f) ≡ width k
 length-unkey bool f l = l

@@ -1,1 +1,1 @@
-// No code: the crate holds theorems about the definitions of crate format, in proofs/.
+// No code: laws of the definitions of crate format that the proofs of code cite, in proofs/.

@@ -15,10 +15,10 @@ use Rattle.basics.proofs.Lists.{every-at}
 use Rattle.laws.proofs.Columns.{Narrow, columns-narrow, columns-few}
 use Rattle.list_reader.specs.declared.Listed.{Listed}
 use Rattle.format.specs.Schemas.{noColumn, schemaOf, colsOf, Limited}
-use Rattle.list_reader.specs.Listing.{ListedAs}
+use Rattle.list_reader.specs.Listing.{ListedAs, Sound}
 
 -- the columns in use of an array are those that it was made of
-pub cols-schema : (cs : List Column) → colsOf (schemaOf cs) ≡ cs
+cols-schema : (cs : List Column) → colsOf (schemaOf cs) ≡ cs
 cols-schema cs = take-append-seam cs (replicate (maxColumns - length cs) noColumn)
 
 -- the columns of a list within the ceilings make a schema within them
@@ -31,12 +31,6 @@ limited-schema cs few narrow = record {
 }
 
 -- what a list that passes gives
-pub record Sound (list : List ℕ) (schema : Schema) : Type 0 where
-  pub cols : colsOf schema ≡ columns list
-  pub count : schema .count ≡ length (columns list)
-  pub some : 1 ≤ schema .count
-  pub limited : Limited schema
-
 pub sound : (list : List ℕ) (r : Listed) → ListedAs list r → listFault list ≡ Pass → Sound list (r .schema)
 sound list r l e =
     let is = l .schema e in

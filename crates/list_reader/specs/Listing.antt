@@ -1,9 +1,11 @@
 -- What reading a column list says.
-use Prim.Native.Nat.{ℕ}
+use Prim.Native.Nat.{ℕ, _≤_}
 use mathlib.Core.Path.{_≡_}
 use mathlib.Core.List.{List}
+use lib.ListN.{length}
 use Rattle.format.specs.declared.Check.the-variants.{Pass}
-use Rattle.format.specs.Schemas.{schemaOf}
+use Rattle.format.specs.declared.Schema.{Schema}
+use Rattle.format.specs.Schemas.{schemaOf, colsOf, Limited}
 use Rattle.format.specs.Columns.{listFault, columns}
 use Rattle.list_reader.specs.declared.Listed.{Listed}
 
@@ -11,3 +13,10 @@ use Rattle.list_reader.specs.declared.Listed.{Listed}
 pub record ListedAs (list : List ℕ) (r : Listed) : Type 0 where
   pub check : r .check ≡ listFault list
   pub schema : listFault list ≡ Pass → r .schema ≡ schemaOf (columns list)
+
+-- what a list that passes gives: its columns, 1 to 16 of them, within the ceilings
+pub record Sound (list : List ℕ) (schema : Schema) : Type 0 where
+  pub cols : colsOf schema ≡ columns list
+  pub count : schema .count ≡ length (columns list)
+  pub some : 1 ≤ schema .count
+  pub limited : Limited schema

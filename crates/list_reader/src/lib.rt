@@ -3,7 +3,6 @@ ghost use mathlib.Core.Path.{_≡_};
 ghost use Prim.Native.Nat.{_+_, _<_, _≤_};
 ghost use lib.ListN.{length, getD};
 ghost use Rattle.format.specs.Columns.{kindOf, optionsOf, descriptionBytes, widthAt, columnAt, descriptionFault};
-ghost use Rattle.format.specs.Schemas.{noColumn};
 ghost use Rattle.list_reader.specs.Listing.{ListedAs};
 use format::Check;
 use format::Column;
@@ -11,18 +10,13 @@ use format::Kind;
 use format::Refusal;
 use format::Schema;
 use format::SortOptions;
+use format::no_column;
+use runs::wide;
 
 // What a list says: its first fault, and the columns of one that has none.
 pub struct Listed {
     pub check: Check,
     pub schema: Schema,
-}
-
-// A byte as a number.
-fn wide(x: u8) -> usize
-    ensures { λ r. ⌜ (r ≡ x) × (r < 256) ⌝ }
-{
-    x as usize
 }
 
 // The kind that a kind byte from 1 to 16 says; fixed binary takes its width along.
@@ -90,7 +84,7 @@ fn check_description(list: &[u8], at: usize) -> Check
     if kind < 1 {
         return Check::Refuse(Refusal::UnknownKind(at));
     }
-    if 16 < kind {
+    if format::LAST_KIND < kind {
         return Check::Refuse(Refusal::UnknownKind(at));
     }
     if list.len() - at < description_bytes(kind) {
@@ -114,20 +108,6 @@ fn column_at(list: &[u8], at: usize) -> Column
     let options = options_of(list[at + 1]);
     Column {
         kind: kind,
-        options: options,
-    }
-}
-
-// What fills the array after the columns in use.
-pub fn no_column() -> Column
-    ensures { λ r. ⌜ r ≡ noColumn ⌝ }
-{
-    let options = SortOptions {
-        descending: false,
-        nulls_first: false,
-    };
-    Column {
-        kind: Kind::Bool,
         options: options,
     }
 }

@@ -56,3 +56,14 @@ module _ (w : Width) where
       rw (e, toZ-ofZ (sfits-of {w = w} k))
       (sym (reverse-reverse (spell (ofZ w f)))
       ∙ ap reverse (q ∙ ap restInverted (again s (sfits-of h) ∙ ap reverse p ∙ reverse-reverse (topFlipped (spell x)))))
+
+  -- ---- patterns, by their coding
+
+  -- x read as signed, encoded to r
+  pub encode-s : (x r : ℕ) (s : ℤ) → Fits w x → s ≡ toZ w x → spell r ≡ signedKey (spell (ofZ w (kept s))) → spell r ≡ signedKey (spell x)
+  encode-s x r s h e p = p ∙ ap (λ (z : ℤ). signedKey (spell (ofZ w (kept z)))) e ∙ rw (ofZ-toZ h, ofZ-toZ h)
+
+  -- x decoded to s, whose pattern is r
+  pub decode-s : (x r : ℕ) (s : ℤ) → mag s < 2 ^ hbits w → spell (ofZ w s) ≡ signedUnkey (spell x) → r ≡ ofZ w (kept s)
+      → spell r ≡ signedUnkey (spell x)
+  decode-s x r s h p e = rw (e, toZ-ofZ (sfits-of {w = w} h)) p

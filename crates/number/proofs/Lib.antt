@@ -1,5 +1,6 @@
--- Laws over the count of bytes (Words, Keys) and over the width (Signed, Codecs), which the functions cite.
+-- Laws over the count of bytes (Words, Tops, Keys) and over the width (Signed, Codecs), which the functions cite.
 pub mod Words
+pub mod Tops
 pub mod Keys
 pub mod Signed
 pub mod Codecs

@@ -2,12 +2,12 @@
 use Prim.Native.Nat.{ℕ, zero, suc, _+_, _-_, _*_, _/_, _%_, _^_, _≤_, _<_}
 use mathlib.Core.Path.{_≡_, refl, sym, ap, ap₂, _∙_}
 use mathlib.Core.List.{List, [], _∷_, _++_, reverse, reverse-append}
-use native.Mathlib.Nat.{one-le-pow, mod-lt, mod-add-div, div-add-mod', div-lt-iff-lt-mul, pow-suc, pow-succ', mul-comm}
+use native.Mathlib.Nat.{one-le-pow, mod-lt, mod-eq-of-lt, mod-add-div, div-add-mod', div-lt-iff-lt-mul, pow-suc, pow-succ', mul-comm}
 use native.Mathlib.Omega.{arith}
 use lib.Dec.{lit<}
 use lib.Pow.{pow-add}
 use lib.Arith.{digits-div, digits-mod, lt-one}
-use lib.ListN.{length, getD, take, drop, length-append, length-drop}
+use lib.ListN.{length, getD, set, take, drop, length-append, length-drop}
 use lib.Seq.{sets, drop-cons, drop-drop, take-add, take-all, length-take-le}
 use Rattle.format.specs.Lists.{Bytes, low, lowBytes}
 use Rattle.basics.proofs.Bytes.{bytes-append, bytes-drop, bytes-of, bytes-take}
@@ -80,7 +80,8 @@ module _ (m n : ℕ) where
 
   -- and from the front of what stands from the place on
   pub read-rest : (l : List ℕ) (at x lo hi : ℕ) → at + m ≤ length l → x ≡ lo + 256 ^ m * hi
-      → lo ≡ low (take m (take (length l - at) (drop at l))) → hi ≡ low (take n (drop m (take (length l - at) (drop at l)))) → x ≡ low (take (m + n) (drop at l))
+      → lo ≡ low (take m (take (length l - at) (drop at l))) → hi ≡ low (take n (drop m (take (length l - at) (drop at l))))
+      → x ≡ low (take (m + n) (drop at l))
   read-rest l at x lo hi h e p q =
       let rest = take-all (length l - at) (drop at l) (omega (arith, length-drop at l)) in
       read l at x lo hi h e (p ∙ ap (λ (t : List ℕ). low (take m t)) rest)
@@ -114,3 +115,10 @@ pub read-back : (n : ℕ) (l : List ℕ) (at x : ℕ) → ((i : ℕ) → getD l 
 read-back n l at x b h e =
     spelled n x (take n (drop at l)) (bytes-take n (drop at l) (bytes-drop at l (bytes-of l b)))
     (length-take-le n (drop at l) (rw (length-drop at l) (omega arith))) e
+
+pub byte-back : (l : List ℕ) (at : ℕ) → ((i : ℕ) → getD l i 0 < 256) → at + 1 ≤ length l → lowBytes 1 (getD l at 0) ≡ take 1 (drop at l)
+byte-back l at b h = read-back 1 l at (getD l at 0) b h (byte l at (omega arith))
+
+-- a byte that is stored is one byte of itself
+pub byte-set : (l : List ℕ) (at x : ℕ) → x < 256 → set l at x ≡ sets l at (lowBytes 1 x)
+byte-set l at x h = ap (set l at) (sym (mod-eq-of-lt h))

@@ -1,5 +1,5 @@
 // The number codecs, total on every bit pattern. A codec's word is the one whose bytes, stored low byte first, are the
-// value bytes of the row.
+// value bytes of the row. Of an unsigned number that is the number with its bytes turned round.
 //
 //     sheet    i32 -1    FF FF FF FF    low byte first
 //     row                7F FF FF FF    high byte first, top bit flipped
@@ -8,25 +8,25 @@ ghost use mathlib.Core.List.{reverse};
 ghost use mir.Syntax.{w8, w16, w32, w64};
 ghost use mir.Val.{ofZ};
 ghost use Rattle.format.specs.Lists.{lowBytes};
-ghost use Rattle.format.specs.Key.{unsignedKey, signedKey, signedUnkey, floatKey, floatUnkey};
+ghost use Rattle.format.specs.Key.{signedKey, signedUnkey, floatKey, floatUnkey};
 ghost use Rattle.format.specs.Field.{directed};
 use crate::sign;
 use crate::word;
 
 // The bytes turned round: each half is, and they change places. The optimiser makes one byte swap of it.
-fn swap16(x: u16) -> u16
+pub fn swap16(x: u16) -> u16
     ensures { λ r. ⌜ lowBytes 2 r ≡ reverse (lowBytes 2 x) ⌝ }
 {
     word::join16((x / 256) as u8, (x % 256) as u8)
 }
 
-fn swap32(x: u32) -> u32
+pub fn swap32(x: u32) -> u32
     ensures { λ r. ⌜ lowBytes 4 r ≡ reverse (lowBytes 4 x) ⌝ }
 {
     word::join32(swap16((x / 65536) as u16), swap16((x % 65536) as u16))
 }
 
-fn swap64(x: u64) -> u64
+pub fn swap64(x: u64) -> u64
     ensures { λ r. ⌜ lowBytes 8 r ≡ reverse (lowBytes 8 x) ⌝ }
 {
     word::join64(
@@ -35,102 +35,53 @@ fn swap64(x: u64) -> u64
     )
 }
 
-// Unsigned numbers, and back: high byte first.
-pub fn encode_u8(x: u8) -> u8
-    ensures { λ r. ⌜ lowBytes 1 r ≡ unsignedKey (lowBytes 1 x) ⌝ }
-{
-    x
-}
-
-pub fn encode_u16(x: u16) -> u16
-    ensures { λ r. ⌜ lowBytes 2 r ≡ unsignedKey (lowBytes 2 x) ⌝ }
-{
-    swap16(x)
-}
-
-pub fn encode_u32(x: u32) -> u32
-    ensures { λ r. ⌜ lowBytes 4 r ≡ unsignedKey (lowBytes 4 x) ⌝ }
-{
-    swap32(x)
-}
-
-pub fn encode_u64(x: u64) -> u64
-    ensures { λ r. ⌜ lowBytes 8 r ≡ unsignedKey (lowBytes 8 x) ⌝ }
-{
-    swap64(x)
-}
-
-pub fn decode_u8(x: u8) -> u8
-    ensures { λ r. ⌜ lowBytes 1 r ≡ reverse (lowBytes 1 x) ⌝ }
-{
-    x
-}
-
-pub fn decode_u16(x: u16) -> u16
-    ensures { λ r. ⌜ lowBytes 2 r ≡ reverse (lowBytes 2 x) ⌝ }
-{
-    swap16(x)
-}
-
-pub fn decode_u32(x: u32) -> u32
-    ensures { λ r. ⌜ lowBytes 4 r ≡ reverse (lowBytes 4 x) ⌝ }
-{
-    swap32(x)
-}
-
-pub fn decode_u64(x: u64) -> u64
-    ensures { λ r. ⌜ lowBytes 8 r ≡ reverse (lowBytes 8 x) ⌝ }
-{
-    swap64(x)
-}
-
 // Signed numbers, and back: the same, top bit flipped.
 pub fn encode_i8(s: i8) -> u8
     ensures { λ r. ⌜ lowBytes 1 r ≡ signedKey (lowBytes 1 (ofZ w8 s)) ⌝ }
 {
-    encode_u8(sign::pattern8(s) ^ 128)
+    sign::pattern8(s) ^ 128
 }
 
 pub fn encode_i16(s: i16) -> u16
     ensures { λ r. ⌜ lowBytes 2 r ≡ signedKey (lowBytes 2 (ofZ w16 s)) ⌝ }
 {
-    encode_u16(sign::pattern16(s) ^ 32768)
+    swap16(sign::pattern16(s) ^ 32768)
 }
 
 pub fn encode_i32(s: i32) -> u32
     ensures { λ r. ⌜ lowBytes 4 r ≡ signedKey (lowBytes 4 (ofZ w32 s)) ⌝ }
 {
-    encode_u32(sign::pattern32(s) ^ 2147483648)
+    swap32(sign::pattern32(s) ^ 2147483648)
 }
 
 pub fn encode_i64(s: i64) -> u64
     ensures { λ r. ⌜ lowBytes 8 r ≡ signedKey (lowBytes 8 (ofZ w64 s)) ⌝ }
 {
-    encode_u64(sign::pattern64(s) ^ 9223372036854775808)
+    swap64(sign::pattern64(s) ^ 9223372036854775808)
 }
 
 pub fn decode_i8(x: u8) -> i8
     ensures { λ r. ⌜ lowBytes 1 (ofZ w8 r) ≡ signedUnkey (lowBytes 1 x) ⌝ }
 {
-    sign::signed8(decode_u8(x) ^ 128)
+    sign::signed8(x ^ 128)
 }
 
 pub fn decode_i16(x: u16) -> i16
     ensures { λ r. ⌜ lowBytes 2 (ofZ w16 r) ≡ signedUnkey (lowBytes 2 x) ⌝ }
 {
-    sign::signed16(decode_u16(x) ^ 32768)
+    sign::signed16(swap16(x) ^ 32768)
 }
 
 pub fn decode_i32(x: u32) -> i32
     ensures { λ r. ⌜ lowBytes 4 (ofZ w32 r) ≡ signedUnkey (lowBytes 4 x) ⌝ }
 {
-    sign::signed32(decode_u32(x) ^ 2147483648)
+    sign::signed32(swap32(x) ^ 2147483648)
 }
 
 pub fn decode_i64(x: u64) -> i64
     ensures { λ r. ⌜ lowBytes 8 (ofZ w64 r) ≡ signedUnkey (lowBytes 8 x) ⌝ }
 {
-    sign::signed64(decode_u64(x) ^ 9223372036854775808)
+    sign::signed64(swap64(x) ^ 9223372036854775808)
 }
 
 // Floats as their bits, and back: folded, then as signed.

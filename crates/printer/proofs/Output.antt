@@ -1,15 +1,14 @@
--- The output, case by case: of a sheet that was encoded, of an input whose header is whole or cut, and of one that goes on. And how
+-- The output, case by case: of a sheet that was encoded, of an input that is too long, and of one whose header is whole or cut. And how
 -- long it is. Assumes nothing.
 use Prim.Native.Nat.{ℕ, suc, _+_, _-_, _<_, _≤_}
 use mathlib.Core.Path.{_≡_, refl, sym, ap, ap₂, _∙_}
 use mathlib.Core.Bool.{Bool, true, false, cond}
-use mathlib.Core.List.{List, [], _∷_, _++_, append-nil}
+use mathlib.Core.List.{List, _++_}
 use native.Mathlib.Numerals.{add-one}
 use native.Mathlib.Omega.{arith}
-use lib.Dec.{ltb}
-use lib.ListN.{length, take, drop, replicate, length-append, length-replicate}
+use lib.ListN.{length, take, drop, replicate, length-replicate}
 use lib.Seq.{drop-cons, take-at, drop-at, length-take-le, length-sets}
-use borrow.Author.Tests.{ltb-true, ltb-false, lt-ltb, le-ltb}
+use borrow.Author.Tests.{lt-ltb, le-ltb}
 use borrow.Rule.Slice.PartAt.{part-to-end}
 use Rattle.format.specs.declared.Refusal.{Refusal}
 use Rattle.format.specs.declared.Refusal.the-variants.{Input}
@@ -25,15 +24,18 @@ use Rattle.format.specs.Numbers.{refusalNumbers}
 use Rattle.format.specs.Entries.{answer, sheetRows, sheetTotal, measureCheck, encodeCheck, encodeAnswer, cutRows}
 use Rattle.format.specs.Promises.{Encoded}
 use Rattle.format.specs.Program.{inputRoom, rowRoom, offsetRoom, hexLines, refusedLine, two, headerCut, listIn, countIn, sheetIn, lines, output}
+use Rattle.format.specs.Passed.{Cuts}
 use Rattle.basics.proofs.Append.{over-sets}
 use Rattle.basics.proofs.Checks.{enough, both-pass}
 use Rattle.laws.proofs.Accept.{encoded, encode-done, encode-rows, encode-offsets}
-use Rattle.laws.proofs.Cuts.{Cuts, written-cuts, written-rows}
+use Rattle.laws.proofs.Cuts.{written-cuts, written-rows}
 use Rattle.laws.proofs.Turned.{rows-many}
 use Rattle.io.specs.Counts.{Counts}
-use Rattle.printer.specs.Printed.{textRoom, sheetText, Wrote, Read, Printed}
+use Rattle.basics.specs.Wrote.{Wrote}
+use Rattle.printer.specs.Printed.{textRoom, sheetText, Printed}
 use Rattle.printer.proofs.Rows.{length-lines}
 use Rattle.printer.proofs.Refused.{refused-short}
+use Rattle.laws.proofs.Numbers.{numbers-injective}
 
 -- ---- a sheet
 
@@ -72,8 +74,11 @@ module _ (list : List ℕ) (n : ℕ) (sheet : List ℕ) (given : Answer) (rows�
   offsets-long : length offsets ≡ offsetRoom
   offsets-long = length-replicate {A = ℕ} offsetRoom 0
 
+  answers : given ≡ encodeAnswer list n sheet (length rows) (length offsets)
+  answers = numbers-injective given _ (h .answers)
+
   told : given ≡ encodeAnswer list n sheet rowRoom offsetRoom
-  told = h .answers ∙ ap₂ (encodeAnswer list n sheet) rows-long offsets-long
+  told = answers ∙ ap₂ (encodeAnswer list n sheet) rows-long offsets-long
 
   pub refused-text : (x : Refusal) → given ≡ Refused x → refusedLine (refusalNumbers x) ≡ sheetText list n sheet
   unfolding encodeAnswer
@@ -84,7 +89,7 @@ module _ (list : List ℕ) (n : ℕ) (sheet : List ℕ) (given : Answer) (rows�
     encodedRows = sheetRows n (columns list) sheet
 
     passes : encodeCheck list n sheet (length rows) (length offsets) ≡ Pass
-    passes = encode-done list n sheet (length rows) (length offsets) x y (sym (h .answers) ∙ e) .0
+    passes = encode-done list n sheet (length rows) (length offsets) x y (sym answers ∙ e) .0
 
     many : length encodedRows ≡ n
     many = rows-many n (columns list) (sheetSlots n (columns list) sheet)
@@ -118,7 +123,7 @@ unfolding output
 whole-output s e = rw e
 
 -- over 32,768 bytes
-long-output : (s : List ℕ) → inputRoom < length s → refusedLine (refusalNumbers Input) ≡ output s
+pub long-output : (s : List ℕ) → inputRoom < length s → refusedLine (refusalNumbers Input) ≡ output s
 long-output s h = cut-output s (rw (lt-ltb inputRoom (length s) h))
 
 module _ (s : List ℕ) (few : length s ≤ inputRoom) where
@@ -175,31 +180,15 @@ module _ (text out out′ : List ℕ) (r : ℕ) (w : Wrote text 0 out out′ r) 
   back : drop r out′ ≡ drop r out
   back = ap (drop r) over-is ∙ drop-at text (drop (length text) out) r (sym long) ∙ ap (λ (k : ℕ). drop k out) (sym long)
 
--- more follows: the input is over 32,768 bytes
-pub printed-long : (input out out′ : List ℕ) (more : Bool) (r : ℕ) → Read input more → more ≡ true → textRoom ≤ length out
+-- what is shown: 25 where more follows, and else the output
+pub printed-more : (input out out′ : List ℕ) (more : Bool) (r : ℕ) → more ≡ true → textRoom ≤ length out
     → Wrote (refusedLine (refusalNumbers Input)) 0 out out′ r → Printed input more out out′ r
-printed-long input out out′ more r i e room w =
+printed-more input out out′ more r e room w =
     let fits : length (refusedLine (refusalNumbers Input)) ≤ length out = omega (arith, refused-short (refusalNumbers Input)) in
-    record {
-      counts = counted _ out out′ r w fits;
-      says = λ rest f.
-          front _ out out′ r w fits
-          ∙ long-output (input ++ rest) (omega (arith, i .full e, length-append input rest, ltb-true 0 (length rest) (sym f ∙ e)));
-      stays = back _ out out′ r w fits;
-    }
-
--- nothing does: the input is what was read
-none-left : (rest : List ℕ) → false ≡ ltb 0 (length rest) → rest ≡ []
-none-left [] e = refl
-none-left (x ∷ rest) e = absurd (omega (arith, ltb-false 0 (length (x ∷ rest)) (sym e)))
+    record { counts = counted _ out out′ r w fits; says = rw e (front _ out out′ r w fits); stays = back _ out out′ r w fits }
 
 pub printed-whole : (input out out′ : List ℕ) (more : Bool) (r : ℕ) → more ≡ false → textRoom ≤ length out → Wrote (output input) 0 out out′ r
     → Printed input more out out′ r
 printed-whole input out out′ more r e room w =
     let fits : length (output input) ≤ length out = omega (arith, output-short input) in
-    record {
-      counts = counted _ out out′ r w fits;
-      says = λ rest f.
-          front _ out out′ r w fits ∙ ap output (sym (append-nil input) ∙ ap (λ (l : List ℕ). input ++ l) (sym (none-left rest (sym e ∙ f))));
-      stays = back _ out out′ r w fits;
-    }
+    record { counts = counted _ out out′ r w fits; says = rw e (front _ out out′ r w fits); stays = back _ out out′ r w fits }

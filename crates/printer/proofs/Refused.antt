@@ -6,7 +6,8 @@ use native.Mathlib.Omega.{arith}
 use lib.ListN.{length, length-append}
 use Rattle.format.specs.declared.Returned.{Returned}
 use Rattle.format.specs.Program.{decimal, refusedLine}
-use Rattle.printer.specs.Printed.{refusedRoom, numberText, Wrote}
+use Rattle.basics.specs.Wrote.{Wrote}
+use Rattle.printer.specs.Printed.{refusedRoom, numberText}
 use Rattle.printer.proofs.Written.{wrote-then, wrote-as, wrote-long}
 use Rattle.printer.proofs.Decimal.{decimal-short, number-short}
 
@@ -37,8 +38,8 @@ regroup : (w x y z s t : List ℕ) → w ++ (x ++ s) ++ (y ++ s) ++ (z ++ t) ≡
 regroup w x y z s t = simp append-assoc
 
 pub refused-wrote : (a b : Returned) {out out₁ out₂ out₃ out₄ : List ℕ} {first second third last : ℕ} → a ≡ b → Wrote word 0 out out₁ first
-    → Wrote (numberText (a .0) 32) first out₁ out₂ second → Wrote (numberText (a .1) 32) second out₂ out₃ third → Wrote (numberText (a .2) 10) third out₃ out₄ last
-    → Wrote (refusedLine b) 0 out out₄ last
+    → Wrote (numberText (a .0) 32) first out₁ out₂ second → Wrote (numberText (a .1) 32) second out₂ out₃ third
+    → Wrote (numberText (a .2) 10) third out₃ out₄ last → Wrote (refusedLine b) 0 out out₄ last
 refused-wrote a b e w x y z =
     wrote-as (wrote-then _ _ (wrote-then _ _ (wrote-then _ _ w x) y) z)
     (regroup word (decimal 20 (a .0)) (decimal 20 (a .1)) (decimal 20 (a .2)) (32 ∷ []) (10 ∷ []) ∙ ap refusedLine e)

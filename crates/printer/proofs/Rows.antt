@@ -8,9 +8,11 @@ use lib.ListN.{length, getD, length-append}
 use Rattle.format.specs.Lists.{each, joined}
 use Rattle.format.specs.Entries.{rowBytes, cutRows}
 use Rattle.format.specs.Program.{hex, hexLines}
+use Rattle.format.specs.Passed.{Cuts}
 use Rattle.basics.proofs.Append.{Turns, turns-begin, turns-room, turns-more, turns-end}
-use Rattle.laws.proofs.Cuts.{Cuts, below-last}
-use Rattle.printer.specs.Printed.{rowLine, Wrote}
+use Rattle.laws.proofs.Cuts.{below-last}
+use Rattle.basics.specs.Wrote.{Wrote}
+use Rattle.printer.specs.Printed.{rowLine}
 
 -- ---- how long they are
 length-hex : (row : List ℕ) → length (hex row) ≡ 2 * length row

@@ -8,7 +8,8 @@ use lib.ListN.{length, getD, set, drop, length-append, drop-of-length-le}
 use lib.Seq.{length-sets, drop-cons}
 use Rattle.format.specs.Program.{digit, hex}
 use Rattle.basics.proofs.Append.{Walk, sets-append, walk-start, walk-end, walk-piece, walk-room}
-use Rattle.printer.specs.Printed.{rowLine, Wrote}
+use Rattle.basics.specs.Wrote.{Wrote}
+use Rattle.printer.specs.Printed.{rowLine}
 
 -- ---- pieces
 pub wrote-then : (xs ys : List ℕ) {at : ℕ} {out out′ out″ : List ℕ} {next last : ℕ} → Wrote xs at out out′ next → Wrote ys next out′ out″ last

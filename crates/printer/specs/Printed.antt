@@ -1,14 +1,14 @@
--- What is asked and promised of the program's text: of each piece, where it goes; of the whole, that it is the output.
-use Prim.Native.Nat.{ℕ, _+_, _≤_}
+-- What is promised of the program's text: its pieces, what was read, and what is shown for it.
+use Prim.Native.Nat.{ℕ, _≤_}
 use mathlib.Core.Path.{_≡_}
-use mathlib.Core.Bool.{Bool, true}
+use mathlib.Core.Bool.{Bool, true, cond}
 use mathlib.Core.List.{List, [], _∷_, _++_}
-use lib.Dec.{ltb}
 use lib.ListN.{length, take, drop}
-use lib.Seq.{sets}
+use Rattle.format.specs.declared.Refusal.the-variants.{Input}
 use Rattle.format.specs.Columns.{columns}
+use Rattle.format.specs.Numbers.{refusalNumbers}
 use Rattle.format.specs.Entries.{encodeCheck, sheetRows}
-use Rattle.format.specs.Program.{inputRoom, rowRoom, offsetRoom, hex, decimal, lines, output}
+use Rattle.format.specs.Program.{inputRoom, rowRoom, offsetRoom, hex, decimal, refusedLine, lines, output}
 use Rattle.io.specs.Counts.{Counts}
 
 -- the hex digits of 32,768 row bytes, and 4,096 newlines; a refused line has at most 71 bytes
@@ -30,19 +30,17 @@ numberText n after = decimal 20 n ++ (after ∷ [])
 abbrev pub sheetText : List ℕ → ℕ → List ℕ → List ℕ
 sheetText list n sheet = lines (encodeCheck list n sheet rowRoom offsetRoom) (sheetRows n (columns list) sheet)
 
--- text is written at a place, and the place after it is returned
-pub record Wrote (text : List ℕ) (at : ℕ) (entry exit : List ℕ) (next : ℕ) : Type 0 where
-  pub place : next ≡ at + length text
-  pub bytes : exit ≡ sets entry at text
-
 -- what was read of standard input: no more than there is room for, and where more follows, as much
 pub record Read (input : List ℕ) (more : Bool) : Type 0 where
   pub few : length input ≤ inputRoom
   pub full : more ≡ true → length input ≡ inputRoom
 
--- the first r bytes are the output for the whole of standard input: for what was read and every rest, which is empty unless
--- more follows. The others stay
+-- 25 where more follows, and else the output for what was read, which is 25 too where that is over 32,768 bytes
+abbrev pub shown : List ℕ → Bool → List ℕ
+shown input more = cond more (refusedLine (refusalNumbers Input)) (output input)
+
+-- the first r bytes are what is shown; the others stay
 pub record Printed (input : List ℕ) (more : Bool) (entry exit : List ℕ) (r : ℕ) : Type 0 where
   pub counts : Counts r exit
-  pub says : (rest : List ℕ) → more ≡ ltb 0 (length rest) → take r exit ≡ output (input ++ rest)
+  pub says : take r exit ≡ shown input more
   pub stays : drop r exit ≡ drop r entry

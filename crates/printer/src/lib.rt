@@ -1,8 +1,9 @@
 // What the program prints for what it reads: document 01's input taken apart, encoded, and shown as text.
 ghost use Prim.Native.Nat.{_≤_};
 ghost use lib.ListN.{length};
-ghost use Rattle.format.specs.Program.{inputRoom, output};
-ghost use Rattle.printer.specs.Printed.{textRoom, sheetText, Wrote, Read, Printed};
+ghost use Rattle.format.specs.Program.{output};
+ghost use Rattle.basics.specs.Wrote.{Wrote};
+ghost use Rattle.printer.specs.Printed.{textRoom, sheetText, Printed};
 use crate::text::put_refused;
 use crate::text::put_rows;
 use format::Answer;
@@ -14,10 +15,8 @@ mod text;
 // The most that is read of standard input.
 pub const INPUT_ROOM: usize = 32768;
 
-// The row buffer, and where each of 4,096 rows begins and the last ends.
+// The row buffer.
 const ROW_ROOM: usize = 32768;
-
-const OFFSET_ROOM: usize = 4097;
 
 // The most that is printed: 32,768 row bytes in hex and 4,096 newlines.
 pub const TEXT_ROOM: usize = 69632;
@@ -28,7 +27,7 @@ fn print_sheet(list: &[u8], n: u64, sheet: &[u8], out: &mut [u8]) -> usize
     ensures { λ r. ⌜ Wrote (sheetText (now (list .entry)) n (now (sheet .entry))) 0 (now (out .entry)) (now (out .exit)) r ⌝ }
 {
     let mut rows = [0u8; ROW_ROOM];
-    let mut offsets = [0u64; OFFSET_ROOM];
+    let mut offsets = [0u64; format::MAX_OFFSETS];
     let answer = station::encode::encode(list, n, sheet, &mut rows, &mut offsets);
     if let Answer::Refused(r) = answer {
         return put_refused(r, out);
@@ -36,12 +35,15 @@ fn print_sheet(list: &[u8], n: u64, sheet: &[u8], out: &mut [u8]) -> usize
     put_rows(&rows, &offsets, n as usize, out)
 }
 
-// The whole input: list length, list, row count, and the sheet to the end. 25, a cut header, comes before all else.
+// The whole input: list length, list, row count, and the sheet to the end. 25, an input over 32,768 bytes or a cut header, comes
+// before all else.
 fn print_input(input: &[u8], out: &mut [u8]) -> usize
-    requires { ⌜ length (now input) ≤ inputRoom ⌝ }
     requires { ⌜ textRoom ≤ length (now out) ⌝ }
     ensures { λ r. ⌜ Wrote (output (now (input .entry))) 0 (now (out .entry)) (now (out .exit)) r ⌝ }
 {
+    if INPUT_ROOM < input.len() {
+        return put_refused(Refusal::Input, out);
+    }
     if input.len() < 2 {
         return put_refused(Refusal::Input, out);
     }
@@ -54,9 +56,9 @@ fn print_input(input: &[u8], out: &mut [u8]) -> usize
     print_sheet(&input[2..list_end], n, &input[sheet_start..], out)
 }
 
-// The text for what was read of standard input, in front of `out`, and its length. Where more follows, the input is over 32,768 bytes.
+// The text for what was read of standard input, in front of `out`, and its length: 25 where more follows, or where that is over
+// 32,768 bytes.
 pub fn print(input: &[u8], more: bool, out: &mut [u8; TEXT_ROOM]) -> usize
-    requires { ⌜ Read (now input) more ⌝ }
     ensures { λ r. ⌜ Printed (now (input .entry)) more (now (out .entry)) (now (out .exit)) r ⌝ }
 {
     if more {

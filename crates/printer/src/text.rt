@@ -5,8 +5,9 @@ ghost use lib.ListN.{length};
 ghost use Rattle.format.specs.Numbers.{refusalNumbers};
 ghost use Rattle.format.specs.Entries.{cutRows};
 ghost use Rattle.format.specs.Program.{digit as hexDigit, hexLines, refusedLine};
-ghost use Rattle.laws.proofs.Cuts.{Cuts};
-ghost use Rattle.printer.specs.Printed.{refusedRoom, rowLine, numberText, Wrote};
+ghost use Rattle.format.specs.Passed.{Cuts};
+ghost use Rattle.basics.specs.Wrote.{Wrote};
+ghost use Rattle.printer.specs.Printed.{refusedRoom, rowLine, numberText};
 use format::Refusal;
 
 // A hex digit, in lower case.
@@ -36,7 +37,7 @@ fn put_row(row: &[u8], out: &mut [u8], at: usize) -> usize
 }
 
 // The n rows that the offsets cut out of the row bytes, a line each.
-pub fn put_rows(rows: &[u8], offsets: &[u64], n: usize, out: &mut [u8]) -> usize
+pub(crate) fn put_rows(rows: &[u8], offsets: &[u64], n: usize, out: &mut [u8]) -> usize
     requires { ⌜ Cuts n (now rows) (now offsets) ⌝ }
     requires { ⌜ length (hexLines (cutRows n (now rows) (now offsets))) ≤ length (now out) ⌝ }
     ensures { λ r. ⌜ Wrote (hexLines (cutRows n (now (rows .entry)) (now (offsets .entry)))) 0 (now (out .entry)) (now (out .exit)) r ⌝ }
@@ -78,7 +79,7 @@ fn put_number(n: u64, after: u8, out: &mut [u8], at: usize) -> usize
 }
 
 // The line of a refusal: the word, and its three numbers.
-pub fn put_refused(r: Refusal, out: &mut [u8]) -> usize
+pub(crate) fn put_refused(r: Refusal, out: &mut [u8]) -> usize
     requires { ⌜ refusedRoom ≤ length (now out) ⌝ }
     ensures { λ x. ⌜ Wrote (refusedLine (refusalNumbers r)) 0 (now (out .entry)) (now (out .exit)) x ⌝ }
 {

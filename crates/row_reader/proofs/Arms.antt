@@ -11,9 +11,9 @@ use Rattle.format.specs.declared.SortOptions.{SortOptions}
 use Rattle.format.specs.Kinds.{Fixed, Shape, Slot, shape, valueBytes}
 use Rattle.format.specs.Read.{fieldRead, readField, readFixed}
 use Rattle.format.specs.Sheet.{Layout, layoutFor}
+use Rattle.format.specs.Cleared.{added}
 use Rattle.basics.specs.Wide.{WideKind, WideShape}
 use Rattle.basics.proofs.Sorts.{wide-shape, wide-layout, fixedKeys, fixed-arm}
-use Rattle.laws.proofs.Room.{added}
 
 -- what is read of a field of one width is what the definition reads
 pub wide-read : (k : Kind) (o : SortOptions) (row : List ℕ) (w : ℕ) (a : FieldRead) → WideKind k → w ≡ valueBytes k

@@ -73,9 +73,11 @@ module _ (n : ℕ) (bytes offsets : List ℕ) where
           -- 12
           pub heavy : maxTotal < getD offsets n 0 → Refuse (ManyBytes (getD offsets n 0)) ≡ offsetsFault n bytes offsets
           heavy h =
-              rw (le-ltb (length offsets) (suc n) (omega arith), eq-eqb (getD offsets 0 0) 0 first, rose, le-ltb (length bytes) (getD offsets n 0) inside, lt-ltb maxTotal (getD offsets n 0) h)
+              rw (le-ltb (length offsets) (suc n) (omega arith), eq-eqb (getD offsets 0 0) 0 first, rose)
+              (rw (le-ltb (length bytes) (getD offsets n 0) inside, lt-ltb maxTotal (getD offsets n 0) h))
 
           -- none of them
           pub sound : getD offsets n 0 ≤ maxTotal → Pass ≡ offsetsFault n bytes offsets
           sound h =
-              rw (le-ltb (length offsets) (suc n) (omega arith), eq-eqb (getD offsets 0 0) 0 first, rose, le-ltb (length bytes) (getD offsets n 0) inside, le-ltb maxTotal (getD offsets n 0) h)
+              rw (le-ltb (length offsets) (suc n) (omega arith), eq-eqb (getD offsets 0 0) 0 first, rose)
+              (rw (le-ltb (length bytes) (getD offsets n 0) inside, le-ltb maxTotal (getD offsets n 0) h))

@@ -2,7 +2,6 @@
 pub mod Falls
 pub mod Taken
 pub mod Turns
-pub mod RowNulls
 pub mod Arms
-pub mod Columns
+pub mod FrameSums
 pub mod Batches

@@ -2,7 +2,7 @@
 use Prim.Native.Nat.{ℕ, suc, _+_, _-_, _≤_}
 use mathlib.Core.Path.{_≡_, refl, ap, sym, subst, _∙_}
 use mathlib.Core.Option.{none, some}
-use mathlib.Core.List.{List, [], _∷_, _++_}
+use mathlib.Core.List.{List, _∷_}
 use native.Mathlib.Omega.{arith}
 use lib.ListN.{length, take, drop, length-append, length-drop}
 use lib.Seq.{drop-at, take-all}
@@ -15,10 +15,10 @@ use Rattle.format.specs.Kinds.{bool, plain, number, integer, float, parts, Shap
 use Rattle.format.specs.Limits.{maxSlot}
 use Rattle.format.specs.Lists.{Bytes}
 use Rattle.format.specs.Read.{Parsed, got, fault, fieldCheck, fieldRead, leftAfter, readField, rowFault, rowSlots, slotRead}
-use Rattle.format.specs.Sheet.{Layout, bits, ended, wide, layout, layoutFor, nullsIn}
+use Rattle.format.specs.Sheet.{Layout, bits, ended, wide, layout, layoutFor}
+use Rattle.format.specs.Cleared.{added, rowAdded}
 use Rattle.basics.proofs.Bytes.{bytes-drop}
 use Rattle.laws.proofs.ReadField.{read-field}
-use Rattle.laws.proofs.Room.{added, rowAdded}
 
 -- the field in front of s is slot x, and takes len bytes
 pub record Took (col : Column) (s : List ℕ) (x : Slot) (len : ℕ) : Type 0 where
@@ -32,9 +32,10 @@ Says col s (Null len) = Took col s none len
 Says col s (Value len k) = (v : List ℕ) × (length v ≡ k) × Took col s (some v) len
 Says col s (Fault f l) = readField (columnShape col) (col .options) s ≡ fault f l
 
-took : (col : Column) (s : List ℕ) (x : Slot) (r : List ℕ) → Bytes s → readField (columnShape col) (col .options) s ≡ got x r → Took col s x (length s - length r)
+took : (col : Column) (s : List ℕ) (x : Slot) (r : List ℕ) → Bytes s → readField (columnShape col) (col .options) s ≡ got x r
+    → Took col s x (length s - length r)
 took col s x r b q =
-    let e : (s ≡ field (columnShape col) (col .options) x ++ r) × SlotFits maxSlot (columnShape col) x = read-field (columnShape col) (col .options) s x r b q in
+    let e = read-field (columnShape col) (col .options) s x r b q in
     let f : List ℕ = field (columnShape col) (col .options) x in
     let l : length s ≡ length f + length r = ap length (e .0) ∙ length-append f r in
     let d : drop (length s - length r) s ≡ r = ap (drop (length s - length r)) (e .0) ∙ drop-at f r (length s - length r) (omega arith) in
@@ -66,14 +67,7 @@ module _ (col : Column) (s : List ℕ) (x : Slot) (len : ℕ) (t : Took col s x 
   pub past-added : rowAdded (col ∷ cols) (rowSlots (col ∷ cols) s) ≡ added (layout col) x + rowAdded cols (rowSlots cols (drop len s))
   past-added = ap (rowAdded (col ∷ cols)) past-slots
 
-  pub past-nulls : nullsIn (rowSlots (col ∷ cols) s) ≡ nullsIn (x ∷ []) + nullsIn (rowSlots cols (drop len s))
-  past-nulls = ap nullsIn past-slots ∙ one x
-    where
-      one : (x : Slot) → nullsIn (x ∷ rowSlots cols (drop len s)) ≡ nullsIn (x ∷ []) + nullsIn (rowSlots cols (drop len s))
-      one none = omega arith
-      one (some v) = omega arith
-
--- a slot adds no more than the ceiling, and is null at most once
+-- a slot adds no more than the ceiling
 pub added-small : (sh : Shape) (x : Slot) → SlotFits maxSlot sh x → added (layoutFor sh) x ≤ maxSlot
 added-small (fixed bool) x h = omega arith
 added-small (fixed (plain w)) x h = omega arith
@@ -89,7 +83,3 @@ pub null-added : (ly : Layout) → added ly none ≡ 0
 null-added bits = refl
 null-added (wide w) = refl
 null-added ended = refl
-
-pub null-once : (x : Slot) → nullsIn (x ∷ []) ≤ 1
-null-once none = omega arith
-null-once (some v) = omega arith

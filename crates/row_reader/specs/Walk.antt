@@ -8,11 +8,10 @@ use Rattle.format.specs.declared.Column.{Column}
 use Rattle.format.specs.Limits.{maxColumns, maxRows, maxSlot, maxWidth}
 use Rattle.format.specs.Check.{both}
 use Rattle.format.specs.Lists.{sum}
-use Rattle.format.specs.Sheet.{nulls, packed}
+use Rattle.format.specs.Sheet.{packed}
 use Rattle.format.specs.Read.{rowSlots, rowsFault}
-use Rattle.format.specs.Entries.{cutRows, decodedSheet, offsetsFault, rowsSlots}
-use Rattle.laws.proofs.Room.{rowAdded}
-use Rattle.row_reader.specs.declared.Walked.{Walked}
+use Rattle.format.specs.Entries.{cutRows, decodedSheet, offsetsFault}
+use Rattle.format.specs.Cleared.{rowAdded}
 use Rattle.row_reader.specs.declared.Checked.{Checked}
 
 -- the bytes of the values in variable columns, over all rows
@@ -27,15 +26,13 @@ mostData = maxColumns * maxSlot * maxRows
 abbrev pub widestFrame : ℕ
 widestFrame = packed maxRows + maxRows * maxWidth
 
--- of rows: the first fault, and where there is none the bytes of variable values and the null total
-pub record Finds (cols : List Column) (rows : List (List ℕ)) (w : Walked) : Type 0 where
-  pub check : w .check ≡ rowsFault 0 cols rows
-  pub adds : rowsFault 0 cols rows ≡ Pass → w .bytes ≡ dataBytes cols rows
-  pub empty : rowsFault 0 cols rows ≡ Pass → w .nulls ≡ nulls (rowsSlots cols rows)
-  pub small : w .bytes ≤ mostData
+-- of rows: the first fault, and where there is none the bytes of variable values
+pub record Finds (cols : List Column) (rows : List (List ℕ)) (r : Checked) : Type 0 where
+  pub check : r .check ≡ rowsFault 0 cols rows
+  pub adds : rowsFault 0 cols rows ≡ Pass → r .bytes ≡ dataBytes cols rows
+  pub small : r .bytes ≤ mostData
 
--- of a batch: the offsets, then the rows; and where nothing is refused the bytes of the decoded sheet and the null total
+-- of a batch: the offsets, then the rows; and where nothing is refused the bytes of the decoded sheet
 pub record Checks (n : ℕ) (cols : List Column) (bytes offsets : List ℕ) (r : Checked) : Type 0 where
   pub check : r .check ≡ both (offsetsFault n bytes offsets) (rowsFault 0 cols (cutRows n bytes offsets))
   pub room : r .check ≡ Pass → r .bytes ≡ length (decodedSheet n cols (cutRows n bytes offsets))
-  pub empty : r .check ≡ Pass → r .nulls ≡ nulls (rowsSlots cols (cutRows n bytes offsets))

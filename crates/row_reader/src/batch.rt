@@ -21,7 +21,6 @@ pub fn check_rows(schema: Schema, n: usize, rows: &[u8], offsets: &[u64]) -> Che
         return Checked {
             check: Check::Refuse(refusal),
             bytes: 0,
-            nulls: 0,
         };
     }
     let walked = check_fields(schema, n, rows, offsets);
@@ -29,6 +28,5 @@ pub fn check_rows(schema: Schema, n: usize, rows: &[u8], offsets: &[u64]) -> Che
     Checked {
         check: found,
         bytes: frames(schema, n) + walked.bytes,
-        nulls: walked.nulls,
     }
 }

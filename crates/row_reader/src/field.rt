@@ -14,8 +14,8 @@ pub fn read_field(row: &[u8], column: Column) -> FieldRead
     let kind = column.kind;
     let options = column.options;
     match kind {
-        Kind::Bool => fixed::read_boolean(row, options),
-        Kind::Variable => variable::read(row, options),
-        _ => fixed::read(row, width(kind), options),
+        Kind::Bool => fixed_reader::read_boolean(row, options),
+        Kind::Variable => variable_reader::read(row, options),
+        _ => fixed_reader::read(row, width(kind), options),
     }
 }

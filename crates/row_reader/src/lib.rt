@@ -8,20 +8,10 @@ mod room;
 mod walk;
 
 pub use batch::check_rows;
-pub use field::read_field;
-pub use offsets::check_offsets;
-pub use walk::check_fields;
 
-// What the walk over the rows finds: the first fault, the bytes of the values in variable columns, and the null slots.
-pub struct Walked {
-    pub check: Check,
-    pub bytes: usize,
-    pub nulls: u64,
-}
-
-// What the check of a batch answers: the first fault, the bytes of the decoded sheet, and the null total.
+// What a check of rows answers: the first fault, and the bytes that rows without one decode to. The walk over the fields
+// counts those of the values in variable columns, the check of a batch those of the whole sheet.
 pub struct Checked {
     pub check: Check,
     pub bytes: usize,
-    pub nulls: u64,
 }

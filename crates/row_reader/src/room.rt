@@ -7,7 +7,7 @@ ghost use Rattle.format.specs.Limits.{maxColumns, maxRows, maxWidth};
 ghost use Rattle.format.specs.Lists.{sum};
 ghost use Rattle.format.specs.Schemas.{Limited, colsOf};
 ghost use Rattle.format.specs.Sheet.{layout, layoutFor};
-ghost use Rattle.laws.proofs.Room.{frame};
+ghost use Rattle.format.specs.Cleared.{frame};
 ghost use Rattle.row_reader.specs.Walk.{widestFrame};
 use format::Kind;
 use format::Schema;
@@ -19,7 +19,7 @@ fn frame_bytes(kind: Kind, n: usize) -> usize
     requires { ⌜ valueBytes kind ≤ maxWidth ⌝ }
     ensures { λ r. ⌜ (r ≡ frame (layoutFor (shape kind)) n) × (r ≤ widestFrame) ⌝ }
 {
-    let packed = (n + 7) / 8;
+    let packed = bits::packed(n);
     match kind {
         Kind::Bool => packed + packed,
         Kind::Variable => packed + 4 * (n + 1),

@@ -7,10 +7,9 @@ ghost use Rattle.format.specs.Limits.{maxRows};
 ghost use Rattle.format.specs.Schemas.{Limited, colsOf};
 ghost use Rattle.format.specs.Sheet.{layout};
 ghost use Rattle.format.specs.Entries.{cutRows, offsetsFault};
-ghost use Rattle.laws.proofs.Cleared.{slotLength};
-ghost use Rattle.laws.proofs.Room.{added};
+ghost use Rattle.format.specs.Cleared.{slotLength, added};
 ghost use Rattle.row_reader.specs.Walk.{Finds};
-use crate::Walked;
+use crate::Checked;
 use crate::field::read_field;
 use format::Check;
 use format::Column;
@@ -32,7 +31,7 @@ fn added_bytes(column: Column, value: usize) -> usize
 }
 
 // The first fault in row order, then column order; each field is read from the part of the row that the previous one left.
-pub fn check_fields(schema: Schema, n: usize, rows: &[u8], offsets: &[u64]) -> Walked
+pub fn check_fields(schema: Schema, n: usize, rows: &[u8], offsets: &[u64]) -> Checked
     requires { ⌜ n ≤ maxRows ⌝ }
     requires { ⌜ Limited schema ⌝ }
     requires { ⌜ offsetsFault n (now rows) (now offsets) ≡ Pass ⌝ }
@@ -42,7 +41,6 @@ pub fn check_fields(schema: Schema, n: usize, rows: &[u8], offsets: &[u64]) -> W
     let columns = schema.columns;
     let mut check = Check::Pass;
     let mut bytes: usize = 0;
-    let mut nulls: u64 = 0;
     let mut r = 0;
     'rows: while r < n {
         let start = offsets[r] as usize;
@@ -56,7 +54,6 @@ pub fn check_fields(schema: Schema, n: usize, rows: &[u8], offsets: &[u64]) -> W
             match read {
                 FieldRead::Null(len) => {
                     at += len;
-                    nulls += 1;
                 }
                 FieldRead::Value(len, value) => {
                     at += len;
@@ -75,9 +72,5 @@ pub fn check_fields(schema: Schema, n: usize, rows: &[u8], offsets: &[u64]) -> W
         }
         r += 1;
     }
-    Walked {
-        check,
-        bytes,
-        nulls,
-    }
+    Checked { check, bytes }
 }

@@ -10,15 +10,15 @@ use Rattle.format.specs.Lists.{Bytes, each, joined}
 use Rattle.format.specs.Kinds.{Slot, columnShape}
 use Rattle.format.specs.Field.{field, fieldLength}
 use Rattle.format.specs.Row.{row}
-use Rattle.format.specs.Sheet.{layout, columnFault, columnBytes, slotAt, sheetSlots}
+use Rattle.format.specs.Sheet.{layout, columnFault, columnBytes, slotAt, sheetSlots, placeFrom, slotsIn}
 use Rattle.format.specs.Schemas.{noColumn}
 use Rattle.format.specs.Entries.{sheetRows}
 use Rattle.basics.proofs.Bytes.{bytes-drop}
 use Rattle.laws.proofs.Fields.{length-field}
 use Rattle.basics.proofs.Lists.{each-at, each-next, each-same, map-each}
-use Rattle.laws.proofs.Places.{Stands, placeFrom, past-column}
-use Rattle.laws.proofs.Sheets.{Passes, slot-fits}
-use Rattle.laws.proofs.Turned.{slotsAt}
+use Rattle.format.specs.Passed.{Passes, Stands}
+use Rattle.laws.proofs.Places.{past-column}
+use Rattle.laws.proofs.Sheets.{slot-fits}
 use Rattle.sheet_reader.specs.declared.sheet.Facts.{Facts}
 use Rattle.sheet_reader.specs.Sheets.{noFacts, Known}
 
@@ -40,18 +40,18 @@ rowAt n s facts count r = joined (each 0 count (fieldAt n s facts r))
 
 -- the row of the columns from `at` on, by their places
 row-from : (n at : ℕ) (cols : List Column) (s : List ℕ) (d : Column) (r : ℕ) → r < n
-    → row cols (slotsAt (sheetSlots n cols (drop at s)) r) ≡ joined (each 0 (length cols) (λ c. fieldIn n s r (getD cols c d) (placeFrom n at cols s c)))
+    → row cols (slotsIn (sheetSlots n cols (drop at s)) r) ≡ joined (each 0 (length cols) (λ c. fieldIn n s r (getD cols c d) (placeFrom n at cols s c)))
 row-from n at [] s d r l = refl
 row-from n at (col ∷ cols) s d r l =
     ap₂ {C = List ℕ} (λ (f rest : List ℕ). f ++ rest)
     (ap (field (columnShape col) (col .options)) (each-at n (slotAt (layout col) n (drop at s)) none r l))
-    (ap (λ (t : List ℕ). row cols (slotsAt (sheetSlots n cols t) r)) (past-column (layout col) n at s)
+    (ap (λ (t : List ℕ). row cols (slotsIn (sheetSlots n cols t) r)) (past-column (layout col) n at s)
     ∙ row-from n (at + columnBytes (layout col) n (drop at s)) cols s d r l
     ∙ ap joined (sym (each-next 0 (length cols) (λ c. fieldIn n s r (getD (col ∷ cols) c d) (placeFrom n at (col ∷ cols) s c)))))
 
 module _ (n : ℕ) (cols : List Column) (s : List ℕ) (facts : List Facts) (k : Known n cols s facts) where
   -- row r
-  row-known : (r : ℕ) → r < n → row cols (slotsAt (sheetSlots n cols s) r) ≡ rowAt n s facts (length cols) r
+  row-known : (r : ℕ) → r < n → row cols (slotsIn (sheetSlots n cols s) r) ≡ rowAt n s facts (length cols) r
   row-known r l =
       row-from n 0 cols s noColumn r l
       ∙ ap joined (each-same 0 (length cols) _ _ (λ c a b.
@@ -60,7 +60,7 @@ module _ (n : ℕ) (cols : List Column) (s : List ℕ) (facts : List Facts) (k :
 
   -- and all of them
   pub rows-known : sheetRows n cols s ≡ each 0 n (rowAt n s facts (length cols))
-  rows-known = map-each (row cols) 0 n (slotsAt (sheetSlots n cols s)) ∙ each-same 0 n _ _ (λ r a b. row-known r (omega arith))
+  rows-known = map-each (row cols) 0 n (slotsIn (sheetSlots n cols s)) ∙ each-same 0 n _ _ (λ r a b. row-known r (omega arith))
 
 -- ---- the field of row r in a column that stands at a place
 module _ (n c r at : ℕ) (col : Column) (s : List ℕ) (g : Stands col n c at s) where

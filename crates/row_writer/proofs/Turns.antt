@@ -8,12 +8,13 @@ use native.Mathlib.Omega.{arith}
 use lib.ListN.{length, set}
 use lib.Seq.{sets}
 use Rattle.format.specs.Lists.{each, joined, endsFrom}
+use Rattle.basics.specs.Wrote.{Wrote}
 use Rattle.basics.proofs.Append.{Walk, Turns, each-step, each-none, turns-begin, turns-more, turns-end, walk-first, walk-piece}
 
 -- a piece more is written, whose length is known
 pub piece-more : (piece : ℕ → List ℕ) (n : ℕ) (rows₀ : List ℕ) (at₀ : ℕ) (rows : List ℕ) (at r : ℕ) → Turns piece n rows₀ at₀ rows at r → r < n
-    → (w : ℕ) → length (piece r) ≡ w → (rows′ : List ℕ) (at′ : ℕ) → at′ ≡ at + w → rows′ ≡ sets rows at (piece r) → Turns piece n rows₀ at₀ rows′ at′ (r + 1)
-piece-more piece n rows₀ at₀ rows at r t l w e rows′ at′ p q = rw (p, q) (turns-more piece n rows₀ at₀ rows at r t w l e)
+    → (rows′ : List ℕ) (at′ : ℕ) → Wrote (piece r) at rows rows′ at′ → Turns piece n rows₀ at₀ rows′ at′ (r + 1)
+piece-more piece n rows₀ at₀ rows at r t l rows′ at′ p = rw (p .place, p .bytes) (turns-more piece n rows₀ at₀ rows at r t (length (piece r)) l refl)
 
 -- r of n rows are written, and so are the offsets before row r, which begins at `at`
 pub record Rows (piece : ℕ → List ℕ) (n : ℕ) (rows₀ offsets₀ rows offsets : List ℕ) (at r : ℕ) : Type 0 where

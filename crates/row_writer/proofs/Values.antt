@@ -22,9 +22,10 @@ use Rattle.format.specs.Sheet.{Layout, ended, wide, layoutFor, packed, bit, end
 use Rattle.bits.proofs.Nulls.{bits-passed}
 use Rattle.basics.proofs.Checks.{enough}
 use Rattle.basics.proofs.Sorts.{wide-layout, fixedKeys, fixed-arm}
-use Rattle.laws.proofs.Sheets.{Ended, Passes, last-end, column-passed, variable-passed, within}
-use Rattle.row_writer.specs.Put.{Put}
+use Rattle.format.specs.Passed.{Ended, Passes}
+use Rattle.laws.proofs.Sheets.{last-end, column-passed, variable-passed, within}
 use Rattle.basics.specs.Wide.{WideKind}
+use Rattle.basics.specs.Wrote.{Wrote}
 
 -- ---- variable bytes
 
@@ -35,17 +36,17 @@ pub record Between (n : ℕ) (s : List ℕ) (r a b : ℕ) : Type 0 where
   pub value : take ((4 * (n + 1) + b) - (4 * (n + 1) + a)) (drop (4 * (n + 1) + a) s) ≡ valueAt ended n s r
   pub short : length (valueAt ended n s r) ≤ maxSlot
 
--- where the two ends are read low byte first
-pub between : (n : ℕ) (s : List ℕ) (r a b : ℕ) → Ended n s → r < n → a ≡ low (take 4 (drop (4 * r) s)) → b ≡ low (take 4 (drop (4 * (r + 1)) s)) → Between n s r a b
+-- where the two are ends r and r + 1
+pub between : (n : ℕ) (s : List ℕ) (r a b : ℕ) → Ended n s → r < n → a ≡ end s r → b ≡ end s (r + 1) → Between n s r a b
 between n s r a b g l p q =
     let next : b ≡ end s (suc r) = q ∙ ap (end s) (add-one r) in
     record {
-      starts = omega (arith, g .step r l .0);
+      starts = omega (arith, g .step r l .rises);
       stops = omega (arith, last-end n s g (n - suc r) (suc r) (omega arith), g .room);
       value =
-          ap₂ {C = List ℕ} (λ (k : ℕ) (t : List ℕ). take k t) {x = (4 * (n + 1) + b) - (4 * (n + 1) + a)} {y = end s (suc r) - end s r} (omega (arith, g .step r l .0))
+          ap₂ {C = List ℕ} (λ (k : ℕ) (t : List ℕ). take k t) {x = (4 * (n + 1) + b) - (4 * (n + 1) + a)} {y = end s (suc r) - end s r} (omega (arith, g .step r l .rises))
           (ap (λ (k : ℕ). drop k s) {x = 4 * (n + 1) + a} {y = 4 * suc n + end s r} (omega arith) ∙ sym (drop-drop (end s r) (4 * suc n) s));
-      short = omega (arith, length-take (end s (suc r) - end s r) (drop (end s r) (drop (4 * suc n) s)), g .step r l .1);
+      short = omega (arith, length-take (end s (suc r) - end s r) (drop (end s r) (drop (4 * suc n) s)), g .step r l .short);
     }
 
 -- ---- values of one width
@@ -64,26 +65,25 @@ null-arm kind o h =
 -- ---- what a writer owes once its callee has written, by the kind
 module _ (o : SortOptions) (at next : ℕ) (entry exit : List ℕ) where
   -- the null of fixed values
-  pub put-none : (kind : Kind) (w : ℕ) → OneOf fixedKeys (tagOf the-type kind) → w ≡ valueBytes kind → next ≡ at + 1 + w
-      → exit ≡ sets entry at (nullByte o ∷ replicate w 0) → Put (shape kind) o none at entry exit next
-  put-none kind w h e p q =
-      let z = null-arm kind o h in
-      record { place = omega (arith, z .0); bytes = q ∙ ap (sets entry at) (ap (λ (k : ℕ). nullByte o ∷ replicate k 0) e ∙ sym (z .1)) }
+  pub put-none : (kind : Kind) (w : ℕ) → OneOf fixedKeys (tagOf the-type kind) → w ≡ valueBytes kind
+      → Wrote (nullByte o ∷ replicate w 0) at entry exit next → Wrote (field (shape kind) o none) at entry exit next
+  put-none kind w h e p = rw (null-arm kind o h .1, ← e) p
 
   module _ (n r : ℕ) (s : List ℕ) where
     -- what is promised of the value of row r
     abbrev Promised : Kind → Type 0
-    Promised kind = Put (shape kind) o (some (valueAt (layoutFor (shape kind)) n s r)) at entry exit next
+    Promised kind = Wrote (field (shape kind) o (some (valueAt (layoutFor (shape kind)) n s r))) at entry exit next
 
     -- the three sorts
-    pub bool-promised : {kind : Kind} (b : Truth) → kind ≡ Bool → b ≡ bit s r → next ≡ at + 2 → exit ≡ sets entry at (fixedField bool o (some (boolByte b))) → Promised kind
-    bool-promised b e h p q = rw e (record { place = p; bytes = rw (← h) q })
+    pub bool-promised : {kind : Kind} (b : Truth) → kind ≡ Bool → b ≡ bit s r → Wrote (fixedField bool o (some (boolByte b))) at entry exit next → Promised kind
+    bool-promised b e h p = rw (e, ← h) p
 
-    pub variable-promised : {kind : Kind} → kind ≡ Variable → Put variable o (some (valueAt ended n s r)) at entry exit next → Promised kind
+    pub variable-promised : {kind : Kind} → kind ≡ Variable → Wrote (field variable o (some (valueAt ended n s r))) at entry exit next → Promised kind
     variable-promised e p = rw e p
 
-    pub wide-promised : {kind : Kind} → WideKind kind → next ≡ at + 1 + valueBytes kind → exit ≡ sets entry at (field (shape kind) o (some (valueAt (wide (valueBytes kind)) n s r))) → Promised kind
-    wide-promised {kind} w p q = rw (wide-layout w) (record { place = omega (arith, wide-long (some (valueAt (wide (valueBytes kind)) n s r)) w); bytes = q })
+    pub wide-promised : {kind : Kind} → WideKind kind → Wrote (field (shape kind) o (some (valueAt (wide (valueBytes kind)) n s r))) at entry exit next
+        → Promised kind
+    wide-promised w p = rw (wide-layout w) p
 
 -- ---- what the callee asks, from values that pass, by the kind
 module _ {kind : Kind} (n r : ℕ) (s : List ℕ) (l : r < n) (h : Passes (λ c. valuesFault (layoutFor (shape kind)) n c s)) where

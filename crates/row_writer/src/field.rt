@@ -4,24 +4,25 @@ ghost use Prim.Native.Nat.{_+_, _<_, _≤_};
 ghost use lib.ListN.{length};
 ghost use Rattle.format.specs.Limits.{maxRows};
 ghost use Rattle.format.specs.Kinds.{variable as variableShape, columnShape};
-ghost use Rattle.format.specs.Field.{fieldLength};
+ghost use Rattle.format.specs.Field.{field, fieldLength};
 ghost use Rattle.format.specs.Sheet.{ended, layout, valuesFault, valueAt, columnFault, slotAt};
-ghost use Rattle.laws.proofs.Sheets.{Ended, Passes};
-ghost use Rattle.row_writer.specs.Put.{Put};
+ghost use Rattle.format.specs.Passed.{Ended, Passes};
+ghost use Rattle.basics.specs.Wrote.{Wrote};
 use format::Column;
 use format::Kind;
 use format::SortOptions;
+use sheet_reader::sheet::end_at;
 
 // Null: the null byte, and for fixed kinds zeros to the length of a value.
 fn put_null(column: Column, rows: &mut [u8], at: usize) -> usize
     requires { ⌜ at + fieldLength (columnShape column) none ≤ length (now rows) ⌝ }
-    ensures { λ x. ⌜ Put (columnShape column) (column .options) none at (now (rows .entry)) (now (rows .exit)) x ⌝ }
+    ensures { λ x. ⌜ Wrote (field (columnShape column) (column .options) none) at (now (rows .entry)) (now (rows .exit)) x ⌝ }
 {
     let kind = column.kind;
     let options = column.options;
     match kind {
-        Kind::Variable => variable::encode_null(rows, at, options),
-        _ => fixed::encode_null(rows, at, format::width(kind), options),
+        Kind::Variable => variable_writer::encode_null(rows, at, options),
+        _ => fixed_writer::encode_null(rows, at, format::width(kind), options),
     }
 }
 
@@ -37,12 +38,12 @@ fn put_variable(
     requires { ⌜ (n ≤ maxRows) × (r < n) ⌝ }
     requires { ⌜ Ended n (now values) ⌝ }
     requires { ⌜ at + fieldLength variableShape (some (valueAt ended n (now values) r)) ≤ length (now rows) ⌝ }
-    ensures { λ x. ⌜ Put variableShape options (some (valueAt ended n (now (values .entry)) r)) at (now (rows .entry)) (now (rows .exit)) x ⌝ }
+    ensures { λ x. ⌜ Wrote (field variableShape options (some (valueAt ended n (now (values .entry)) r))) at (now (rows .entry)) (now (rows .exit)) x ⌝ }
 {
     let data = 4 * (n + 1);
-    let from = data + number::low32(values, 4 * r) as usize;
-    let to = data + number::low32(values, 4 * (r + 1)) as usize;
-    variable::encode_one(rows, at, &values[from..to], options)
+    let from = data + end_at(values, r);
+    let to = data + end_at(values, r + 1);
+    variable_writer::encode_one(rows, at, &values[from..to], options)
 }
 
 // The value of row r, out of the values of the column. Two tests before encode's match, and not a match around it: the
@@ -51,7 +52,8 @@ fn put_value(values: &[u8], n: usize, r: usize, column: Column, rows: &mut [u8],
     requires { ⌜ (n ≤ maxRows) × (r < n) ⌝ }
     requires { ⌜ Passes (λ c. valuesFault (layout column) n c (now values)) ⌝ }
     requires { ⌜ at + fieldLength (columnShape column) (some (valueAt (layout column) n (now values) r)) ≤ length (now rows) ⌝ }
-    ensures { λ x. ⌜ Put (columnShape column) (column .options) (some (valueAt (layout column) n (now (values .entry)) r)) at (now (rows .entry)) (now (rows .exit)) x ⌝ }
+    ensures { λ x. ⌜ Wrote (field (columnShape column) (column .options) (some (valueAt (layout column) n (now (values .entry)) r))) at
+        (now (rows .entry)) (now (rows .exit)) x ⌝ }
 {
     let kind = column.kind;
     let options = column.options;
@@ -59,9 +61,9 @@ fn put_value(values: &[u8], n: usize, r: usize, column: Column, rows: &mut [u8],
         return put_variable(values, n, r, options, rows, at);
     }
     if let Kind::Bool = kind {
-        return fixed::encode_boolean(rows, at, bits::bit(values, r), options);
+        return fixed_writer::encode_boolean(rows, at, bits::bit(values, r), options);
     }
-    fixed::encode(rows, at, kind, values, r, options)
+    fixed_writer::encode(rows, at, kind, values, r, options)
 }
 
 // The slot of row r of the column in front of the part.
@@ -76,10 +78,11 @@ pub fn put_field(
     requires { ⌜ (n ≤ maxRows) × (r < n) ⌝ }
     requires { ⌜ Passes (λ c. columnFault (layout column) n c (now part)) ⌝ }
     requires { ⌜ at + fieldLength (columnShape column) (slotAt (layout column) n (now part) r) ≤ length (now rows) ⌝ }
-    ensures { λ x. ⌜ Put (columnShape column) (column .options) (slotAt (layout column) n (now (part .entry)) r) at (now (rows .entry)) (now (rows .exit)) x ⌝ }
+    ensures { λ x. ⌜ Wrote (field (columnShape column) (column .options) (slotAt (layout column) n (now (part .entry)) r)) at
+        (now (rows .entry)) (now (rows .exit)) x ⌝ }
 {
     if bits::bit(part, r) {
-        let valid = (n + 7) / 8;
+        let valid = bits::packed(n);
         return put_value(&part[valid..], n, r, column, rows, at);
     }
     put_null(column, rows, at)

@@ -19,7 +19,7 @@ pub fn write_rows(
     schema: Schema,
     n: usize,
     sheet: &[u8],
-    facts: [Facts; 16],
+    facts: [Facts; format::MAX_COLUMNS],
     rows: &mut [u8],
     offsets: &mut [u64],
 )

@@ -13,17 +13,17 @@ use Rattle.format.specs.declared.Check.the-variants.{Pass}
 use Rattle.format.specs.Limits.{maxSlot}
 use Rattle.format.specs.Lists.{Bytes, each, sum}
 use Rattle.format.specs.Kinds.{variable}
-use Rattle.format.specs.Field.{paddedLength, fieldLength}
-use Rattle.format.specs.Sheet.{ended, packed, bit, end, valueAt, slotIf, sheetFault}
+use Rattle.format.specs.Field.{paddedLength, fieldLength, maxField}
+use Rattle.format.specs.Sheet.{ended, packed, bit, end, valueAt, slotIf, columnFault, sheetFault, place}
 use Rattle.format.specs.Schemas.{noColumn}
-use Rattle.format.specs.Entries.{sheetTotal}
+use Rattle.format.specs.Entries.{sheetTotal, columnTotal}
+use Rattle.format.specs.Passed.{Ended, Passes}
 use Rattle.basics.proofs.Lists.{each-same}
-use Rattle.laws.proofs.Places.{place}
-use Rattle.laws.proofs.Sheets.{Ended, last-end, column-passed, variable-passed}
-use Rattle.laws.proofs.Totals.{columnTotal, maxField, total-is, total-most}
+use Rattle.laws.proofs.Sheets.{last-end, column-passed, variable-passed}
+use Rattle.laws.proofs.Totals.{total-is, total-most}
 use Rattle.sheet_reader.specs.declared.sheet.Facts.{Facts}
 use Rattle.sheet_reader.specs.Sheets.{noFacts, Known}
-use Rattle.sheet_reader.specs.Measures.{Passed, variableLength, variableTotal}
+use Rattle.sheet_reader.specs.Measures.{variableLength, variableTotal}
 
 -- ---- variable bytes
 
@@ -33,7 +33,7 @@ value-long n s r g l =
     length-take-le (end s (suc r) - end s r) (drop (end s r) (drop (4 * suc n) s))
     (omega (arith, g .room, last-end n s g (n - suc r) (suc r) (omega arith), length-drop (end s r) (drop (4 * suc n) s), length-drop (4 * suc n) s))
 
-module _ (n : ℕ) (s : List ℕ) (p : Passed ended n s) where
+module _ (n : ℕ) (s : List ℕ) (p : Passes (λ c. columnFault ended n c s)) where
   pub ends : Ended n (drop (packed n) s)
   ends = variable-passed n (p .c) (drop (packed n) s) (column-passed ended n (p .c) s (p .pass) .1)
 
@@ -59,7 +59,7 @@ module _ (n : ℕ) (s : List ℕ) (p : Passed ended n s) where
         (omega arith, omega arith)
 
 -- the fields of n rows fit
-pub variable-most : (n : ℕ) (s : List ℕ) → Bytes s → Passed ended n s → variableTotal n s ≤ n * maxField
+pub variable-most : (n : ℕ) (s : List ℕ) → Bytes s → Passes (λ c. columnFault ended n c s) → variableTotal n s ≤ n * maxField
 variable-most n s b p = total-most (record { kind = Variable; options = noColumn .options }) n (p .c) s b (p .pass) (omega arith)
 
 -- ---- fields of one length

@@ -12,10 +12,10 @@ use Rattle.format.specs.declared.Refusal.{Refusal}
 use Rattle.format.specs.declared.Refusal.the-variants.{BytesAfter}
 use Rattle.format.specs.declared.Check.the-variants.{Pass, Refuse}
 use Rattle.format.specs.Limits.{maxColumns, maxRows}
-use Rattle.format.specs.Sheet.{layout, columnFault, columnBytes, columnSlots, nullsIn, sheetFaultFrom, sheetFault, sheetSlots, nulls}
+use Rattle.format.specs.Sheet.{layout, columnFault, columnBytes, columnSlots, nullsIn, sheetFaultFrom, sheetFault, sheetSlots, nulls, place}
 use Rattle.basics.proofs.Checks.{refuse-pass}
 use Rattle.laws.proofs.Parts.{below-set}
-use Rattle.laws.proofs.Places.{place, place-next, past-column, column-stands}
+use Rattle.laws.proofs.Places.{place-next, past-column, column-stands}
 use Rattle.laws.proofs.Sheets.{column-room}
 use Rattle.sheet_reader.specs.declared.sheet.Facts.{Facts}
 use Rattle.sheet_reader.specs.declared.sheet.Sheeted.{Sheeted}
@@ -51,7 +51,8 @@ start n cols sheet blank = record {
 -- ---- the ways on from the head of a turn
 
 -- the refusal x is the sheet's first fault, and so it was answered
-refused : (n : ℕ) (cols : List Column) (sheet : List ℕ) (r : Sheeted) (x : Refusal) → r .check ≡ Refuse x → sheetFault n cols sheet ≡ Refuse x → SheetedAs n cols sheet r
+refused : (n : ℕ) (cols : List Column) (sheet : List ℕ) (r : Sheeted) (x : Refusal) → r .check ≡ Refuse x → sheetFault n cols sheet ≡ Refuse x
+    → SheetedAs n cols sheet r
 refused n cols sheet r x e f = record {
   check = e ∙ sym f;
   facts = λ p. absurd (refuse-pass (sym f ∙ p));
@@ -82,9 +83,12 @@ module _ (n : ℕ) (cols : List Column) (sheet : List ℕ) (facts : List Facts) 
       past = past-column (layout col) n at sheet
 
       faults-next : sheetFaultFrom n (suc c) (at + bytes) (drop (suc c) cols) (drop (at + bytes) sheet) ≡ sheetFault n cols sheet
-      faults-next = rw (← past) (sym (let z : sheetFaultFrom n c at (drop c cols) part ≡ sheetFaultFrom n (suc c) (at + bytes) (drop (suc c) cols) (drop bytes part) = rw (next, e) in z) ∙ t .faults)
+      faults-next =
+          let step : sheetFaultFrom n c at (drop c cols) part ≡ sheetFaultFrom n (suc c) (at + bytes) (drop (suc c) cols) (drop bytes part) = rw (next, e) in
+          rw (← past) (sym step ∙ t .faults)
 
-      nulls-next : nulls (sheetSlots n (drop c cols) part) ≡ nullsIn (columnSlots (layout col) n part) + nulls (sheetSlots n (drop (suc c) cols) (drop (at + bytes) sheet))
+      nulls-next : nulls (sheetSlots n (drop c cols) part)
+          ≡ nullsIn (columnSlots (layout col) n part) + nulls (sheetSlots n (drop (suc c) cols) (drop (at + bytes) sheet))
       nulls-next = rw (← past, next)
 
       pub more : (k w : ℕ) → k ≡ nullsIn (columnSlots (layout col) n part) → k ≤ n → n ≤ maxRows → w ≡ bytes → c < maxColumns
@@ -106,7 +110,9 @@ module _ (n : ℕ) (cols : List Column) (sheet : List ℕ) (facts : List Facts) 
     none = drop-of-length-le cols {i = c} l
 
     pub after : (r : Sheeted) → at < length sheet → r .check ≡ Refuse (BytesAfter at) → SheetedAs n cols sheet r
-    after r h a = refused n cols sheet r (BytesAfter at) a (sym (t .faults) ∙ rw (none, lt-ltb 0 (length (drop at sheet)) (omega (arith, length-drop at sheet))))
+    after r h a =
+        let more = lt-ltb 0 (length (drop at sheet)) (omega (arith, length-drop at sheet)) in
+        refused n cols sheet r (BytesAfter at) a (sym (t .faults) ∙ rw (none, more))
 
     pub good : (r : Sheeted) → length sheet ≤ at → r .check ≡ Pass → r .facts ≡ facts → r .nulls ≡ total → SheetedAs n cols sheet r
     good r h a b d =

@@ -1,15 +1,10 @@
--- What measuring asks of a column, and what it adds up in one of variable bytes.
+-- What measuring adds up in a column of variable bytes.
 use Prim.Native.Nat.{ℕ}
 use mathlib.Core.List.{List}
 use Rattle.format.specs.Lists.{each, sum}
 use Rattle.format.specs.Kinds.{variable}
 use Rattle.format.specs.Field.{fieldLength}
-use Rattle.format.specs.Sheet.{Layout, ended, columnFault, slotAt}
-use Rattle.laws.proofs.Sheets.{Passes}
-
--- a column in front of s passes, whichever number it has
-abbrev pub Passed : Layout → ℕ → List ℕ → Type 0
-Passed ly n s = Passes (λ c. columnFault ly n c s)
+use Rattle.format.specs.Sheet.{ended, slotAt}
 
 -- the length of the field of a row in a column of variable bytes in front of s
 abbrev pub variableLength : ℕ → List ℕ → ℕ → ℕ

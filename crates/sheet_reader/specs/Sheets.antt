@@ -5,11 +5,11 @@ use mathlib.Core.List.{List}
 use lib.ListN.{length, getD}
 use Rattle.format.specs.declared.Column.{Column}
 use Rattle.format.specs.declared.Check.the-variants.{Pass}
-use Rattle.format.specs.Sheet.{sheetFault, sheetSlots, nulls}
-use Rattle.laws.proofs.Places.{place, Stands}
+use Rattle.format.specs.Sheet.{sheetFault, sheetSlots, nulls, place}
 use Rattle.sheet_reader.specs.declared.sheet.Facts.{Facts}
 use Rattle.sheet_reader.specs.declared.sheet.Sheeted.{Sheeted}
 use Rattle.format.specs.Schemas.{noColumn}
+use Rattle.format.specs.Passed.{Stands}
 
 -- what fills the array after the columns in use
 abbrev pub noFacts : Facts

@@ -4,19 +4,20 @@ ghost use Prim.Native.Nat.{_*_, _<_, _≤_};
 ghost use Rattle.format.specs.declared.Check.the-variants.{Pass};
 ghost use Rattle.format.specs.Limits.{maxRows, maxWidth};
 ghost use Rattle.format.specs.Kinds.{valueBytes};
-ghost use Rattle.format.specs.Sheet.{ended, layout, sheetFault};
+ghost use Rattle.format.specs.Sheet.{columnFault, ended, layout, sheetFault};
 ghost use Rattle.format.specs.Schemas.{colsOf, Limited};
-ghost use Rattle.format.specs.Entries.{sheetTotal};
-ghost use Rattle.laws.proofs.Totals.{columnTotal, maxField};
+ghost use Rattle.format.specs.Entries.{sheetTotal, columnTotal};
+ghost use Rattle.format.specs.Field.{maxField};
+ghost use Rattle.format.specs.Passed.{Passes};
 ghost use Rattle.sheet_reader.specs.Sheets.{Known};
-ghost use Rattle.sheet_reader.specs.Measures.{Passed, variableLength, variableTotal};
+ghost use Rattle.sheet_reader.specs.Measures.{variableLength, variableTotal};
 use crate::sheet::Facts;
 use crate::sheet::end_at;
-use crate::sheet::packed;
+use bits::packed;
+use blocks::padded_length;
 use format::Column;
 use format::Kind;
 use format::Schema;
-use variable::padded_length;
 
 // The field of a null of variable bytes: the null byte only.
 const NULL_LENGTH: u64 = 1;
@@ -24,7 +25,7 @@ const NULL_LENGTH: u64 = 1;
 // The length of the field of a row in the column of variable bytes in front of the part: 1 for a null, and that of its value.
 fn variable_length(part: &[u8], n: usize, row: usize) -> u64
     requires { ⌜ (n ≤ maxRows) × (row < n) ⌝ }
-    requires { ⌜ Passed ended n (now part) ⌝ }
+    requires { ⌜ Passes (λ c. columnFault ended n c (now part)) ⌝ }
     ensures { λ r. ⌜ r ≡ variableLength n (now (part .entry)) row ⌝ }
 {
     if bits::bit(part, row) {
@@ -38,7 +39,7 @@ fn variable_length(part: &[u8], n: usize, row: usize) -> u64
 // The fields of n rows in the column of variable bytes in front of the part.
 fn measure_variable(part: &[u8], n: usize) -> u64
     requires { ⌜ n ≤ maxRows ⌝ }
-    requires { ⌜ Passed ended n (now part) ⌝ }
+    requires { ⌜ Passes (λ c. columnFault ended n c (now part)) ⌝ }
     ensures { λ r. ⌜ r ≡ variableTotal n (now (part .entry)) ⌝ }
     ensures { λ r. ⌜ r ≤ maxRows * maxField ⌝ }
 {
@@ -55,7 +56,7 @@ fn measure_variable(part: &[u8], n: usize) -> u64
 fn measure_column(column: Column, part: &[u8], n: usize) -> u64
     requires { ⌜ n ≤ maxRows ⌝ }
     requires { ⌜ valueBytes (column .kind) ≤ maxWidth ⌝ }
-    requires { ⌜ Passed (layout column) n (now part) ⌝ }
+    requires { ⌜ Passes (λ c. columnFault (layout column) n c (now part)) ⌝ }
     ensures { λ r. ⌜ r ≡ columnTotal column n (now (part .entry)) ⌝ }
     ensures { λ r. ⌜ r ≤ maxRows * maxField ⌝ }
 {

@@ -9,12 +9,13 @@ ghost use Rattle.format.specs.Kinds.{valueBytes, shape};
 ghost use Rattle.format.specs.Sheet.{Layout, layoutFor, packed as packedFor, spareSet, bitsFault, end, endsFault, variableFault, valuesFault, valuesBytes, columnFault, columnBytes, columnSlots, nullsIn};
 ghost use Rattle.format.specs.Schemas.{colsOf, Limited};
 ghost use Rattle.sheet_reader.specs.Sheets.{SheetedAs};
+use bits::packed;
 use format::Check;
 use format::Column;
 use format::Kind;
 use format::Refusal;
 use format::Schema;
-use list_reader::no_column;
+use format::no_column;
 
 // What is known of a checked column: what it is, and where it stands in the sheet.
 pub struct Facts {
@@ -27,14 +28,6 @@ pub struct Sheeted {
     pub check: Check,
     pub facts: [Facts; format::MAX_COLUMNS],
     pub nulls: u64,
-}
-
-// The bytes that the bits of n rows are packed in.
-pub fn packed(n: usize) -> usize
-    requires { ⌜ n ≤ maxRows ⌝ }
-    ensures { λ r. ⌜ (r ≡ packedFor n) × (r ≤ 512) ⌝ }
-{
-    (n + 7) / 8
 }
 
 // Packed bits in front of the part: 7, 8.

@@ -23,10 +23,10 @@ use Rattle.laws.proofs.Fields.{Led, led-variable, not-null, length-field}
 use Rattle.laws.proofs.ReadField.{read-field}
 use Rattle.sheet_writer.specs.declared.flags.Flag.{Flag}
 use Rattle.sheet_writer.specs.declared.flags.Flag.the-variants.{Valid, True}
-use Rattle.sheet_writer.specs.Cursors.{fieldAt, Readable, flagOf, Flagged}
+use Rattle.sheet_writer.specs.Cursors.{cursorField, Readable, flagOf, Flagged}
 
 -- bytes that open with the field of a slot that fits
-pub record Opens (sh : Shape) (o : SortOptions) (s : List ℕ) : Type 0 where
+record Opens (sh : Shape) (o : SortOptions) (s : List ℕ) : Type 0 where
   pub slot : Slot
   pub rest : List ℕ
   pub reads : readField sh o s ≡ got slot rest
@@ -34,7 +34,7 @@ pub record Opens (sh : Shape) (o : SortOptions) (s : List ℕ) : Type 0 where
   pub fits : SlotFits maxSlot sh slot
 
 -- what can be read is such a field
-pub opens : (sh : Shape) (o : SortOptions) (s : List ℕ) → Bytes s → Good (readField sh o s) → Opens sh o s
+opens : (sh : Shape) (o : SortOptions) (s : List ℕ) → Bytes s → Good (readField sh o s) → Opens sh o s
 opens sh o s b g = go (readField sh o s) refl g
   where
     go : (p : Parsed Slot) → readField sh o s ≡ p → Good p → Opens sh o s
@@ -61,14 +61,14 @@ lead-there variable o [] g = absurd g
 lead-there sh o (b ∷ s) g = omega arith
 
 -- a cursor in front of a field stands within the rows
-pub inside : (col : Column) (rows : List ℕ) (p : ℕ) → Good (fieldAt col rows p) → p < length rows
+pub inside : (col : Column) (rows : List ℕ) (p : ℕ) → Good (cursorField col rows p) → p < length rows
 inside col rows p g = omega (arith, lead-there (columnShape col) (col .options) (drop p rows) g, length-drop p rows)
 
 -- some of the cursors
 pub readable-part : (col : Column) (rows cursors : List ℕ) (a m : ℕ) → Readable col rows cursors → Readable col rows (take m (drop a cursors))
 readable-part col rows cursors a m h r l =
     let k = length-take m (drop a cursors) in
-    subst (λ (p : ℕ). Good (fieldAt col rows p)) (sym (getD-take m (drop a cursors) r 0 (omega arith) ∙ getD-drop a cursors r 0))
+    subst (λ (p : ℕ). Good (cursorField col rows p)) (sym (getD-take m (drop a cursors) r 0 (omega arith) ∙ getD-drop a cursors r 0))
     (h (a + r) (omega (arith, length-drop a cursors)))
 
 -- a field is null exactly when its lead byte is the null byte

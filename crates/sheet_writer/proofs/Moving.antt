@@ -10,8 +10,9 @@ use Rattle.format.specs.declared.Column.{Column}
 use Rattle.format.specs.Lists.{each, joined}
 use Rattle.format.specs.Kinds.{Slot}
 use Rattle.format.specs.Read.{Good}
+use Rattle.basics.specs.Wrote.{Wrote}
 use Rattle.basics.proofs.Append.{Turns, turns-begin, turns-room, turns-more, turns-end}
-use Rattle.sheet_writer.specs.Cursors.{fieldAt, slotAt, nextAt, Readable, slotsAt, nextsAt}
+use Rattle.sheet_writer.specs.Cursors.{cursorField, cursorSlot, nextAt, Readable, cursorSlots, nextsAt}
 use Rattle.sheet_writer.proofs.Maps.{at-map, each-map}
 
 -- ---- numbers stored one after the other from the front
@@ -62,29 +63,28 @@ module _ {new old now : List ℕ} {r : ℕ} (t : Filled new old now r) where
 
 -- r of the pieces are written, and as many of the cursors xs have moved
 pub record Moving (col : Column) (rows : List ℕ) (piece : Slot → List ℕ) (xs out₀ : List ℕ) (at₀ : ℕ) (now out : List ℕ) (at r : ℕ) : Type 0 where
-  pub wrote : Turns (λ i. piece (slotAt col rows (getD xs i 0))) (length xs) out₀ at₀ out at r
+  pub wrote : Turns (λ i. piece (cursorSlot col rows (getD xs i 0))) (length xs) out₀ at₀ out at r
   pub moved : Filled (nextsAt col rows xs) xs now r
 
 pub move-start : (col : Column) (rows : List ℕ) (piece : Slot → List ℕ) (xs out : List ℕ) (at : ℕ) → Moving col rows piece xs out at xs out at 0
 move-start col rows piece xs out at = record {
-  wrote = turns-begin (λ i. piece (slotAt col rows (getD xs i 0))) (length xs) out at;
+  wrote = turns-begin (λ i. piece (cursorSlot col rows (getD xs i 0))) (length xs) out at;
   moved = fill-start (nextsAt col rows xs) xs (length-map xs (nextAt col rows));
 }
 
 module _ {col : Column} {rows : List ℕ} {piece : Slot → List ℕ} {xs out₀ : List ℕ} {at₀ : ℕ} {now out : List ℕ} {at r : ℕ}
     (t : Moving col rows piece xs out₀ at₀ now out at r) where
   abbrev here : ℕ → List ℕ
-  here i = piece (slotAt col rows (getD xs i 0))
+  here i = piece (cursorSlot col rows (getD xs i 0))
 
-  all : joined (each 0 (length xs) here) ≡ joined (map piece (slotsAt col rows xs))
-  all = ap joined (each-map piece (slotAt col rows) 0 xs)
+  all : joined (each 0 (length xs) here) ≡ joined (map piece (cursorSlots col rows xs))
+  all = ap joined (each-map piece (cursorSlot col rows) 0 xs)
 
   -- every row is passed
-  pub move-end : length now ≤ r
-      → (at ≡ at₀ + length (joined (map piece (slotsAt col rows xs)))) × ((out ≡ sets out₀ at₀ (joined (map piece (slotsAt col rows xs)))) × (now ≡ nextsAt col rows xs))
+  pub move-end : length now ≤ r → Wrote (joined (map piece (cursorSlots col rows xs))) at₀ out₀ out at × (now ≡ nextsAt col rows xs)
   move-end h =
       let e = turns-end here (length xs) out₀ at₀ out at r (t .wrote) (omega arith) in
-      (e .0 ∙ ap (λ (l : List ℕ). at₀ + length l) all, (e .1 ∙ ap (sets out₀ at₀) all, fill-end (t .moved) h))
+      (record { place = e .0 ∙ ap (λ (l : List ℕ). at₀ + length l) all; bytes = e .1 ∙ ap (sets out₀ at₀) all }, fill-end (t .moved) h)
 
   module _ (h : r < length now) where
     abbrev p : ℕ
@@ -94,16 +94,16 @@ module _ {col : Column} {rows : List ℕ} {piece : Slot → List ℕ} {xs out₀
     still : p ≡ getD xs r 0
     still = fill-at (t .moved) h
 
-    pub move-readable : Readable col rows xs → Good (fieldAt col rows p)
-    move-readable such = subst (λ (q : ℕ). Good (fieldAt col rows q)) (sym still) (such r (omega arith))
+    pub move-readable : Readable col rows xs → Good (cursorField col rows p)
+    move-readable such = subst (λ (q : ℕ). Good (cursorField col rows q)) (sym still) (such r (omega arith))
 
     -- there is room for its piece
-    pub move-room : at₀ + length (joined (map piece (slotsAt col rows xs))) ≤ length out₀ → at + length (piece (slotAt col rows p)) ≤ length out
+    pub move-room : at₀ + length (joined (map piece (cursorSlots col rows xs))) ≤ length out₀ → at + length (piece (cursorSlot col rows p)) ≤ length out
     move-room fits = rw still (turns-room here (length xs) out₀ at₀ out at r (t .wrote) (omega arith) (omega (arith, ap length all)))
 
     -- which is written, and the cursor moved
-    pub move-more : (w v : ℕ) → length (piece (slotAt col rows p)) ≡ w → v ≡ nextAt col rows p
-        → Moving col rows piece xs out₀ at₀ (set now r v) (sets out at (piece (slotAt col rows p))) (at + w) (r + 1)
+    pub move-more : (w v : ℕ) → length (piece (cursorSlot col rows p)) ≡ w → v ≡ nextAt col rows p
+        → Moving col rows piece xs out₀ at₀ (set now r v) (sets out at (piece (cursorSlot col rows p))) (at + w) (r + 1)
     move-more w v l e = record {
       wrote = rw still (turns-more here (length xs) out₀ at₀ out at r (t .wrote) w (omega arith) (rw still at l));
       moved = fill-more (t .moved) h v (e ∙ ap (nextAt col rows) still ∙ sym (at-map (nextAt col rows) xs r 0 0 (omega arith)));

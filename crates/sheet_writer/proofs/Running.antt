@@ -10,7 +10,9 @@ use Rattle.format.specs.Kinds.{Slot}
 use Rattle.format.specs.Limits.{maxSlot}
 use Rattle.format.specs.Lists.{endsFrom, joined, lowBytes}
 use Rattle.format.specs.Cleared.{variableSlot}
-use Rattle.basics.proofs.Append.{Walk, walk-start, walk-piece, walk-room, walk-end}
+use Rattle.basics.specs.Wrote.{Wrote}
+use Rattle.basics.proofs.Append.{Walk, walk-start, walk-piece, walk-room}
+use Rattle.sheet_writer.proofs.Wrotes.{wrote-whole}
 
 -- k, and after it where the value of the slot at each cursor ends, four bytes each
 abbrev endBytes : (ℕ → Slot) → ℕ → List ℕ → List ℕ
@@ -45,5 +47,5 @@ module _ {slot : ℕ → Slot} {xs out₀ : List ℕ} {at₀ : ℕ} {out : List 
   }
 
   -- the last
-  pub run-end : length xs ≤ r → (at + 4 ≡ at₀ + length (endBytes slot 0 xs)) × (sets out at (lowBytes 4 k) ≡ sets out₀ at₀ (endBytes slot 0 xs))
-  run-end h = walk-end (walk-piece 4 (lowBytes 4 k) [] (t .wrote) (ap (endBytes slot k) (drop-of-length-le xs {i = r} h)) refl) refl
+  pub run-end : length xs ≤ r → Wrote (endBytes slot 0 xs) at₀ out₀ (sets out at (lowBytes 4 k)) (at + 4)
+  run-end h = wrote-whole (walk-piece 4 (lowBytes 4 k) [] (t .wrote) (ap (endBytes slot k) (drop-of-length-le xs {i = r} h)) refl) refl

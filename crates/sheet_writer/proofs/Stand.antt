@@ -1,80 +1,100 @@
 -- Cursors that stand where the fields of the columns to come start: where they start, and how a column moves them on and
 -- takes its bytes off the sheet to come. Assumes nothing.
-use Prim.Native.Nat.{ℕ, zero, suc, _+_, _-_, _<_, _≤_}
+use Prim.Native.Nat.{ℕ, zero, suc, _+_, _-_, _*_, _<_, _≤_}
 use mathlib.Core.Path.{_≡_, refl, sym, ap, ap₂, _∙_, subst}
 use mathlib.Core.Option.{none}
 use mathlib.Core.List.{List, [], _∷_, _++_, map, map-map, tail, append-assoc}
-use native.Mathlib.Nat.{zero-add}
 use native.Mathlib.Numerals.{add-one}
 use native.Mathlib.Omega.{arith}
-use lib.ListN.{length, getD, take, drop, take-append-drop, drop-of-length-le, length-map}
-use lib.Seq.{sets, take-at, drop-cons, drop-drop, length-take-le, getD-take}
+use lib.ListN.{length, getD, take, drop, take-append-drop, drop-of-length-le, length-drop, length-map}
+use lib.Seq.{take-at, drop-drop, length-take-le, getD-take}
 use Rattle.format.specs.declared.Check.the-variants.{Pass}
 use Rattle.format.specs.declared.Column.{Column}
 use Rattle.format.specs.Lists.{Bytes, each}
-use Rattle.format.specs.Schemas.{noColumn}
 use Rattle.format.specs.Kinds.{Slot, columnShape}
 use Rattle.format.specs.Field.{field}
 use Rattle.format.specs.Fits.{RowFits}
 use Rattle.format.specs.Row.{row}
-use Rattle.format.specs.Sheet.{layout, turned}
-use Rattle.format.specs.Cleared.{clearedColumn, clearedSheet}
+use Rattle.format.specs.Limits.{maxRows}
+use Rattle.format.specs.Sheet.{nulls, nullsIn, slotsIn, turned}
+use Rattle.format.specs.Cleared.{clearedSheet}
 use Rattle.format.specs.Read.{Parsed, got, Good, slotRead, leftAfter, readField, rowFault, rowSlots, rowsFault}
-use Rattle.format.specs.Entries.{rowBytes, cutRows, decodedSheet}
-use Rattle.basics.proofs.Append.{Walk, walk-start, walk-more, walk-room, walk-end}
+use Rattle.format.specs.Entries.{rowBytes, cutRows, rowsSlots}
+use Rattle.bits.specs.Ones.{onesIn}
+use Rattle.basics.specs.Wrote.{Wrote}
+use Rattle.basics.proofs.Append.{Walk, walk-start, walk-more, walk-room}
 use Rattle.basics.proofs.Bytes.{bytes-append, bytes-drop, bytes-take}
 use Rattle.laws.proofs.Fields.{bytes-row}
 use Rattle.laws.proofs.ReadField.{field-read, left-end}
 use Rattle.laws.proofs.ReadRow.{passed-row}
 use Rattle.basics.proofs.Checks.{both-pass}
 use Rattle.basics.proofs.Lists.{Every, every-at, each-is}
-use Rattle.laws.proofs.Turned.{slotsAt as slotsIn, turned-tails}
-use Rattle.sheet_writer.specs.Cursors.{fieldAt, nextAt, Readable, slotsAt, nextsAt, columnAt, Fields, AllFields, sheetAt}
+use Rattle.laws.proofs.Turned.{turned-tails}
+use Rattle.sheet_writer.specs.declared.flags.Flag.the-variants.{Valid}
+use Rattle.sheet_writer.specs.Cursors.{AllFields, Clears, Fields, Readable, cursorField, cursorSlots, flagsAt, nextAt, nextsAt, slotsToCome, valuesAt}
 use Rattle.sheet_writer.proofs.Maps.{at-map, map-same}
+use Rattle.sheet_writer.proofs.Parts.{column-is, validity-nulls}
+use Rattle.sheet_writer.proofs.Wrotes.{wrote-whole}
 
 -- the slots of the columns to come, from a cursor on
 abbrev slotsFrom : List Column → List ℕ → ℕ → List Slot
 slotsFrom cols rows p = rowSlots cols (drop p rows)
 
+-- the sheet of all rows from their cursors on
+abbrev sheetToCome : List Column → List ℕ → List ℕ → List ℕ
+sheetToCome cols rows cursors = clearedSheet (length cursors) cols (slotsToCome cols rows cursors)
+
+-- a column, validity and values
+abbrev pub columnToCome : Column → List ℕ → List ℕ → List ℕ
+columnToCome col rows cursors = flagsAt Valid col rows cursors ++ valuesAt col rows cursors
+
 -- ---- a column more
 
 module _ (col : Column) (rows : List ℕ) (b : Bytes rows) where
   -- a cursor moves to what its field leaves
-  pub next-left : (p : ℕ) → Good (fieldAt col rows p) → drop (nextAt col rows p) rows ≡ leftAfter (fieldAt col rows p)
+  next-left : (p : ℕ) → Good (cursorField col rows p) → drop (nextAt col rows p) rows ≡ leftAfter (cursorField col rows p)
   next-left p g =
-      sym (drop-drop (length (drop p rows) - length (leftAfter (fieldAt col rows p))) p rows)
+      sym (drop-drop (length (drop p rows) - length (leftAfter (cursorField col rows p))) p rows)
       ∙ sym (left-end (columnShape col) (col .options) (drop p rows) (bytes-drop p rows b) g)
 
   module _ (cols : List Column) (cursors : List ℕ) (h : AllFields (col ∷ cols) rows cursors) where
-    pub columns-next : AllFields cols rows (nextsAt col rows cursors)
+    columns-next : AllFields cols rows (nextsAt col rows cursors)
     columns-next r l =
         let k : r < length cursors = omega (arith, length-map cursors (nextAt col rows)) in
         subst (Fields cols)
         (sym (ap (λ (p : ℕ). drop p rows) (at-map (nextAt col rows) cursors r 0 0 k) ∙ next-left (getD cursors r 0) (h r k .0)))
         (h r k .1)
 
-    firsts : slotsIn (map (slotsFrom (col ∷ cols) rows) cursors) 0 ≡ slotsAt col rows cursors
+    firsts : slotsIn (map (slotsFrom (col ∷ cols) rows) cursors) 0 ≡ cursorSlots col rows cursors
     firsts = map-map (λ (ss : List Slot). getD ss 0 none) (slotsFrom (col ∷ cols) rows) cursors
 
     others : map tail (map (slotsFrom (col ∷ cols) rows) cursors) ≡ map (slotsFrom cols rows) (nextsAt col rows cursors)
     others =
         map-map tail (slotsFrom (col ∷ cols) rows) cursors
-        ∙ map-same (λ p. rowSlots cols (leftAfter (fieldAt col rows p))) (λ p. slotsFrom cols rows (nextAt col rows p)) 0 cursors
+        ∙ map-same (λ p. rowSlots cols (leftAfter (cursorField col rows p))) (λ p. slotsFrom cols rows (nextAt col rows p)) 0 cursors
         (λ i l. ap (rowSlots cols) (sym (next-left (getD cursors i 0) (h i l .0))))
         ∙ sym (map-map (slotsFrom cols rows) (nextAt col rows) cursors)
 
+    -- the column's slots, and those of the others
+    slots-next : slotsToCome (col ∷ cols) rows cursors ≡ cursorSlots col rows cursors ∷ slotsToCome cols rows (nextsAt col rows cursors)
+    slots-next =
+        turned-tails (length cols) (map (slotsFrom (col ∷ cols) rows) cursors)
+        ∙ ap₂ {C = List (List Slot)} (λ (ss : List Slot) (yss : List (List Slot)). ss ∷ turned (length cols) yss) firsts others
+
     -- the column, and the sheet of the others
-    pub sheet-next : sheetAt (col ∷ cols) rows cursors
-        ≡ columnAt col rows cursors ++ sheetAt cols rows (nextsAt col rows cursors)
+    sheet-next : sheetToCome (col ∷ cols) rows cursors ≡ columnToCome col rows cursors ++ sheetToCome cols rows (nextsAt col rows cursors)
     sheet-next =
-        ap (clearedSheet (length cursors) (col ∷ cols)) (turned-tails (length cols) (map (slotsFrom (col ∷ cols) rows) cursors))
-        ∙ ap₂ {C = List ℕ}
-        (λ (ss : List Slot) (yss : List (List Slot)). clearedColumn (layout col) (length cursors) ss ++ clearedSheet (length cursors) cols (turned (length cols) yss))
-        firsts others
-        ∙ ap (λ (n : ℕ).
-        columnAt col rows cursors
-        ++ clearedSheet n cols (turned (length cols) (map (slotsFrom cols rows) (nextsAt col rows cursors))))
-        (sym (length-map cursors (nextAt col rows)))
+        ap (clearedSheet (length cursors) (col ∷ cols)) slots-next
+        ∙ ap₂ {C = List ℕ} (λ (column : List ℕ) (n : ℕ). column ++ clearedSheet n cols (slotsToCome cols rows (nextsAt col rows cursors)))
+        (sym (column-is col rows cursors)) (sym (length-map cursors (nextAt col rows)))
+
+    -- the ones of its validity leave its nulls
+    nulls-next : nulls (slotsToCome (col ∷ cols) rows cursors)
+        ≡ (length cursors - onesIn (flagsAt Valid col rows cursors)) + nulls (slotsToCome cols rows (nextsAt col rows cursors))
+    nulls-next =
+        let own : nullsIn (cursorSlots col rows cursors) ≡ length cursors - onesIn (flagsAt Valid col rows cursors)
+        = omega (arith, validity-nulls col rows cursors) in
+        ap nulls slots-next ∙ ap (λ (k : ℕ). k + nulls (slotsToCome cols rows (nextsAt col rows cursors))) own
 
 -- ---- the start
 
@@ -127,12 +147,9 @@ module _ (cols : List Column) (rows offsets : List ℕ) (b : Bytes rows) where
         every-at (λ p. Fields cols (drop p rows)) (take n offsets) 0 r
         (subst (Every (λ p. Fields cols (drop p rows))) firsts-are (rows-stand 0 n passes .0)) l
 
-    -- and the sheet to come is the whole
-    pub start-sheet : sheetAt cols rows (take n offsets) ≡ decodedSheet n cols (cutRows n rows offsets)
-    start-sheet =
-        ap₂ {C = List ℕ} (λ (m : ℕ) (yss : List (List Slot)). clearedSheet m cols (turned (length cols) yss))
-        (length-take-le n offsets there)
-        (ap (map (slotsFrom cols rows)) (sym firsts-are) ∙ rows-stand 0 n passes .1)
+    -- and the slots to come are all
+    pub start-slots : slotsToCome cols rows (take n offsets) ≡ rowsSlots cols (cutRows n rows offsets)
+    start-slots = ap (turned (length cols)) (ap (map (slotsFrom cols rows)) (sym firsts-are) ∙ rows-stand 0 n passes .1)
 
 -- the front of an array xs, stored and lent again, is what was stored
 module _ (n : ℕ) (xs v offsets : List ℕ) (room : n ≤ length xs) (there : n ≤ length offsets) (e : v ≡ take (length (take n xs)) offsets) where
@@ -147,50 +164,64 @@ module _ (n : ℕ) (xs v offsets : List ℕ) (room : n ≤ length xs) (there : n
 
 -- ---- the walk over the columns
 
--- before column c: the columns before it are written, and the cursors stand at its fields
-pub record Standing (cols : List Column) (rows cursors₀ out₀ cursors out : List ℕ) (at c : ℕ) : Type 0 where
+-- before column c: the columns before it are written and their null slots counted, and the cursors stand at its fields
+pub record Standing (cols : List Column) (rows cursors₀ out₀ cursors out : List ℕ) (empty at c : ℕ) : Type 0 where
   pub within : c ≤ length cols
   pub many : length cursors ≡ length cursors₀
   pub fields : AllFields (drop c cols) rows cursors
-  pub wrote : Walk (sheetAt cols rows cursors₀) (sheetAt (drop c cols) rows cursors) out₀ 0 out at
+  pub wrote : Walk (sheetToCome cols rows cursors₀) (sheetToCome (drop c cols) rows cursors) out₀ 0 out at
+  pub counted : empty + nulls (slotsToCome (drop c cols) rows cursors) ≡ nulls (slotsToCome cols rows cursors₀)
+  pub few : empty ≤ maxRows * c
 
-pub stand-first : (cols : List Column) (rows cursors out : List ℕ) → AllFields cols rows cursors → Standing cols rows cursors out cursors out 0 0
-stand-first cols rows cursors out h = record { within = omega arith; many = refl; fields = h; wrote = walk-start (sheetAt cols rows cursors) out 0 }
+pub stand-first : (cols : List Column) (rows cursors out : List ℕ) → AllFields cols rows cursors → Standing cols rows cursors out cursors out 0 0 0
+stand-first cols rows cursors out h = record {
+  within = omega arith;
+  many = refl;
+  fields = h;
+  wrote = walk-start (sheetToCome cols rows cursors) out 0;
+  counted = omega arith;
+  few = omega arith;
+}
 
-module _ {cols : List Column} {rows cursors₀ out₀ cursors out : List ℕ} {at c : ℕ} (t : Standing cols rows cursors₀ out₀ cursors out at c) where
+module _ {cols : List Column} {rows cursors₀ out₀ cursors out : List ℕ} {empty at c : ℕ}
+    (t : Standing cols rows cursors₀ out₀ cursors out empty at c) where
   -- no column is left
-  pub stand-end : length cols ≤ c → (at ≡ length (sheetAt cols rows cursors₀)) × (out ≡ sets out₀ 0 (sheetAt cols rows cursors₀))
+  pub stand-end : length cols ≤ c
+      → Clears (length cursors₀) cols (slotsToCome cols rows cursors₀) out₀ out (record { bytes = at; nulls = empty })
   stand-end h =
-      let e = walk-end (t .wrote) (ap (λ (cs : List Column). sheetAt cs rows cursors) (drop-of-length-le cols {i = c} h)) in
-      (e .0 ∙ zero-add (length (sheetAt cols rows cursors₀)), e .1)
+      let none : drop c cols ≡ [] = drop-of-length-le cols {i = c} h in
+      record {
+        wrote = wrote-whole (t .wrote) (ap (λ (cs : List Column). sheetToCome cs rows cursors) none);
+        empty = omega (arith, t .counted, ap (λ (cs : List Column). nulls (slotsToCome cs rows cursors)) none);
+      }
 
-  module _ (b : Bytes rows) (col : Column) (next : drop c cols ≡ col ∷ drop (c + 1) cols) where
-    here : AllFields (col ∷ drop (c + 1) cols) rows cursors
+  module _ (b : Bytes rows) (col : Column) (next : drop c cols ≡ col ∷ drop (suc c) cols) where
+    abbrev rest : List Column
+    rest = drop (suc c) cols
+
+    here : AllFields (col ∷ rest) rows cursors
     here = subst (λ (cs : List Column). AllFields cs rows cursors) next (t .fields)
 
-    left : sheetAt (drop c cols) rows cursors ≡ columnAt col rows cursors ++ sheetAt (drop (c + 1) cols) rows (nextsAt col rows cursors)
-    left = ap (λ (cs : List Column). sheetAt cs rows cursors) next ∙ sheet-next col rows b (drop (c + 1) cols) cursors here
+    left : sheetToCome (drop c cols) rows cursors ≡ columnToCome col rows cursors ++ sheetToCome rest rows (nextsAt col rows cursors)
+    left = ap (λ (cs : List Column). sheetToCome cs rows cursors) next ∙ sheet-next col rows b rest cursors here
 
     -- a field of column c can be read at each cursor, and there is room for the column
     pub stand-here : Readable col rows cursors
     stand-here r l = here r l .0
 
-    pub stand-room : length (sheetAt cols rows cursors₀) ≤ length out₀ → at + length (columnAt col rows cursors) ≤ length out
-    stand-room fits = walk-room (t .wrote) (columnAt col rows cursors) (sheetAt (drop (c + 1) cols) rows (nextsAt col rows cursors)) left (omega arith)
+    pub stand-room : length (sheetToCome cols rows cursors₀) ≤ length out₀ → at + length (columnToCome col rows cursors) ≤ length out
+    stand-room fits = walk-room (t .wrote) (columnToCome col rows cursors) (sheetToCome rest rows (nextsAt col rows cursors)) left (omega arith)
 
-    -- which is written, and the cursors moved
-    pub stand-more : c < length cols
-        → Standing cols rows cursors₀ out₀ (nextsAt col rows cursors) (sets out at (columnAt col rows cursors)) (at + length (columnAt col rows cursors)) (c + 1)
-    stand-more h = record {
-      within = omega arith;
+    -- which is written, its nulls counted, and the cursors moved
+    pub stand-more : length cursors₀ ≤ maxRows → {out′ cursors′ : List ℕ} {at′ : ℕ} → Wrote (columnToCome col rows cursors) at out out′ at′
+        → cursors′ ≡ nextsAt col rows cursors → (ones : ℕ) → ones ≡ onesIn (flagsAt Valid col rows cursors)
+        → Standing cols rows cursors₀ out₀ cursors′ out′ (empty + (length cursors₀ - ones)) at′ (c + 1)
+    stand-more most w e ones k = rw (add-one, w .place, w .bytes, e, k) (record {
+      within = omega (arith, ap length next, length-drop c cols);
       many = length-map cursors (nextAt col rows) ∙ t .many;
-      fields = columns-next col rows b (drop (c + 1) cols) cursors here;
-      wrote = walk-more (t .wrote) (columnAt col rows cursors) (sheetAt (drop (c + 1) cols) rows (nextsAt col rows cursors)) left;
-    }
-
--- a column of those in use
-pub column-at : (columns : List Column) (count c : ℕ) → c < count → count ≤ length columns
-    → drop c (take count columns) ≡ getD columns c noColumn ∷ drop (c + 1) (take count columns)
-column-at columns count c h l =
-    drop-cons (take count columns) c noColumn (omega (arith, length-take-le count columns l))
-    ∙ ap₂ {C = List Column} (λ (x : Column) (n : ℕ). x ∷ drop n (take count columns)) (getD-take count columns c noColumn h) (sym (add-one c))
+      fields = columns-next col rows b rest cursors here;
+      wrote = walk-more (t .wrote) (columnToCome col rows cursors) (sheetToCome rest rows (nextsAt col rows cursors)) left;
+      counted =
+          omega (arith, t .counted, t .many, ap (λ (cs : List Column). nulls (slotsToCome cs rows cursors)) next, nulls-next col rows b rest cursors here);
+      few = omega (arith, t .few, t .many);
+    })

@@ -1,51 +1,54 @@
 -- Rows as the writing walk reads them: a cursor for each row stands where the row's field of the next column starts, and
 -- what is read there is read from the cursor to the end of all row bytes.
-use Prim.Native.Nat.{ℕ, _+_, _-_, _<_}
+use Prim.Native.Nat.{ℕ, _+_, _-_, _<_, _≤_}
 use mathlib.Core.Path.{_≡_}
 use mathlib.Core.Bool.{Bool, cond}
 use mathlib.Core.List.{List, [], _∷_, map}
 use lib.Dec.{ltb}
 use lib.ListN.{length, getD, drop}
+use Rattle.format.specs.declared.Check.the-variants.{Pass}
 use Rattle.format.specs.declared.Kind.the-variants.{Variable}
 use Rattle.format.specs.declared.SortOptions.{SortOptions}
 use Rattle.format.specs.declared.Column.{Column}
+use Rattle.format.specs.declared.Schema.{Schema}
+use Rattle.format.specs.Limits.{maxRows}
 use Rattle.format.specs.Lists.{endsFrom, joined, lowBytes}
 use Rattle.format.specs.Kinds.{bool, fixed, Slot, columnShape, valueBytes}
-use Rattle.format.specs.Sheet.{layout, packed, turned}
-use Rattle.format.specs.Cleared.{clearedColumn, clearedSheet, fixedSlot, isTrue, pack, valid, variableSlot}
-use Rattle.format.specs.Read.{Parsed, Good, slotRead, leftAfter, readField, rowSlots}
+use Rattle.format.specs.Schemas.{Limited, colsOf}
+use Rattle.format.specs.Sheet.{layout, nulls, packed, turned}
+use Rattle.format.specs.Cleared.{clearedSheet, clearedValues, fixedSlot, isTrue, pack, valid, variableSlot}
+use Rattle.format.specs.Read.{Parsed, Good, slotRead, leftAfter, readField, rowSlots, rowsFault}
+use Rattle.format.specs.Entries.{cutRows, decodedSheet, offsetsFault}
+use Rattle.basics.specs.Wrote.{Wrote}
+use Rattle.sheet_writer.specs.declared.Written.{Written}
 use Rattle.sheet_writer.specs.declared.flags.Flag.{Flag}
 use Rattle.sheet_writer.specs.declared.flags.Flag.the-variants.{Valid, True}
 
 -- ---- the field of a column at a cursor
 
-abbrev pub fieldAt : Column → List ℕ → ℕ → Parsed Slot
-fieldAt col rows p = readField (columnShape col) (col .options) (drop p rows)
+abbrev pub cursorField : Column → List ℕ → ℕ → Parsed Slot
+cursorField col rows p = readField (columnShape col) (col .options) (drop p rows)
 
 -- its slot, and the cursor past it
-abbrev pub slotAt : Column → List ℕ → ℕ → Slot
-slotAt col rows p = slotRead (fieldAt col rows p)
+abbrev pub cursorSlot : Column → List ℕ → ℕ → Slot
+cursorSlot col rows p = slotRead (cursorField col rows p)
 
 abbrev pub nextAt : Column → List ℕ → ℕ → ℕ
-nextAt col rows p = p + (length (drop p rows) - length (leftAfter (fieldAt col rows p)))
+nextAt col rows p = p + (length (drop p rows) - length (leftAfter (cursorField col rows p)))
 
 -- ---- those of all rows
 
 -- a field can be read at every cursor
 abbrev pub Readable : Column → List ℕ → List ℕ → Type 0
-Readable col rows cursors = (r : ℕ) → r < length cursors → Good (fieldAt col rows (getD cursors r 0))
+Readable col rows cursors = (r : ℕ) → r < length cursors → Good (cursorField col rows (getD cursors r 0))
 
-abbrev pub slotsAt : Column → List ℕ → List ℕ → List Slot
-slotsAt col rows cursors = map (slotAt col rows) cursors
+abbrev pub cursorSlots : Column → List ℕ → List ℕ → List Slot
+cursorSlots col rows cursors = map (cursorSlot col rows) cursors
 
 abbrev pub nextsAt : Column → List ℕ → List ℕ → List ℕ
 nextsAt col rows cursors = map (nextAt col rows) cursors
 
--- the column of the cleared sheet
-abbrev pub columnAt : Column → List ℕ → List ℕ → List ℕ
-columnAt col rows cursors = clearedColumn (layout col) (length cursors) (slotsAt col rows cursors)
-
--- ---- its parts
+-- ---- the parts of the column that they make
 
 -- a slot's validity, or its bool
 abbrev pub flagOf : Flag → Slot → Bool
@@ -58,7 +61,7 @@ Flagged Valid col = Unit {0}
 Flagged True col = columnShape col ≡ fixed bool
 
 abbrev pub flagAt : Flag → Column → List ℕ → ℕ → Bool
-flagAt which col rows p = flagOf which (slotAt col rows p)
+flagAt which col rows p = flagOf which (cursorSlot col rows p)
 
 abbrev pub flagsAt : Flag → Column → List ℕ → List ℕ → List ℕ
 flagsAt which col rows cursors = pack (packed (length cursors)) (map (flagAt which col rows) cursors)
@@ -67,19 +70,23 @@ flagsAt which col rows cursors = pack (packed (length cursors)) (map (flagAt whi
 abbrev pub inByte : ℕ → ℕ
 inByte left = cond (ltb left 8) left 8
 
--- values of one width
+-- what comes after the validity
 abbrev pub valuesAt : Column → List ℕ → List ℕ → List ℕ
-valuesAt col rows cursors = joined (map (fixedSlot (valueBytes (col .kind))) (slotsAt col rows cursors))
+valuesAt col rows cursors = clearedValues (layout col) (length cursors) (cursorSlots col rows cursors)
+
+-- values of one width
+abbrev pub widesAt : Column → List ℕ → List ℕ → List ℕ
+widesAt col rows cursors = joined (map (fixedSlot (valueBytes (col .kind))) (cursorSlots col rows cursors))
 
 -- variable bytes: the ends, and the bytes between them
-abbrev pub ended : SortOptions → Column
-ended o = record { kind = Variable; options = o }
+abbrev pub variableColumn : SortOptions → Column
+variableColumn o = record { kind = Variable; options = o }
 
 abbrev pub endsAt : SortOptions → List ℕ → List ℕ → List ℕ
-endsAt o rows cursors = joined (map (lowBytes 4) (endsFrom 0 (map variableSlot (slotsAt (ended o) rows cursors))))
+endsAt o rows cursors = joined (map (lowBytes 4) (endsFrom 0 (map variableSlot (cursorSlots (variableColumn o) rows cursors))))
 
 abbrev pub dataAt : SortOptions → List ℕ → List ℕ → List ℕ
-dataAt o rows cursors = joined (map variableSlot (slotsAt (ended o) rows cursors))
+dataAt o rows cursors = joined (map variableSlot (cursorSlots (variableColumn o) rows cursors))
 
 -- ---- all columns to come
 
@@ -92,7 +99,26 @@ Fields (col ∷ cols) s =
 abbrev pub AllFields : List Column → List ℕ → List ℕ → Type 0
 AllFields cols rows cursors = (r : ℕ) → r < length cursors → Fields cols (drop (getD cursors r 0) rows)
 
--- the cleared sheet of what is read
-abbrev pub sheetAt : List Column → List ℕ → List ℕ → List ℕ
-sheetAt cols rows cursors =
-    clearedSheet (length cursors) cols (turned (length cols) (map (λ p. rowSlots cols (drop p rows)) cursors))
+-- their slots, column by column
+abbrev pub slotsToCome : List Column → List ℕ → List ℕ → List (List Slot)
+slotsToCome cols rows cursors = turned (length cols) (map (λ p. rowSlots cols (drop p rows)) cursors)
+
+-- what is asked of cursors and a sheet: the fields can be read, and the sheet has room
+pub record Writable (schema : Schema) (rows cursors sheet : List ℕ) : Type 0 where
+  pub limited : Limited schema
+  pub few : length cursors ≤ maxRows
+  pub fields : AllFields (colsOf schema) rows cursors
+  pub room : length (clearedSheet (length cursors) (colsOf schema) (slotsToCome (colsOf schema) rows cursors)) ≤ length sheet
+
+-- and of a batch and a sheet: the checks passed, and the sheet has room
+pub record Decodable (schema : Schema) (n : ℕ) (rows offsets sheet : List ℕ) : Type 0 where
+  pub few : n ≤ maxRows
+  pub limited : Limited schema
+  pub cuts : offsetsFault n rows offsets ≡ Pass
+  pub passes : rowsFault 0 (colsOf schema) (cutRows n rows offsets) ≡ Pass
+  pub room : length (decodedSheet n (colsOf schema) (cutRows n rows offsets)) ≤ length sheet
+
+-- the cleared sheet of n rows of slots is written in front; its bytes and its null slots are returned
+pub record Clears (n : ℕ) (cols : List Column) (slots : List (List Slot)) (entry exit : List ℕ) (w : Written) : Type 0 where
+  pub wrote : Wrote (clearedSheet n cols slots) 0 entry exit (w .bytes)
+  pub empty : w .nulls ≡ nulls slots

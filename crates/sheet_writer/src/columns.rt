@@ -1,26 +1,27 @@
-// A column from its parts, the columns of a sheet, and the cursors that the walk starts from.
+// The values of a column from their parts, the columns of a sheet, and the cursors that the walk starts from.
 ghost use mathlib.Core.Path.{_≡_};
 ghost use Prim.Native.Nat.{_+_, _≤_};
 ghost use lib.ListN.{length, take};
-ghost use lib.Seq.{sets};
-ghost use Rattle.format.specs.declared.Check.the-variants.{Pass};
+ghost use Rattle.basics.specs.Wrote.{Wrote};
 ghost use Rattle.format.specs.Limits.{maxRows};
-ghost use Rattle.format.specs.Schemas.{Limited, colsOf};
-ghost use Rattle.format.specs.Read.{rowsFault};
-ghost use Rattle.format.specs.Entries.{offsetsFault, cutRows, decodedSheet};
-ghost use Rattle.sheet_writer.specs.Cursors.{AllFields, Readable, columnAt, nextsAt, sheetAt};
+ghost use Rattle.format.specs.Schemas.{colsOf};
+ghost use Rattle.format.specs.Entries.{cutRows, rowsSlots};
+ghost use Rattle.sheet_writer.specs.Cursors.{Clears, Decodable, Readable, Writable, nextsAt, slotsToCome, valuesAt};
+use crate::Written;
 use crate::ended::move_data;
 use crate::ended::write_ends;
 use crate::flags::Flag;
 use crate::flags::pack;
 use crate::values::advance;
 use crate::values::move_values;
+use bits::count_ones;
 use format::Column;
 use format::Kind;
+use format::MAX_ROWS;
 use format::Schema;
 
-// A column: validity, then the values by their layout.
-fn write_column(
+// The values of a column, by their layout, and its cursors past the fields.
+fn write_values(
     rows: &[u8],
     cursors: &mut [usize],
     column: Column,
@@ -29,49 +30,48 @@ fn write_column(
 ) -> usize
     requires { ⌜ length (now cursors) ≤ maxRows ⌝ }
     requires { ⌜ Readable column (now rows) (now cursors) ⌝ }
-    requires { ⌜ at + length (columnAt column (now rows) (now cursors)) ≤ length (now sheet) ⌝ }
-    ensures { λ r. ⌜ r ≡ at + length (columnAt column (now (rows .entry)) (now (cursors .entry))) ⌝ }
-    ensures { λ _. ⌜ now (sheet .exit) ≡ sets (now (sheet .entry)) at (columnAt column (now (rows .entry)) (now (cursors .entry))) ⌝ }
+    requires { ⌜ at + length (valuesAt column (now rows) (now cursors)) ≤ length (now sheet) ⌝ }
+    ensures { λ r. ⌜ Wrote (valuesAt column (now (rows .entry)) (now (cursors .entry))) at (now (sheet .entry)) (now (sheet .exit)) r ⌝ }
     ensures { λ _. ⌜ now (cursors .exit) ≡ nextsAt column (now (rows .entry)) (now (cursors .entry)) ⌝ }
 {
     let kind = column.kind;
     let options = column.options;
-    let place = pack(rows, cursors, column, Flag::Valid, sheet, at);
     match kind {
         Kind::Bool => {
-            let end = pack(rows, cursors, column, Flag::True, sheet, place);
+            let end = pack(rows, cursors, column, Flag::True, sheet, at);
             advance(cursors, 2);
             return end;
         }
         Kind::Variable => {
-            let data = write_ends(rows, cursors, options, sheet, place);
+            let data = write_ends(rows, cursors, options, sheet, at);
             return move_data(rows, cursors, options, sheet, data);
         }
         _ => {
-            return move_values(rows, cursors, column, sheet, place);
+            return move_values(rows, cursors, column, sheet, at);
         }
     }
 }
 
-// The columns in list order, from the front of the sheet on.
-fn write_columns(schema: Schema, rows: &[u8], cursors: &mut [usize], sheet: &mut [u8]) -> usize
-    requires { ⌜ Limited schema ⌝ }
-    requires { ⌜ length (now cursors) ≤ maxRows ⌝ }
-    requires { ⌜ AllFields (colsOf schema) (now rows) (now cursors) ⌝ }
-    requires { ⌜ length (sheetAt (colsOf schema) (now rows) (now cursors)) ≤ length (now sheet) ⌝ }
-    ensures { λ r. ⌜ r ≡ length (sheetAt (colsOf schema) (now (rows .entry)) (now (cursors .entry))) ⌝ }
-    ensures { λ _. ⌜ now (sheet .exit) ≡ sets (now (sheet .entry)) 0 (sheetAt (colsOf schema) (now (rows .entry)) (now (cursors .entry))) ⌝ }
+// The columns in list order, from the front of the sheet on: validity, whose ones are the slots that are not null, then values.
+fn write_columns(schema: Schema, rows: &[u8], cursors: &mut [usize], sheet: &mut [u8]) -> Written
+    requires { ⌜ Writable schema (now rows) (now cursors) (now sheet) ⌝ }
+    ensures { λ r. ⌜ Clears (length (now (cursors .entry))) (colsOf schema) (slotsToCome (colsOf schema) (now (rows .entry)) (now (cursors .entry)))
+        (now (sheet .entry)) (now (sheet .exit)) r ⌝ }
 {
     let count = schema.count;
     let columns = schema.columns;
+    let n = cursors.len();
+    let mut nulls: u64 = 0;
     let mut at = 0;
     let mut c = 0;
     while c < count {
         let column = columns[c];
-        at = write_column(rows, cursors, column, sheet, at);
+        let values = pack(rows, cursors, column, Flag::Valid, sheet, at);
+        nulls += (n - count_ones(&sheet[at..values])) as u64;
+        at = write_values(rows, cursors, column, sheet, values);
         c += 1;
     }
-    at
+    Written { bytes: at, nulls }
 }
 
 // Each row's cursor starts at the row's offset.
@@ -86,23 +86,19 @@ fn start(offsets: &[u64], cursors: &mut [usize])
     }
 }
 
-// The cleared sheet of n rows that passed the checks, written in front of the lent sheet; how many bytes it has.
+// The cleared sheet of n rows that passed the checks, written in front of the lent sheet.
 pub fn write_sheet(
     schema: Schema,
     n: usize,
     rows: &[u8],
     offsets: &[u64],
     sheet: &mut [u8],
-) -> usize
-    requires { ⌜ n ≤ maxRows ⌝ }
-    requires { ⌜ Limited schema ⌝ }
-    requires { ⌜ offsetsFault n (now rows) (now offsets) ≡ Pass ⌝ }
-    requires { ⌜ rowsFault 0 (colsOf schema) (cutRows n (now rows) (now offsets)) ≡ Pass ⌝ }
-    requires { ⌜ length (decodedSheet n (colsOf schema) (cutRows n (now rows) (now offsets))) ≤ length (now sheet) ⌝ }
-    ensures { λ r. ⌜ r ≡ length (decodedSheet n (colsOf schema) (cutRows n (now (rows .entry)) (now (offsets .entry)))) ⌝ }
-    ensures { λ _. ⌜ now (sheet .exit) ≡ sets (now (sheet .entry)) 0 (decodedSheet n (colsOf schema) (cutRows n (now (rows .entry)) (now (offsets .entry)))) ⌝ }
+) -> Written
+    requires { ⌜ Decodable schema n (now rows) (now offsets) (now sheet) ⌝ }
+    ensures { λ r. ⌜ Clears n (colsOf schema) (rowsSlots (colsOf schema) (cutRows n (now (rows .entry)) (now (offsets .entry))))
+        (now (sheet .entry)) (now (sheet .exit)) r ⌝ }
 {
-    let mut cursors: [usize; 4096] = [0; 4096];
+    let mut cursors = [0usize; MAX_ROWS as usize];
     start(offsets, &mut cursors[..n]);
     write_columns(schema, rows, &mut cursors[..n], sheet)
 }

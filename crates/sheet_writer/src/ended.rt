@@ -2,16 +2,16 @@
 ghost use mathlib.Core.Path.{_≡_};
 ghost use Prim.Native.Nat.{_+_, _≤_};
 ghost use lib.ListN.{length};
-ghost use lib.Seq.{sets};
+ghost use Rattle.basics.specs.Wrote.{Wrote};
 ghost use Rattle.format.specs.Limits.{maxRows, maxSlot};
 ghost use Rattle.format.specs.Cleared.{variableSlot};
 ghost use Rattle.format.specs.Read.{readVariable, slotRead};
-ghost use Rattle.sheet_writer.specs.Cursors.{Readable, nextsAt, ended, endsAt, dataAt};
+ghost use Rattle.sheet_writer.specs.Cursors.{Readable, nextsAt, variableColumn, endsAt, dataAt};
 use format::FieldRead;
 use format::SortOptions;
 use number::put32;
-use variable::decode_blocks;
-use variable::read;
+use variable_reader::decode_blocks;
+use variable_reader::read;
 
 // How many bytes the value in front of a row has; null has none.
 fn value_length(row: &[u8], options: SortOptions) -> usize
@@ -35,10 +35,9 @@ pub fn write_ends(
     at: usize,
 ) -> usize
     requires { ⌜ length (now cursors) ≤ maxRows ⌝ }
-    requires { ⌜ Readable (ended options) (now rows) (now cursors) ⌝ }
+    requires { ⌜ Readable (variableColumn options) (now rows) (now cursors) ⌝ }
     requires { ⌜ at + length (endsAt options (now rows) (now cursors)) ≤ length (now sheet) ⌝ }
-    ensures { λ r. ⌜ r ≡ at + length (endsAt options (now (rows .entry)) (now (cursors .entry))) ⌝ }
-    ensures { λ _. ⌜ now (sheet .exit) ≡ sets (now (sheet .entry)) at (endsAt options (now (rows .entry)) (now (cursors .entry))) ⌝ }
+    ensures { λ r. ⌜ Wrote (endsAt options (now (rows .entry)) (now (cursors .entry))) at (now (sheet .entry)) (now (sheet .exit)) r ⌝ }
 {
     let mut place = at;
     let mut total: usize = 0;
@@ -62,11 +61,10 @@ pub fn move_data(
     sheet: &mut [u8],
     at: usize,
 ) -> usize
-    requires { ⌜ Readable (ended options) (now rows) (now cursors) ⌝ }
+    requires { ⌜ Readable (variableColumn options) (now rows) (now cursors) ⌝ }
     requires { ⌜ at + length (dataAt options (now rows) (now cursors)) ≤ length (now sheet) ⌝ }
-    ensures { λ r. ⌜ r ≡ at + length (dataAt options (now (rows .entry)) (now (cursors .entry))) ⌝ }
-    ensures { λ _. ⌜ now (sheet .exit) ≡ sets (now (sheet .entry)) at (dataAt options (now (rows .entry)) (now (cursors .entry))) ⌝ }
-    ensures { λ _. ⌜ now (cursors .exit) ≡ nextsAt (ended options) (now (rows .entry)) (now (cursors .entry)) ⌝ }
+    ensures { λ r. ⌜ Wrote (dataAt options (now (rows .entry)) (now (cursors .entry))) at (now (sheet .entry)) (now (sheet .exit)) r ⌝ }
+    ensures { λ _. ⌜ now (cursors .exit) ≡ nextsAt (variableColumn options) (now (rows .entry)) (now (cursors .entry)) ⌝ }
 {
     let mut place = at;
     let mut r = 0;

@@ -3,16 +3,16 @@ ghost use mathlib.Core.Path.{_≡_};
 ghost use mathlib.Core.List.{map};
 ghost use Prim.Native.Nat.{_+_, _≤_};
 ghost use lib.ListN.{length};
-ghost use lib.Seq.{sets};
+ghost use Rattle.basics.specs.Wrote.{Wrote};
 ghost use Rattle.format.specs.Kinds.{columnShape};
 ghost use Rattle.format.specs.Sheet.{packed};
 ghost use Rattle.format.specs.Cleared.{byteOf};
 ghost use Rattle.format.specs.Read.{Good, readField, slotRead};
 ghost use Rattle.sheet_writer.specs.Cursors.{Readable, Flagged, flagOf, flagAt, flagsAt, inByte};
 use bits::put_bit;
-use fixed::decode_boolean;
+use fixed_reader::decode_boolean;
 use format::Column;
-use format::null_sentinel;
+use format::null_lead;
 
 // Which flag of a slot is meant: that it is valid, or that its bool is set.
 pub enum Flag {
@@ -28,7 +28,7 @@ fn read_flag(row: &[u8], column: Column, which: Flag) -> bool
 {
     let options = column.options;
     match which {
-        Flag::Valid => row[0] != null_sentinel(options),
+        Flag::Valid => !null_lead(row[0], options),
         Flag::True => decode_boolean(row, options),
     }
 }
@@ -73,8 +73,7 @@ pub fn pack(
     requires { ⌜ Readable column (now rows) (now cursors) ⌝ }
     requires { ⌜ Flagged which column ⌝ }
     requires { ⌜ at + packed (length (now cursors)) ≤ length (now sheet) ⌝ }
-    ensures { λ r. ⌜ r ≡ at + packed (length (now (cursors .entry))) ⌝ }
-    ensures { λ _. ⌜ now (sheet .exit) ≡ sets (now (sheet .entry)) at (flagsAt which column (now (rows .entry)) (now (cursors .entry))) ⌝ }
+    ensures { λ r. ⌜ Wrote (flagsAt which column (now (rows .entry)) (now (cursors .entry))) at (now (sheet .entry)) (now (sheet .exit)) r ⌝ }
 {
     let n = cursors.len();
     let mut place = at;

@@ -3,10 +3,10 @@ ghost use mathlib.Core.Path.{_≡_};
 ghost use mathlib.Core.List.{map};
 ghost use Prim.Native.Nat.{ℕ, _+_, _^_, _<_, _≤_};
 ghost use lib.ListN.{length, getD};
-ghost use lib.Seq.{sets};
 ghost use Rattle.basics.specs.Wide.{WideKind};
-ghost use Rattle.sheet_writer.specs.Cursors.{Readable, nextsAt, valuesAt};
-use fixed::decode;
+ghost use Rattle.basics.specs.Wrote.{Wrote};
+ghost use Rattle.sheet_writer.specs.Cursors.{Readable, nextsAt, widesAt};
+use fixed_reader::decode;
 use format::Column;
 use format::width;
 
@@ -20,9 +20,8 @@ pub fn move_values(
 ) -> usize
     requires { ⌜ WideKind (column .kind) ⌝ }
     requires { ⌜ Readable column (now rows) (now cursors) ⌝ }
-    requires { ⌜ at + length (valuesAt column (now rows) (now cursors)) ≤ length (now sheet) ⌝ }
-    ensures { λ r. ⌜ r ≡ at + length (valuesAt column (now (rows .entry)) (now (cursors .entry))) ⌝ }
-    ensures { λ _. ⌜ now (sheet .exit) ≡ sets (now (sheet .entry)) at (valuesAt column (now (rows .entry)) (now (cursors .entry))) ⌝ }
+    requires { ⌜ at + length (widesAt column (now rows) (now cursors)) ≤ length (now sheet) ⌝ }
+    ensures { λ r. ⌜ Wrote (widesAt column (now (rows .entry)) (now (cursors .entry))) at (now (sheet .entry)) (now (sheet .exit)) r ⌝ }
     ensures { λ _. ⌜ now (cursors .exit) ≡ nextsAt column (now (rows .entry)) (now (cursors .entry)) ⌝ }
 {
     let kind = column.kind;

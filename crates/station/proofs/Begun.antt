@@ -13,11 +13,11 @@ use Rattle.basics.proofs.Checks.{refuse-pass}
 use Rattle.list_reader.specs.declared.Listed.{Listed}
 use Rattle.list_reader.specs.Listing.{ListedAs}
 use Rattle.list_reader.proofs.Schemas.{sound}
-use Rattle.station.specs.Begun.{Begins}
+use Rattle.station.specs.Begun.{Begun}
 
 module _ (list : List ℕ) (n : ℕ) (r : Listed) (l : ListedAs list r) where
   -- the list is refused
-  pub bad-list : (x : Refusal) → r .check ≡ Refuse x → Begins list n r
+  pub bad-list : (x : Refusal) → r .check ≡ Refuse x → Begun list n r
   bad-list x e =
       let f : listFault list ≡ Refuse x = sym (l .check) ∙ e in
       record { check = rw f e; sound = λ p. absurd (refuse-pass (sym e ∙ p)); few = λ p. absurd (refuse-pass (sym e ∙ p)) }
@@ -27,7 +27,7 @@ module _ (list : List ℕ) (n : ℕ) (r : Listed) (l : ListedAs list r) where
     passes = sym (l .check) ∙ e
 
     -- there are too many rows
-    pub many-rows : (s : Schema) → maxRows < n → Begins list n (record { check = Refuse (ManyRows n); schema = s })
+    pub many-rows : (s : Schema) → maxRows < n → Begun list n (record { check = Refuse (ManyRows n); schema = s })
     many-rows s h = record {
       check = rw (passes, lt-ltb maxRows n h);
       sound = λ p. absurd (refuse-pass p);
@@ -35,5 +35,5 @@ module _ (list : List ℕ) (n : ℕ) (r : Listed) (l : ListedAs list r) where
     }
 
     -- neither is refused
-    pub begun : n ≤ maxRows → Begins list n r
+    pub begun : n ≤ maxRows → Begun list n r
     begun h = record { check = rw (passes, le-ltb maxRows n h) e; sound = λ _. sound list r l passes; few = λ _. h }

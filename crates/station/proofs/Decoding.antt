@@ -1,45 +1,53 @@
 -- The ways out of `decode`: what each answers and leaves in the buffer. Assumes nothing.
-use Prim.Native.Nat.{ℕ, _<_, _≤_}
-use mathlib.Core.Path.{_≡_, sym, ap, _∙_}
+use Prim.Native.Nat.{ℕ}
+use mathlib.Core.Path.{_≡_, refl, sym, ap, _∙_}
 use mathlib.Core.List.{List}
-use lib.Dec.{ltb}
 use lib.ListN.{length}
 use lib.Seq.{sets}
-use borrow.Author.Tests.{lt-ltb, le-ltb}
 use native.Mathlib.Omega.{arith}
 use Rattle.format.specs.declared.Refusal.{Refusal}
 use Rattle.format.specs.declared.Refusal.the-variants.{SheetRoom}
+use Rattle.format.specs.declared.Check.{Check}
 use Rattle.format.specs.declared.Check.the-variants.{Pass, Refuse}
 use Rattle.format.specs.declared.Answer.the-variants.{Done, Refused}
 use Rattle.format.specs.declared.Column.{Column}
-use Rattle.format.specs.Check.{both, failIf}
+use Rattle.format.specs.declared.Schema.{Schema}
+use Rattle.format.specs.Check.{both}
 use Rattle.format.specs.Columns.{listFault, columns}
 use Rattle.format.specs.Schemas.{colsOf}
 use Rattle.format.specs.Read.{rowsFault}
-use Rattle.format.specs.Entries.{rowCountFault, offsetsFault, cutRows, decodedSheet, decodeCheck, decodeAnswer, decodeSheet}
+use Rattle.format.specs.Entries.{rowCountFault, offsetsFault, cutRows, rowsSlots, decodedSheet, answer, decodeCheck, decodeAnswer, decodeSheet}
+use Rattle.format.specs.Numbers.{numbersOf}
 use Rattle.format.specs.Promises.{Decoded}
-use Rattle.laws.proofs.Accept.{decode-answers, decode-writes}
 use Rattle.basics.proofs.Append.{over-sets}
-use Rattle.basics.proofs.Checks.{both-pass}
+use Rattle.basics.proofs.Checks.{refuse-pass, enough, both-pass}
 use Rattle.list_reader.specs.declared.Listed.{Listed}
 use Rattle.row_reader.specs.declared.Checked.{Checked}
 use Rattle.row_reader.specs.Walk.{Checks}
-use Rattle.station.specs.Begun.{Begins}
+use Rattle.sheet_writer.specs.declared.Written.{Written}
+use Rattle.sheet_writer.specs.Cursors.{Clears}
+use Rattle.station.specs.Begun.{Begun}
+use Rattle.station.specs.Decoding.{sheetRoomFault, SheetReady, SheetLeft}
 use Rattle.station.proofs.Measuring.{both-grouped}
 
--- ---- rows that pass: what the writing walk asks
-module _ (n : ℕ) (cols : List Column) (rows offsets : List ℕ) (r : Checked) (k : Checks n cols rows offsets r) (f : r .check ≡ Pass) where
-  both-passed : (offsetsFault n rows offsets ≡ Pass) × (rowsFault 0 cols (cutRows n rows offsets) ≡ Pass)
-  both-passed = both-pass (offsetsFault n rows offsets) _ (sym (k .check) ∙ f)
+-- ---- the writing walk
+module _ (fault : Check) (schema : Schema) (n : ℕ) (rows offsets sheet : List ℕ) where
+  -- something is at fault: nothing is written
+  pub none-written : (x : Refusal) → fault ≡ Refuse x → SheetLeft fault schema n rows offsets sheet sheet 0
+  none-written x e = record { bytes = rw e; empty = λ p. absurd (refuse-pass (sym e ∙ p)) }
 
-  pub offsets-pass : offsetsFault n rows offsets ≡ Pass
-  offsets-pass = both-passed .0
+  -- nothing is: the sheet goes in front
+  pub all-written : SheetReady fault schema n rows offsets sheet → fault ≡ Pass → (sheet′ : List ℕ) (w : Written)
+      → Clears n (colsOf schema) (rowsSlots (colsOf schema) (cutRows n rows offsets)) sheet sheet′ w
+      → SheetLeft fault schema n rows offsets sheet sheet′ (w .nulls)
+  all-written ready e sheet′ w clears =
+      let new = decodedSheet n (colsOf schema) (cutRows n rows offsets) in
+      record { bytes = rw e (clears .wrote .bytes ∙ sym (over-sets new sheet (ready e .room))); empty = λ p. clears .empty }
 
-  pub rows-pass : rowsFault 0 cols (cutRows n rows offsets) ≡ Pass
-  rows-pass = both-passed .1
-
-  pub sheet-room : (room : ℕ) → r .bytes ≤ room → length (decodedSheet n cols (cutRows n rows offsets)) ≤ room
-  sheet-room room l = omega (arith, k .room f)
+-- the null total of a refusal is not told
+same-total : (x : Check) (a : ℕ) {b c : ℕ} → (x ≡ Pass → b ≡ c) → answer x a b ≡ answer x a c
+same-total Pass a e = ap (Done a) (e refl)
+same-total (Refuse r) a e = refl
 
 -- ---- the entry
 module _ (list : List ℕ) (n : ℕ) (rows offsets sheet : List ℕ) where
@@ -52,14 +60,15 @@ module _ (list : List ℕ) (n : ℕ) (rows offsets sheet : List ℕ) where
   abbrev needed : List Column → ℕ
   needed cols = length (decodedSheet n cols (cutRows n rows offsets))
 
-  module _ (b : Listed) (begun : Begins list n b) where
+  module _ (b : Listed) (begun : Begun list n b) where
     grouped : decodeCheck list n rows offsets (length sheet)
         ≡ both (b .check) (both (both (offsetsFault n rows offsets) (rowsFault 0 (columns list) (cutRows n rows offsets)))
-        (failIf (ltb (length sheet) (needed (columns list))) (SheetRoom (needed (columns list))) Pass))
+        (sheetRoomFault (needed (columns list)) (length sheet)))
     unfolding decodeCheck
     grouped =
         both-grouped (listFault list) (rowCountFault n) _
-        ∙ ap (both (both (listFault list) (rowCountFault n))) (both-grouped (offsetsFault n rows offsets) (rowsFault 0 (columns list) (cutRows n rows offsets)) _)
+        ∙ ap (both (both (listFault list) (rowCountFault n)))
+        (both-grouped (offsetsFault n rows offsets) (rowsFault 0 (columns list) (cutRows n rows offsets)) _)
         ∙ rw (begun .check)
 
     pub bad-begin : (x : Refusal) → b .check ≡ Refuse x → Decoded list n rows offsets sheet (Refused x) sheet
@@ -79,19 +88,24 @@ module _ (list : List ℕ) (n : ℕ) (rows offsets sheet : List ℕ) where
         room : needed (columns list) ≡ r .bytes
         room = rw (← cols) (sym (k .room f))
 
-        pub small-sheet : length sheet < r .bytes → Decoded list n rows offsets sheet (Refused (SheetRoom (r .bytes))) sheet
-        small-sheet l = refused (SheetRoom (r .bytes)) (grouped ∙ rw (e, fault, f, room, lt-ltb (length sheet) (r .bytes) l))
+        -- what the writing walk asks
+        pub ready : (x : Check) → x ≡ sheetRoomFault (r .bytes) (length sheet) → SheetReady x (b .schema) n rows offsets sheet
+        ready x p q =
+            let passed = both-pass (offsetsFault n rows offsets) _ (sym (k .check) ∙ f) in
+            record {
+              few = begun .few e;
+              limited = begun .sound e .limited;
+              cuts = passed .0;
+              passes = passed .1;
+              room = omega (arith, k .room f, enough (length sheet) (r .bytes) (SheetRoom (r .bytes)) Pass (sym p ∙ q) .0);
+            }
 
-        module _ (l : r .bytes ≤ length sheet) where
-          passes : decodeCheck list n rows offsets (length sheet) ≡ Pass
-          passes = grouped ∙ rw (e, fault, f, room, le-ltb (length sheet) (r .bytes) l)
-
-          pub done : (w : ℕ) (sheet′ : List ℕ) → w ≡ needed (colsOf (b .schema))
-              → sheet′ ≡ sets sheet 0 (decodedSheet n (colsOf (b .schema)) (cutRows n rows offsets))
-              → Decoded list n rows offsets sheet (Done w (r .nulls)) sheet′
-          done w sheet′ p q = record {
-            answers = rw (p, k .empty f, cols) (sym (decode-answers list n rows offsets sheet passes));
-            bytes =
-                q ∙ ap (λ (cs : List Column). sets sheet 0 (decodedSheet n cs (cutRows n rows offsets))) cols
-                ∙ sym (decode-writes list n rows offsets sheet passes ∙ over-sets (decodedSheet n (columns list) (cutRows n rows offsets)) sheet (omega (arith, room, l)));
-          }
+        -- 24 decides what is answered and left
+        pub asked : (x : Check) → x ≡ sheetRoomFault (r .bytes) (length sheet) → (sheet′ : List ℕ) (total : ℕ)
+            → SheetLeft x (b .schema) n rows offsets sheet sheet′ total → Decoded list n rows offsets sheet (answer x (r .bytes) total) sheet′
+        unfolding decodeAnswer decodeSheet
+        asked x p sheet′ total left =
+            let c : decodeCheck list n rows offsets (length sheet) ≡ x = grouped ∙ rw (e, fault, f, room) (sym p) in
+            let says : answer x (r .bytes) total ≡ decodeAnswer list n rows offsets (length sheet) =
+            same-total x (r .bytes) (left .empty) ∙ rw (c, room, cols) refl in
+            record { answers = ap numbersOf says; bytes = left .bytes ∙ rw (c, cols) refl }

@@ -12,6 +12,7 @@ use Rattle.format.specs.declared.Refusal.the-variants.{RowRoom, OffsetRoom}
 use Rattle.format.specs.declared.Check.{Check}
 use Rattle.format.specs.declared.Check.the-variants.{Pass, Refuse}
 use Rattle.format.specs.declared.Column.{Column}
+use Rattle.format.specs.declared.Schema.{Schema}
 use Rattle.format.specs.declared.Answer.the-variants.{Refused}
 use Rattle.format.specs.Check.{both}
 use Rattle.format.specs.Lists.{joined, endsFrom}
@@ -24,26 +25,36 @@ use Rattle.format.specs.Promises.{Encoded}
 use Rattle.basics.proofs.Append.{over-sets}
 use Rattle.basics.proofs.Checks.{enough, both-pass}
 use Rattle.basics.proofs.Lists.{length-each, length-ends}
+use Rattle.sheet_reader.specs.declared.sheet.Facts.{Facts}
 use Rattle.station.specs.declared.measure.Measuring.{Measuring}
-use Rattle.station.specs.Measuring.{batchCheck, roomFault, Found, Measures}
+use Rattle.station.specs.Measuring.{batchCheck, Found, Measures}
+use Rattle.station.specs.Encoding.{roomFault, RowsReady, RowsLeft}
 use Rattle.station.proofs.Measuring.{both-grouped, batch-first}
 
 -- a sheet of n rows gives n of them
 rows-many : (n : ℕ) (cols : List Column) (sheet : List ℕ) → length (sheetRows n cols sheet) ≡ n
 rows-many n cols sheet = length-map (turned n (sheetSlots n cols sheet)) (row cols) ∙ length-each 0 n _
 
--- what the writing walk puts in front, where nothing is at fault
-front : (fault : Check) (new old end : List ℕ) → fault ≡ Pass → length new ≤ length old → end ≡ sets old 0 new → end ≡ written fault new old
-front fault new old end e h w = rw e (w ∙ sym (over-sets new old h))
+-- ---- the writing walk
+module _ (fault : Check) (schema : Schema) (n : ℕ) (sheet rows offsets : List ℕ) where
+  -- something is at fault: nothing is written
+  pub none-written : (x : Refusal) → fault ≡ Refuse x → RowsLeft fault schema n sheet rows offsets rows offsets
+  none-written x e = record { row-bytes = rw e; row-ends = rw e }
 
-pub rows-written : (n : ℕ) (cols : List Column) (sheet : List ℕ) (fault : Check) (old end : List ℕ) → fault ≡ Pass → sheetTotal n cols sheet ≤ length old
-    → end ≡ sets old 0 (joined (sheetRows n cols sheet)) → end ≡ written fault (joined (sheetRows n cols sheet)) old
-rows-written n cols sheet fault old end e h = front fault (joined (sheetRows n cols sheet)) old end e h
+  -- nothing is: what is written goes in front
+  front : (new old end : List ℕ) → fault ≡ Pass → length new ≤ length old → end ≡ sets old 0 new → end ≡ written fault new old
+  front new old end e h w = rw e (w ∙ sym (over-sets new old h))
 
-pub ends-written : (n : ℕ) (cols : List Column) (sheet : List ℕ) (fault : Check) (old end : List ℕ) → fault ≡ Pass → n < length old
-    → end ≡ sets old 0 (endsFrom 0 (sheetRows n cols sheet)) → end ≡ written fault (endsFrom 0 (sheetRows n cols sheet)) old
-ends-written n cols sheet fault old end e h =
-    front fault (endsFrom 0 (sheetRows n cols sheet)) old end e (omega (arith, h, length-ends 0 (sheetRows n cols sheet), rows-many n cols sheet))
+  pub all-written : (facts : List Facts) → RowsReady fault schema n sheet facts rows offsets → fault ≡ Pass → (rows′ offsets′ : List ℕ)
+      → rows′ ≡ sets rows 0 (joined (sheetRows n (colsOf schema) sheet)) → offsets′ ≡ sets offsets 0 (endsFrom 0 (sheetRows n (colsOf schema) sheet))
+      → RowsLeft fault schema n sheet rows offsets rows′ offsets′
+  all-written facts ready e rows′ offsets′ p q =
+      let cols = colsOf schema in
+      let ends = endsFrom 0 (sheetRows n cols sheet) in
+      record {
+        row-bytes = front (joined (sheetRows n cols sheet)) rows rows′ e (ready .fits e) p;
+        row-ends = front ends offsets offsets′ e (omega (arith, ready .ends-fit e, length-ends 0 (sheetRows n cols sheet), rows-many n cols sheet)) q;
+      }
 
 -- two checks made one after the other
 pub in-order : (x y first second fault : Check) → x ≡ first → y ≡ second → fault ≡ both x y → fault ≡ both first second
@@ -66,10 +77,19 @@ module _ (total room n ends : ℕ) where
       let r = enough room total (RowRoom total) _ (both-pass (totalFault total) _ (sym f ∙ e) .1) in
       (r .0, enough ends (suc n) (OffsetRoom (suc n)) Pass (r .1) .0)
 
--- a batch that passes has room where its total has: what the writing walk asks
-pub row-room : (list : List ℕ) (n : ℕ) (sheet : List ℕ) (m : Measuring) → Found list n sheet m → (room : ℕ) → m .total ≤ room
-    → sheetTotal n (colsOf (m .schema)) sheet ≤ room
-row-room list n sheet m f room l = omega (arith, f .total, ap (λ (cs : List Column). sheetTotal n cs sheet) (f .sound .cols))
+-- a batch that passes is ready where its total has room
+pub ready : (list : List ℕ) (n : ℕ) (sheet : List ℕ) (m : Measuring) → Found list n sheet m → (fault : Check) (rows offsets : List ℕ)
+    → fault ≡ both (totalFault (m .total)) (roomFault (m .total) (length rows) n (length offsets))
+    → RowsReady fault (m .schema) n sheet (m .facts) rows offsets
+ready list n sheet m f fault rows offsets e =
+    let room = has-room (m .total) (length rows) n (length offsets) fault e in
+    record {
+      few = f .few;
+      narrow = f .sound .limited .few;
+      known = f .known;
+      fits = λ p. omega (arith, room p .0, f .total, ap (λ (cs : List Column). sheetTotal n cs sheet) (f .sound .cols));
+      ends-fit = λ p. room p .1;
+    }
 
 -- ---- what is answered and left in the buffers
 module _ (list : List ℕ) (n : ℕ) (sheet rows offsets : List ℕ) (m : Measuring) (h : Measures list n sheet m) where
@@ -87,14 +107,15 @@ module _ (list : List ℕ) (n : ℕ) (sheet rows offsets : List ℕ) (m : Measur
       record { answers = rw r; row-bytes = rw r; row-ends = rw r }
 
   module _ (e : m .check ≡ Pass) where
+    -- 12, 13 and 14 decide what is answered and left
     pub asked : (fault : Check) → fault ≡ both (totalFault (m .total)) (roomFault (m .total) (length rows) n (length offsets))
-        → Encoded list n sheet rows offsets (answer fault (m .total) (m .nulls)) (written fault (joined (sheetRows n (colsOf (m .schema)) sheet)) rows)
-        (written fault (endsFrom 0 (sheetRows n (colsOf (m .schema)) sheet)) offsets)
+        → (rows′ offsets′ : List ℕ) → RowsLeft fault (m .schema) n sheet rows offsets rows′ offsets′
+        → Encoded list n sheet rows offsets (answer fault (m .total) (m .nulls)) rows′ offsets′
     unfolding encodeAnswer encodeRows encodeOffsets
-    asked fault f =
+    asked fault f rows′ offsets′ left =
         let r : encodeCheck list n sheet (length rows) (length offsets) ≡ fault = checks ∙ rw (e, f, h .found e .total) refl in
         record {
           answers = rw (r, h .found e .total, h .found e .nulls) refl;
-          row-bytes = rw (r, h .found e .sound .cols) refl;
-          row-ends = rw (r, h .found e .sound .cols) refl;
+          row-bytes = left .row-bytes ∙ rw (r, h .found e .sound .cols) refl;
+          row-ends = left .row-ends ∙ rw (r, h .found e .sound .cols) refl;
         }

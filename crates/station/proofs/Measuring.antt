@@ -1,6 +1,6 @@
 -- The ways out of `measure_list`, and what `measure` answers. Assumes nothing.
 use Prim.Native.Nat.{ℕ}
-use mathlib.Core.Path.{_≡_, refl, sym, _∙_}
+use mathlib.Core.Path.{_≡_, refl, sym, _∙_, ap}
 use mathlib.Core.List.{List}
 use Rattle.format.specs.declared.Refusal.{Refusal}
 use Rattle.format.specs.declared.Check.{Check}
@@ -11,12 +11,13 @@ use Rattle.format.specs.Schemas.{colsOf}
 use Rattle.format.specs.Sheet.{sheetFault}
 use Rattle.format.specs.Entries.{rowCountFault, sheetTotal, totalFault, measureCheck, measureAnswer, answer}
 use Rattle.format.specs.Promises.{Measured}
+use Rattle.format.specs.Numbers.{numbersOf}
 use Rattle.basics.proofs.Checks.{refuse-pass}
 use Rattle.list_reader.specs.declared.Listed.{Listed}
 use Rattle.sheet_reader.specs.declared.sheet.Sheeted.{Sheeted}
 use Rattle.sheet_reader.specs.Sheets.{SheetedAs}
 use Rattle.station.specs.declared.measure.Measuring.{Measuring}
-use Rattle.station.specs.Begun.{Begins}
+use Rattle.station.specs.Begun.{Begun}
 use Rattle.station.specs.Measuring.{batchCheck, Measures}
 
 -- checks one after the other, grouped either way
@@ -30,7 +31,7 @@ module _ (list : List ℕ) (n : ℕ) (sheet : List ℕ) where
   refused : (m : Measuring) (x : Refusal) → batchCheck list n sheet ≡ Refuse x → m .check ≡ Refuse x → Measures list n sheet m
   refused m x e a = record { check = a ∙ sym e; found = λ p. absurd (refuse-pass (sym a ∙ p)) }
 
-  module _ (b : Listed) (begun : Begins list n b) where
+  module _ (b : Listed) (begun : Begun list n b) where
     grouped : batchCheck list n sheet ≡ both (b .check) (sheetFault n (columns list) sheet)
     grouped = both-grouped (listFault list) (rowCountFault n) _ ∙ rw (begun .check)
 
@@ -77,7 +78,7 @@ batch-first list n sheet =
 pub answered : (list : List ℕ) (n : ℕ) (sheet : List ℕ) (m : Measuring) → Measures list n sheet m
     → Measured list n sheet (answer (both (m .check) (totalFault (m .total))) (m .total) (m .nulls))
 unfolding measureAnswer
-answered list n sheet m h = record { answers = cases (m .check) refl }
+answered list n sheet m h = record { answers = ap numbersOf (cases (m .check) refl) }
   where
     cases : (x : Check) → m .check ≡ x → answer (both (m .check) (totalFault (m .total))) (m .total) (m .nulls) ≡ measureAnswer list n sheet
     cases Pass e = rw (batch-first list n sheet, ← h .check, e, h .found e .total, h .found e .nulls) refl

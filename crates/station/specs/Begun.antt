@@ -8,10 +8,10 @@ use Rattle.format.specs.Check.{both}
 use Rattle.format.specs.Columns.{listFault}
 use Rattle.format.specs.Entries.{rowCountFault}
 use Rattle.list_reader.specs.declared.Listed.{Listed}
-use Rattle.list_reader.proofs.Schemas.{Sound}
+use Rattle.list_reader.specs.Listing.{Sound}
 
 -- list, 6; and where neither refuses, the columns of the list and few rows
-pub record Begins (list : List ℕ) (n : ℕ) (r : Listed) : Type 0 where
+pub record Begun (list : List ℕ) (n : ℕ) (r : Listed) : Type 0 where
   pub check : r .check ≡ both (listFault list) (rowCountFault n)
   pub sound : r .check ≡ Pass → Sound list (r .schema)
   pub few : r .check ≡ Pass → n ≤ maxRows

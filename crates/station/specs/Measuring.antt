@@ -2,27 +2,21 @@
 use Prim.Native.Nat.{ℕ, _≤_}
 use mathlib.Core.Path.{_≡_}
 use mathlib.Core.List.{List}
-use lib.Dec.{ltb}
 use Rattle.format.specs.declared.Check.{Check}
 use Rattle.format.specs.declared.Check.the-variants.{Pass}
-use Rattle.format.specs.declared.Refusal.the-variants.{RowRoom}
 use Rattle.format.specs.Limits.{maxRows}
-use Rattle.format.specs.Check.{both, failIf}
+use Rattle.format.specs.Check.{both}
 use Rattle.format.specs.Columns.{listFault, columns}
 use Rattle.format.specs.Schemas.{colsOf}
 use Rattle.format.specs.Sheet.{sheetFault, sheetSlots, nulls}
-use Rattle.format.specs.Entries.{sheetTotal, rowCountFault, offsetRoomFault}
+use Rattle.format.specs.Entries.{sheetTotal, rowCountFault}
 use Rattle.sheet_reader.specs.Sheets.{Known}
-use Rattle.list_reader.proofs.Schemas.{Sound}
 use Rattle.station.specs.declared.measure.Measuring.{Measuring}
+use Rattle.list_reader.specs.Listing.{Sound}
 
 -- list, 6, sheet
 abbrev pub batchCheck : List ℕ → ℕ → List ℕ → Check
 batchCheck list n sheet = both (listFault list) (both (rowCountFault n) (sheetFault n (columns list) sheet))
-
--- 13, 14
-abbrev pub roomFault : ℕ → ℕ → ℕ → ℕ → Check
-roomFault total rowRoom n offsetRoom = failIf (ltb rowRoom total) (RowRoom total) (offsetRoomFault n offsetRoom)
 
 -- of a batch that is not refused: few rows, the columns and their facts, the total and the null total
 pub record Found (list : List ℕ) (n : ℕ) (sheet : List ℕ) (m : Measuring) : Type 0 where

@@ -7,7 +7,7 @@ use format::Check;
 use format::Refusal;
 
 // The first reason of two checks.
-pub fn both(x: Check, y: Check) -> Check
+pub(crate) fn both(x: Check, y: Check) -> Check
     ensures { λ r. ⌜ r ≡ both· x y ⌝ }
 {
     match x {
@@ -17,7 +17,7 @@ pub fn both(x: Check, y: Check) -> Check
 }
 
 // 12.
-pub fn total_fault(total: u64) -> Check
+pub(crate) fn total_fault(total: u64) -> Check
     ensures { λ r. ⌜ r ≡ totalFault total ⌝ }
 {
     if format::MAX_TOTAL < total {
@@ -27,7 +27,7 @@ pub fn total_fault(total: u64) -> Check
 }
 
 // The two numbers of a success, or the refusal.
-pub fn answer(check: Check, a: u64, b: u64) -> Answer
+pub(crate) fn answer(check: Check, a: u64, b: u64) -> Answer
     ensures { λ r. ⌜ r ≡ answer· check a b ⌝ }
 {
     match check {

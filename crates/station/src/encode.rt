@@ -1,15 +1,9 @@
 // Encoding: the rows of a sheet into the row buffer, and where each begins and the last ends into the offsets.
 ghost use mathlib.Core.Path.{_≡_};
-ghost use Prim.Native.Nat.{_<_, _≤_};
-ghost use lib.ListN.{length};
-ghost use Rattle.format.specs.declared.Check.the-variants.{Pass};
-ghost use Rattle.format.specs.Limits.{maxColumns, maxRows};
-ghost use Rattle.format.specs.Lists.{joined, endsFrom};
-ghost use Rattle.format.specs.Schemas.{colsOf};
-ghost use Rattle.format.specs.Entries.{sheetRows, sheetTotal, written};
+ghost use Prim.Native.Nat.{_≤_};
+ghost use Rattle.format.specs.Limits.{maxRows};
 ghost use Rattle.format.specs.Promises.{Encoded};
-ghost use Rattle.sheet_reader.specs.Sheets.{Known};
-ghost use Rattle.station.specs.Measuring.{roomFault};
+ghost use Rattle.station.specs.Encoding.{roomFault, RowsReady, RowsLeft};
 use crate::check::answer;
 use crate::check::both;
 use crate::check::total_fault;
@@ -46,13 +40,8 @@ fn write_passed(
     rows: &mut [u8],
     offsets: &mut [u64],
 )
-    requires { ⌜ n ≤ maxRows ⌝ }
-    requires { ⌜ schema .count ≤ maxColumns ⌝ }
-    requires { ⌜ Known n (colsOf schema) (now sheet) facts ⌝ }
-    requires { ⌜ (fault ≡ Pass → sheetTotal n (colsOf schema) (now sheet) ≤ length (now rows)) ⌝ }
-    requires { ⌜ (fault ≡ Pass → n < length (now offsets)) ⌝ }
-    ensures { λ _. ⌜ now (rows .exit) ≡ written fault (joined (sheetRows n (colsOf schema) (now (sheet .entry)))) (now (rows .entry)) ⌝ }
-    ensures { λ _. ⌜ now (offsets .exit) ≡ written fault (endsFrom 0 (sheetRows n (colsOf schema) (now (sheet .entry)))) (now (offsets .entry)) ⌝ }
+    requires { ⌜ RowsReady fault schema n (now sheet) facts (now rows) (now offsets) ⌝ }
+    ensures { λ _. ⌜ RowsLeft fault schema n (now (sheet .entry)) (now (rows .entry)) (now (offsets .entry)) (now (rows .exit)) (now (offsets .exit)) ⌝ }
 {
     if let Check::Refuse(_) = fault {
         return;
@@ -62,7 +51,8 @@ fn write_passed(
 
 // List, 6, sheet, 12, 13, 14, then the rows: total row bytes and the null total, or the refusal, which writes nothing.
 pub fn encode(list: &[u8], n: u64, sheet: &[u8], rows: &mut [u8], offsets: &mut [u64]) -> Answer
-    ensures { λ r. ⌜ Encoded (now (list .entry)) n (now (sheet .entry)) (now (rows .entry)) (now (offsets .entry)) r (now (rows .exit)) (now (offsets .exit)) ⌝ }
+    ensures { λ r. ⌜ Encoded (now (list .entry)) n (now (sheet .entry)) (now (rows .entry)) (now (offsets .entry))
+        r (now (rows .exit)) (now (offsets .exit)) ⌝ }
 {
     let row_room = rows.len() as u64;
     let offset_room = offsets.len() as u64;

@@ -1,6 +1,6 @@
 // Checking a column list; and what measure, encode and decode begin with: the list, then the row count.
 ghost use Rattle.format.specs.Promises.{ListChecked};
-ghost use Rattle.station.specs.Begun.{Begins};
+ghost use Rattle.station.specs.Begun.{Begun};
 use format::Answer;
 use format::Check;
 use format::Refusal;
@@ -23,8 +23,8 @@ pub fn check_list(list: &[u8]) -> Answer
 }
 
 // The list, then 6.
-pub fn begin(list: &[u8], n: u64) -> Listed
-    ensures { λ r. ⌜ Begins (now (list .entry)) n r ⌝ }
+pub(crate) fn begin(list: &[u8], n: u64) -> Listed
+    ensures { λ r. ⌜ Begun (now (list .entry)) n r ⌝ }
 {
     let listed = read_list(list);
     let check = listed.check;

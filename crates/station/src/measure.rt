@@ -11,18 +11,18 @@ use format::Answer;
 use format::Check;
 use format::Refusal;
 use format::Schema;
-use list_reader::no_column;
+use format::no_column;
 use sheet_reader::measure::measure_sheet;
 use sheet_reader::sheet::Facts;
 use sheet_reader::sheet::check_sheet;
 
 // What a batch says: its first fault, and of one that has none its columns and their facts, the total and the null total.
-pub struct Measuring {
-    pub check: Check,
-    pub schema: Schema,
-    pub facts: [Facts; format::MAX_COLUMNS],
-    pub total: u64,
-    pub nulls: u64,
+pub(crate) struct Measuring {
+    pub(crate) check: Check,
+    pub(crate) schema: Schema,
+    pub(crate) facts: [Facts; format::MAX_COLUMNS],
+    pub(crate) total: u64,
+    pub(crate) nulls: u64,
 }
 
 // A batch that is refused says no more.
@@ -50,7 +50,7 @@ fn refused(refusal: Refusal) -> Measuring
 }
 
 // List, 6, sheet; and the total, of which 12 is not asked here.
-pub fn measure_list(list: &[u8], n: u64, sheet: &[u8]) -> Measuring
+pub(crate) fn measure_list(list: &[u8], n: u64, sheet: &[u8]) -> Measuring
     ensures { λ r. ⌜ Measures (now (list .entry)) n (now (sheet .entry)) r ⌝ }
 {
     let listed = begin(list, n);

@@ -1,13 +1,12 @@
 -- The offsets that a call uses are enough: with those alone it answers and writes as with all of them. Assumes nothing.
-use Prim.Native.Nat.{ℕ, zero, suc, _+_, _*_, _/_, _<_, _≤_}
+use Prim.Native.Nat.{ℕ, zero, suc, _+_, _/_, _<_, _≤_}
 use mathlib.Core.Path.{_≡_, refl, sym, ap, _∙_}
 use mathlib.Core.Logic.{⊎-elim, _⊎_, inl, inr}
 use mathlib.Core.Bool.{Bool, true, false}
-use mathlib.Core.List.{List, [], _++_, append-nil}
+use mathlib.Core.List.{List, []}
 use native.Mathlib.Omega.{arith}
 use lib.Dec.{ltb}
 use lib.ListN.{length, getD}
-use lib.Seq.{drop-nil}
 use borrow.Author.Tests.{ltb-true, ltb-false, lt-ltb, le-ltb}
 use Rattle.format.specs.declared.Check.{Check}
 use Rattle.format.specs.declared.Check.the-variants.{Pass, Refuse}
@@ -18,13 +17,14 @@ use Rattle.format.specs.Check.{both}
 use Rattle.format.specs.Lists.{Bytes, endsFrom, over}
 use Rattle.format.specs.Columns.{listFault, columns}
 use Rattle.format.specs.Sheet.{sheetSlots}
-use Rattle.format.specs.Entries.{answer, written, sheetRows, sheetTotal, measureCheck, encodeCheck, encodeAnswer, encodeRows, encodeOffsets, fallFault, offsetsFault, rowBytes, cutRows, decodeCheck, decodeAnswer, decodeSheet}
+use Rattle.format.specs.Entries.{answer, written, sheetRows, sheetTotal, measureCheck, encodeCheck, encodeAnswer, encodeRows, encodeOffsets}
+use Rattle.format.specs.Entries.{fallFault, offsetsFault, rowBytes, cutRows, decodeCheck, decodeAnswer, decodeSheet}
 use Rattle.format.specs.Lent.{eights, eightBytes}
 use Rattle.basics.proofs.Checks.{enough, both-pass}
 use Rattle.basics.proofs.Lists.{each-same, each-at, length-each, length-ends}
 use Rattle.laws.proofs.Turned.{rows-many}
 use Rattle.station_c.specs.Offsets.{eightAt, firstEights, Used}
-use Rattle.station_c.proofs.Eights.{stored-back}
+use Rattle.station_c.proofs.NumberBytes.{stored-back}
 
 -- ---- over 4,096 rows are refused before the offsets are looked at: what comes after the refusal does not count
 many-both : (x : Check) (r : Refusal) (y z : Check) → both (both x (Refuse r)) y ≡ both (both x (Refuse r)) z
@@ -75,41 +75,39 @@ unfolding encodeCheck
 ends-fit list n sheet rowRoom k e =
     let p = both-pass (measureCheck list n sheet) _ e in
     let q = enough rowRoom (sheetTotal n (columns list) sheet) _ _ (p .1) in
-    omega (arith, length-ends 0 (sheetRows n (columns list) sheet), rows-many n (columns list) (sheetSlots n (columns list) sheet), enough k (suc n) _ _ (q .1) .0)
+    let many = rows-many n (columns list) (sheetSlots n (columns list) sheet) in
+    omega (arith, length-ends 0 (sheetRows n (columns list) sheet), many, enough k (suc n) _ _ (q .1) .0)
 
--- a success writes in front of the offsets, a refusal writes nothing: either way those that were only read come back as they were
-back : (m : Check) (new bs : List ℕ) (k : ℕ) → Bytes bs → 8 * k ≤ length bs → (m ≡ Pass → length new ≤ k)
-    → over (eightBytes (written m new (firstEights k bs))) bs ≡ over (eightBytes (written m new [])) bs
-back Pass new bs k b h l =
-    stored-back bs b new k (l refl) h
-    ∙ ap (λ (x : List ℕ). over (eightBytes x) bs) (sym (ap (λ (x : List ℕ). new ++ x) (drop-nil (length new)) ∙ append-nil new))
-back (Refuse r) new bs k b h l = stored-back bs b [] k (omega arith) h
+-- the ends in front of the lent bytes, as the entry's definition has them: numbers in front of those that were there
+front : (m : Check) (new bs : List ℕ) → Bytes bs → (m ≡ Pass → length new ≤ length bs / 8)
+    → written m (eightBytes new) bs ≡ over (eightBytes (written m new (eights bs))) bs
+front Pass new bs b l = sym (stored-back bs b new (length bs / 8) (l refl) (omega arith))
+front (Refuse r) new bs b l = sym (stored-back bs b [] (length bs / 8) (omega arith) (omega arith))
 
-pub encode-offsets : (list : List ℕ) (n : ℕ) (sheet : List ℕ) (rowRoom : ℕ) (bs : List ℕ) (k : ℕ) → Bytes bs → Used n (length bs / 8) k
-    → over (eightBytes (encodeOffsets list n sheet rowRoom (firstEights k bs))) bs ≡ over (eightBytes (encodeOffsets list n sheet rowRoom (eights bs))) bs
+pub encode-ends : (list : List ℕ) (n : ℕ) (sheet : List ℕ) (rowRoom : ℕ) (bs : List ℕ) (k : ℕ) → Bytes bs → Used n (length bs / 8) k
+    → written (encodeCheck list n sheet rowRoom k) (eightBytes (endsFrom 0 (sheetRows n (columns list) sheet))) bs
+    ≡ over (eightBytes (encodeOffsets list n sheet rowRoom (eights bs))) bs
 unfolding encodeOffsets
-encode-offsets list n sheet rowRoom bs k b u =
-    rw (length-each 0 k (eightAt bs), length-each 0 (length bs / 8) (eightAt bs))
-    (back (encodeCheck list n sheet rowRoom k) ends bs k b (omega (arith, u .there)) (ends-fit list n sheet rowRoom k)
-    ∙ ap (λ (m : Check). over (eightBytes (written m ends [])) bs) (encode-check list n sheet (length bs / 8) k u rowRoom)
-    ∙ sym (back (encodeCheck list n sheet rowRoom (length bs / 8)) ends bs (length bs / 8) b (omega arith) (ends-fit list n sheet rowRoom (length bs / 8))))
-  where
-    ends : List ℕ
-    ends = endsFrom 0 (sheetRows n (columns list) sheet)
+encode-ends list n sheet rowRoom bs k b u =
+    let ends = endsFrom 0 (sheetRows n (columns list) sheet) in
+    rw (encode-check list n sheet (length bs / 8) k u rowRoom, length-each 0 (length bs / 8) (eightAt bs))
+    (front (encodeCheck list n sheet rowRoom (length bs / 8)) ends bs b (ends-fit list n sheet rowRoom (length bs / 8)))
 
 -- ---- decode: offsets that agree up to index n
-record Alike (n : ℕ) (os os′ : List ℕ) : Type 0 where
+record Agree (n : ℕ) (os os′ : List ℕ) : Type 0 where
   room : ltb (length os) (suc n) ≡ ltb (length os′) (suc n)
   at : (i : ℕ) → i ≤ n → getD os i 0 ≡ getD os′ i 0
 
-alike : (bs : List ℕ) (n room k : ℕ) → Used n room k → n ≤ maxRows → Alike n (firstEights k bs) (firstEights room bs)
-alike bs n room k u h = record {
-  room = ap (λ (a : ℕ). ltb a (suc n)) (length-each 0 k (eightAt bs)) ∙ reach n room k u h ∙ ap (λ (a : ℕ). ltb a (suc n)) (sym (length-each 0 room (eightAt bs)));
+agree : (bs : List ℕ) (n room k : ℕ) → Used n room k → n ≤ maxRows → Agree n (firstEights k bs) (firstEights room bs)
+agree bs n room k u h = record {
+  room =
+      ap (λ (a : ℕ). ltb a (suc n)) (length-each 0 k (eightAt bs)) ∙ reach n room k u h
+      ∙ ap (λ (a : ℕ). ltb a (suc n)) (sym (length-each 0 room (eightAt bs)));
   at = λ i l. ⊎-elim (λ p. ap (λ (m : ℕ). getD (firstEights m bs) i 0) (u .enough h p))
       (λ p. each-at k (eightAt bs) 0 i (omega arith) ∙ sym (each-at room (eightAt bs) 0 i (omega (arith, u .there)))) (le-or-lt k n);
 }
 
-module _ (n : ℕ) (bytes os os′ : List ℕ) (a : Alike n os os′) where
+module _ (n : ℕ) (bytes os os′ : List ℕ) (a : Agree n os os′) where
   falls : (i j : ℕ) → i + j ≤ n → fallFault os i j ≡ fallFault os′ i j
   falls i zero h = refl
   falls i (suc j) h = rw (a .at i (omega arith), a .at (suc i) (omega arith), falls (suc i) j (omega arith))
@@ -127,8 +125,8 @@ module _ (list : List ℕ) (n : ℕ) (bytes bs : List ℕ) (k : ℕ) (u : Used n
   abbrev all : List ℕ
   all = eights bs
 
-  same : n ≤ maxRows → Alike n few all
-  same h = alike bs n (length bs / 8) k u h
+  same : n ≤ maxRows → Agree n few all
+  same h = agree bs n (length bs / 8) k u h
 
   decode-check : (h : n ≤ maxRows) (room : ℕ) → decodeCheck list n bytes few room ≡ decodeCheck list n bytes all room
   unfolding decodeCheck

@@ -1,36 +1,65 @@
 -- What the C entries make of the lent bytes, from what they are told of the answer and of the offsets used. Assumes nothing.
-use Prim.Native.Nat.{ℕ, _/_, _<_, _≤_}
-use mathlib.Core.Path.{_≡_, sym, ap, subst, _∙_}
-use mathlib.Core.List.{List}
+use Prim.Native.Nat.{ℕ, suc, _/_, _<_, _≤_}
+use mathlib.Core.Path.{_≡_, refl, sym, ap, subst, _∙_}
+use mathlib.Core.List.{List, append-nil}
 use native.Mathlib.Omega.{arith}
-use lib.ListN.{length, take, replicate, length-replicate}
+use lib.ListN.{length, take, replicate, length-replicate, drop-of-length-le}
 use lib.Seq.{length-take-le}
 use borrow.Author.Tests.{lt-ltb, le-ltb}
+use Rattle.format.specs.declared.Refusal.{Refusal}
+use Rattle.format.specs.declared.Check.{Check}
+use Rattle.format.specs.declared.Check.the-variants.{Pass, Refuse}
 use Rattle.format.specs.declared.Answer.{Answer}
-use Rattle.format.specs.Lists.{Bytes, over}
+use Rattle.format.specs.declared.Answer.the-variants.{Done, Refused}
+use Rattle.format.specs.declared.Returned.{Returned}
+use Rattle.format.specs.Lists.{Bytes, endsFrom, over}
+use Rattle.format.specs.Columns.{columns}
+use Rattle.format.specs.Sheet.{sheetSlots}
 use Rattle.format.specs.Numbers.{numbersOf}
+use Rattle.format.specs.Entries.{answer, sheetRows, encodeCheck}
 use Rattle.format.specs.Entries.{checkListAnswer, measureAnswer, encodeAnswer, encodeRows, encodeOffsets, decodeAnswer, decodeSheet}
-use Rattle.format.specs.Lent.{eights, eightBytes, numberBytes, answerBytes, unlessShort, lentCheckList, lentMeasure, lentEncode, lentEncodeRows, lentEncodeOffsets, lentDecode, lentDecodeSheet}
+use Rattle.format.specs.Lent.{eights, eightBytes, numberBytes, answerBytes, unlessShort}
+use Rattle.format.specs.Lent.{lentCheckList, lentMeasure, lentEncode, lentEncodeRows, lentEncodeOffsets, lentDecode, lentDecodeSheet}
 use Rattle.format.specs.Promises.{ListChecked, Measured, Encoded, Decoded, LentListChecked, LentMeasured, LentEncoded, LentDecoded}
-use Rattle.basics.proofs.Lists.{length-each}
-use Rattle.station_c.specs.Offsets.{eightAt, firstEights, Used, EncodedBytes}
-use Rattle.station_c.proofs.Enough.{encode-answer, encode-rows, encode-offsets, decode-answer, decode-sheet}
+use Rattle.basics.proofs.Lists.{length-ends}
+use Rattle.laws.proofs.Numbers.{numbers-injective}
+use Rattle.laws.proofs.Accept.{encode-done, encode-offsets}
+use Rattle.laws.proofs.Turned.{rows-many}
+use Rattle.station_c.specs.Offsets.{firstEights, Used, EncodedBytes}
+use Rattle.station_c.proofs.Enough.{encode-answer, encode-rows, encode-ends, decode-answer, decode-sheet}
 
 -- ---- the first k of m numbers are k
 pub part-long : (m k : ℕ) → k ≤ m → k ≡ length (take k (replicate {A = ℕ} m 0))
 part-long m k h = sym (length-take-le k (replicate {A = ℕ} m 0) (omega (arith, length-replicate {A = ℕ} m 0)))
 
--- ---- with the offsets that were read
-pub bytes-encoded : (list : List ℕ) (n : ℕ) (sheet rows offsets : List ℕ) (k : ℕ) (os os′ : List ℕ) (r : Answer) (rows′ offsets′ : List ℕ) → os ≡ firstEights k offsets
-    → Encoded list n sheet rows os r rows′ os′ → offsets′ ≡ over (eightBytes os′) offsets → EncodedBytes list n sheet rows offsets k r rows′ offsets′
-bytes-encoded list n sheet rows offsets k os os′ r rows′ offsets′ e h w =
-    let many : length os ≡ k = ap length e ∙ length-each 0 k (eightAt offsets) in
-    record {
-      answers = h .answers ∙ ap (encodeAnswer list n sheet (length rows)) many;
-      row-bytes = h .row-bytes ∙ ap (encodeRows list n sheet rows) many;
-      row-ends = w ∙ ap (λ (x : List ℕ). over (eightBytes x) offsets) (h .row-ends ∙ ap (encodeOffsets list n sheet (length rows)) e);
-    }
+-- ---- encode with offsets in bytes
+answer-refused : (m : Check) (a b : ℕ) (x : Refusal) → answer m a b ≡ Refused x → m ≡ Refuse x
+answer-refused Pass a b x e = absurd (let z : _≡_ {A = ℕ} 0 1 = cc in omega arith)
+answer-refused (Refuse y) a b x e = cc
 
+module _ (list : List ℕ) (n : ℕ) (sheet rows offsets numbers : List ℕ) (r : Answer) (rows′ numbers′ : List ℕ)
+    (h : Encoded list n sheet rows numbers r rows′ numbers′) where
+  abbrev ends : List ℕ
+  ends = endsFrom 0 (sheetRows n (columns list) sheet)
+
+  -- a refusal stores nothing
+  pub none-stored : (x : Refusal) → r ≡ Refused x → EncodedBytes list n sheet rows offsets (length numbers) r rows′ offsets
+  unfolding encodeAnswer
+  none-stored x e =
+      let refuses = answer-refused (encodeCheck list n sheet (length rows) (length numbers)) _ _ x (sym (numbers-injective _ _ (h .answers)) ∙ e) in
+      record { answers = h .answers; row-bytes = h .row-bytes; row-ends = rw refuses }
+
+  -- a success stores the ends: there is room for no more numbers
+  pub ends-stored : (x y : ℕ) → r ≡ Done x y → length numbers ≤ suc n → (offsets′ : List ℕ) → offsets′ ≡ over (eightBytes numbers′) offsets
+      → EncodedBytes list n sheet rows offsets (length numbers) r rows′ offsets′
+  ends-stored x y e most offsets′ w =
+      let passes = encode-done list n sheet (length rows) (length numbers) x y (sym (numbers-injective _ _ (h .answers)) ∙ e) .0 in
+      let many = rows-many n (columns list) (sheetSlots n (columns list) sheet) in
+      let short : length numbers ≤ length ends = omega (arith, length-ends 0 (sheetRows n (columns list) sheet), many) in
+      let all : numbers′ ≡ ends = h .row-ends ∙ encode-offsets list n sheet rows numbers passes ∙ rw (drop-of-length-le numbers short) (append-nil ends) in
+      record { answers = h .answers; row-bytes = h .row-bytes; row-ends = w ∙ rw (passes, all) refl }
+
+-- ---- decode with the offsets that were read
 pub bytes-decoded : (list : List ℕ) (n : ℕ) (rows offsets sheet : List ℕ) (k : ℕ) (os : List ℕ) (r : Answer) (sheet′ : List ℕ) → os ≡ firstEights k offsets
     → Decoded list n rows os sheet r sheet′ → Decoded list n rows (firstEights k offsets) sheet r sheet′
 bytes-decoded list n rows offsets sheet k os r sheet′ e h = subst (λ (x : List ℕ). Decoded list n rows x sheet r sheet′) e h
@@ -68,29 +97,32 @@ module _ (lent : List ℕ) (short : length lent < 24) where
 
 -- ---- one that can, and holds those of r
 module _ (lent lent′ : List ℕ) (r : Answer) (long : 24 ≤ length lent) (put : lent′ ≡ over (numberBytes (numbersOf r)) lent) where
-  long-answer : (a : Answer) → r ≡ a → lent′ ≡ answerBytes a lent
-  long-answer a e = rw (le-ltb (length lent) 24 long) (put ∙ ap (λ (x : Answer). over (numberBytes (numbersOf x)) lent) e)
+  long-answer : (a : Answer) → numbersOf r ≡ numbersOf a → lent′ ≡ answerBytes a lent
+  long-answer a e = rw (le-ltb (length lent) 24 long) (put ∙ ap (λ (x : Returned). over (numberBytes x) lent) e)
 
   long-new : (new′ new old : List ℕ) → new′ ≡ new → new′ ≡ unlessShort lent new old
   long-new new′ new old e = rw (le-ltb (length lent) 24 long) e
 
   pub list-long : (list : List ℕ) → ListChecked list r → LentListChecked list lent lent′
   unfolding lentCheckList
-  list-long list h = record { answers = long-answer _ (h .answers) }
+  list-long list h = record { answers = long-answer (checkListAnswer list) (h .answers) }
 
   pub measure-long : (list : List ℕ) (n : ℕ) (sheet : List ℕ) → Measured list n sheet r → LentMeasured list n sheet lent lent′
   unfolding lentMeasure
-  measure-long list n sheet h = record { answers = long-answer _ (h .answers) }
+  measure-long list n sheet h = record { answers = long-answer (measureAnswer list n sheet) (h .answers) }
 
-  pub encode-long : (list : List ℕ) (n : ℕ) (sheet rows offsets : List ℕ) (k m : ℕ) (rows′ offsets′ : List ℕ) → Bytes offsets → Used n (length offsets / 8) k → k ≡ m
-      → EncodedBytes list n sheet rows offsets m r rows′ offsets′ → LentEncoded list n sheet rows offsets lent rows′ offsets′ lent′
+  pub encode-long : (list : List ℕ) (n : ℕ) (sheet rows offsets : List ℕ) (k m : ℕ) (rows′ offsets′ : List ℕ) → Bytes offsets
+      → Used n (length offsets / 8) k → k ≡ m → EncodedBytes list n sheet rows offsets m r rows′ offsets′
+      → LentEncoded list n sheet rows offsets lent rows′ offsets′ lent′
   unfolding lentEncode lentEncodeRows lentEncodeOffsets
   encode-long list n sheet rows offsets k m rows′ offsets′ b u e h =
       let v : Used n (length offsets / 8) m = subst (Used n (length offsets / 8)) e u in
       record {
-        answers = long-answer _ (h .answers ∙ encode-answer list n sheet (length offsets / 8) m v (length rows));
+        answers =
+            long-answer (encodeAnswer list n sheet (length rows) (length offsets / 8))
+            (h .answers ∙ ap numbersOf (encode-answer list n sheet (length offsets / 8) m v (length rows)));
         row-bytes = long-new rows′ _ rows (h .row-bytes ∙ encode-rows list n sheet (length offsets / 8) m v rows);
-        row-ends = long-new offsets′ _ offsets (h .row-ends ∙ encode-offsets list n sheet (length rows) offsets m b v);
+        row-ends = long-new offsets′ _ offsets (h .row-ends ∙ encode-ends list n sheet (length rows) offsets m b v);
       }
 
   pub decode-long : (list : List ℕ) (n : ℕ) (rows offsets sheet : List ℕ) (k m : ℕ) (sheet′ : List ℕ) → Used n (length offsets / 8) k → k ≡ m
@@ -99,6 +131,8 @@ module _ (lent lent′ : List ℕ) (r : Answer) (long : 24 ≤ length lent) (put
   decode-long list n rows offsets sheet k m sheet′ u e h =
       let v : Used n (length offsets / 8) m = subst (Used n (length offsets / 8)) e u in
       record {
-        answers = long-answer _ (h .answers ∙ decode-answer list n rows offsets m v (length sheet));
+        answers =
+            long-answer (decodeAnswer list n rows (eights offsets) (length sheet))
+            (h .answers ∙ ap numbersOf (decode-answer list n rows offsets m v (length sheet)));
         bytes = long-new sheet′ _ sheet (h .bytes ∙ decode-sheet list n rows offsets m v sheet);
       }

@@ -1,4 +1,4 @@
 -- What the proofs of the C entries share.
-pub mod Eights
+pub mod NumberBytes
 pub mod Enough
 pub mod Entries

@@ -1,2 +1,3 @@
--- What the C entries use of the lent offsets.
+-- What the C entries use of the lent offsets, and which edition they are.
 pub mod Offsets
+pub mod Version

@@ -5,14 +5,13 @@ use crate::bytes::decode_bytes;
 use crate::bytes::encode_bytes;
 use crate::bytes::put_answer;
 use crate::bytes::used_offsets;
+use format::MAX_OFFSETS;
 
 mod bytes;
+mod version;
 
 // An answer is three numbers; one that cannot hold them, and no lent byte changes.
 const ANSWER_BYTES: usize = 24;
-
-// One more than there are rows: no batch uses more offsets.
-const MAX_OFFSETS: usize = 4097;
 
 // Checks a column list.
 #[no_mangle]

@@ -26,12 +26,14 @@ fn main() -> ExitCode {
     sweeps::kinds(&mut judge, &mut rng, !quick);
     sweeps::lengths(&mut judge, &mut rng);
     sweeps::tables(&mut judge, &mut rng, sheets);
+    sweeps::full(&mut judge, &mut rng);
     sweeps::ceiling(&mut judge, &mut rng);
     refusals::lists(&mut judge);
     refusals::rows(&mut judge, &mut rng);
     refusals::long_values(&mut judge);
     refusals::sheets(&mut judge, &mut rng);
     refusals::rooms(&mut judge, &mut rng);
+    refusals::empty(&mut judge);
     refusals::damaged(&mut judge, &mut rng, sheets);
 
     // Every answer of the entries, 0 to 24, must have come up.

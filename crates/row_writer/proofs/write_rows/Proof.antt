@@ -16,7 +16,7 @@ use Rattle.format.specs.Entries.{sheetRows}
 use Rattle.basics.proofs.Append.{Turns, turns-begin, turns-room, turns-end}
 use Rattle.basics.proofs.Bytes.{bytes-of}
 use Rattle.laws.proofs.Parts.{part-rest}
-use Rattle.laws.proofs.Places.{Stands}
+use Rattle.format.specs.Passed.{Stands}
 use Rattle.sheet_reader.specs.declared.sheet.Facts.{Facts}
 use Rattle.sheet_reader.specs.Sheets.{noFacts}
 use Rattle.row_writer.proofs.Fields.{slotIn, fieldAt, rowAt, rows-known, field-long, stands-passes}
@@ -134,7 +134,7 @@ loop2-again : tie.Need-loop2-again Inv-loop2 μ-loop2 Inv-loop μ-loop
 loop2-again c =
     let t = c .before .before .before .before .before .before in
     let e = rw (part-rest (entry t .args .sheet .now) (facts t .base)) at (c .before .before .put-field .ensures) in
-    piece-more _ _ _ _ _ _ _ (t .before .loop2 .inv) (below t) _ (long t) _ _ (e .place) (e .bytes)
+    piece-more _ _ _ _ _ _ _ (t .before .loop2 .inv) (below t) _ _ e
 
 loop-again : tie.Need-loop-again Inv-loop2 μ-loop2 Inv-loop μ-loop
 loop-again c =

@@ -9,23 +9,38 @@ returns : tie.Need-returns
 returns c = decode-short _ (c .if1 .taken) _ _ _ _ _
 
 slice-aggregate-decode-bytes : tie.Need-slice-aggregate-decode-bytes
-slice-aggregate-decode-bytes c = part-long 4097 _ (c .before .before .used-offsets .ensures .few)
+slice-aggregate-decode-bytes c =
+    let at-used-offsets = c .before .before in
+    part-long 4097 _ (at-used-offsets .used-offsets .ensures .few)
 
 decode-bytes-requires : tie.Need-decode-bytes-requires
 decode-bytes-requires c κs =
-    let used = c .before .before .used-offsets in
-    omega (arith, used .ensures .there, part-long 4097 (used .result) (used .ensures .few))
+    let at-used-offsets = c .before .before in
+    let used = at-used-offsets .used-offsets .ensures in
+    omega (arith, used .there, part-long 4097 (at-used-offsets .used-offsets .result) (used .few))
 
 returns-2 : tie.Need-returns-2
 returns-2 c =
-    let put = c .before .before in
-    let decoded = put .before .before .before .before .before in
-    let used = decoded .before .before .before in
-    let long = used .before in
-    let start = long .before .before .before .before .before .before in
-    decode-long (start .args .answer .now) _ (decoded .decode-bytes .result) (long .if1 .left) (put .put-answer .ensures)
-    (start .args .list .now) (start .args .n) (start .args .rows .now) (start .args .offsets .now) (start .args .sheet .now) (used .used-offsets .result) _ _
-    (used .used-offsets .ensures) (part-long 4097 _ (used .used-offsets .ensures .few)) (decoded .decode-bytes .ensures)
+    let at-put-answer = c .before .before in
+    let at-decode-bytes = at-put-answer .before .before .before .before .before in
+    let at-used-offsets = at-decode-bytes .before .before .before in
+    let at-long = at-used-offsets .before in
+    let args = at-long .before .before .before .before .before .before .args in
+    let used = at-used-offsets .used-offsets .ensures in
+    decode-long (args .answer .now) _ (at-decode-bytes .decode-bytes .result) (at-long .if1 .left) (at-put-answer .put-answer .ensures)
+    (args .list .now) (args .n) (args .rows .now) (args .offsets .now) (args .sheet .now) (at-used-offsets .used-offsets .result) _ _
+    used (part-long 4097 _ (used .few)) (at-decode-bytes .decode-bytes .ensures)
 
 pub station-decode-spec : {M : Type 1} → statement M
-station-decode-spec = tie.close (tie.spec returns (λ c κs. search needs) (λ c. search needs) slice-aggregate-decode-bytes decode-bytes-requires (λ c κs. search needs) (λ c. search needs) (λ c. search needs) returns-2)
+station-decode-spec =
+    tie.close
+    (tie.spec
+    returns
+    (λ c κs. search needs)
+    (λ c. search needs)
+    slice-aggregate-decode-bytes
+    decode-bytes-requires
+    (λ c κs. search needs)
+    (λ c. search needs)
+    (λ c. search needs)
+    returns-2)

@@ -9,4 +9,4 @@ pub decode-i16-spec : {M : Type 1} → statement M
 decode-i16-spec =
     tie.close
     (tie.spec (λ c κs. search needs) (λ c κs. search needs)
-    (λ c. decode-i w16 (c .before .before .args .x) _ _ (c .before .decode-u16 .ok) (c .before .decode-u16 .ensures) (c .signed16 .ensures)))
+    (λ c. decode-i w16 (c .before .before .args .x) _ _ (c .before .swap16 .ok) (c .before .swap16 .ensures) (c .signed16 .ensures)))

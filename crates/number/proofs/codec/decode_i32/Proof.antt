@@ -9,4 +9,4 @@ pub decode-i32-spec : {M : Type 1} → statement M
 decode-i32-spec =
     tie.close
     (tie.spec (λ c κs. search needs) (λ c κs. search needs)
-    (λ c. decode-i w32 (c .before .before .args .x) _ _ (c .before .decode-u32 .ok) (c .before .decode-u32 .ensures) (c .signed32 .ensures)))
+    (λ c. decode-i w32 (c .before .before .args .x) _ _ (c .before .swap32 .ok) (c .before .swap32 .ensures) (c .signed32 .ensures)))

@@ -9,4 +9,4 @@ pub decode-i64-spec : {M : Type 1} → statement M
 decode-i64-spec =
     tie.close
     (tie.spec (λ c κs. search needs) (λ c κs. search needs)
-    (λ c. decode-i w64 (c .before .before .args .x) _ _ (c .before .decode-u64 .ok) (c .before .decode-u64 .ensures) (c .signed64 .ensures)))
+    (λ c. decode-i w64 (c .before .before .args .x) _ _ (c .before .swap64 .ok) (c .before .swap64 .ensures) (c .signed64 .ensures)))

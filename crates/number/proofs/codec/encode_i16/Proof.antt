@@ -9,4 +9,4 @@ pub encode-i16-spec : {M : Type 1} → statement M
 encode-i16-spec =
     tie.close
     (tie.spec (λ c κs. search needs) (λ c κs. search needs)
-    (λ c. encode-i w16 (c .before .before .args .s) _ _ (c .before .before .fits .s) (c .before .pattern16 .ensures) (c .encode-u16 .ensures)))
+    (λ c. encode-i w16 (c .before .before .args .s) _ _ (c .before .before .fits .s) (c .before .pattern16 .ensures) (c .swap16 .ensures)))

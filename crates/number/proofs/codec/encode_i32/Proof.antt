@@ -9,4 +9,4 @@ pub encode-i32-spec : {M : Type 1} → statement M
 encode-i32-spec =
     tie.close
     (tie.spec (λ c κs. search needs) (λ c κs. search needs)
-    (λ c. encode-i w32 (c .before .before .args .s) _ _ (c .before .before .fits .s) (c .before .pattern32 .ensures) (c .encode-u32 .ensures)))
+    (λ c. encode-i w32 (c .before .before .args .s) _ _ (c .before .before .fits .s) (c .before .pattern32 .ensures) (c .swap32 .ensures)))

@@ -9,4 +9,4 @@ pub encode-i64-spec : {M : Type 1} → statement M
 encode-i64-spec =
     tie.close
     (tie.spec (λ c κs. search needs) (λ c κs. search needs)
-    (λ c. encode-i w64 (c .before .before .args .s) _ _ (c .before .before .fits .s) (c .before .pattern64 .ensures) (c .encode-u64 .ensures)))
+    (λ c. encode-i w64 (c .before .before .args .s) _ _ (c .before .before .fits .s) (c .before .pattern64 .ensures) (c .swap64 .ensures)))

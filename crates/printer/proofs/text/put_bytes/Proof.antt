@@ -19,25 +19,29 @@ loop-holds : tie.Need-loop-holds Inv-loop μ-loop
 loop-holds c = (omega arith, walk-first (c .args .text .now) (c .args .text .now) (c .args .out .now) (c .args .at) refl)
 
 add-out : tie.Need-add-out Inv-loop μ-loop
-add-out c = omega (arith, c .before .before .before .pre, c .before .before .before .good)
+add-out c = let at-start = c .before .before .before in omega (arith, at-start .pre, at-start .good)
 
 slice-write-out : tie.Need-slice-write-out Inv-loop μ-loop
-slice-write-out c = omega (arith, c .before .before .before .pre, c .before .before .loop .inv .1 .same)
+slice-write-out c = let at-loop = c .before .before in omega (arith, at-loop .before .pre, at-loop .loop .inv .1 .same)
 
 loop-again : tie.Need-loop-again Inv-loop μ-loop
 loop-again c =
-    let l = c .before .before in
-    let text = l .before .args .text .now in
-    (omega arith, walk-byte (l .before .args .at) (l .loop .i) _ (drop (l .loop .i + 1) text) (l .loop .inv .1) (bytes-step text (l .loop .i) (c .before .loop-test .taken)))
+    let at-loop = c .before .before in
+    let args = at-loop .before .args in
+    let text = args .text .now in
+    let i = at-loop .loop .i in
+    (omega arith, walk-byte (args .at) i _ (drop (i + 1) text) (at-loop .loop .inv .1) (bytes-step text i (c .before .loop-test .taken)))
 
 add-result : tie.Need-add-result Inv-loop μ-loop
-add-result c = omega (arith, c .before .before .pre, c .before .before .good)
+add-result c = let at-start = c .before .before in omega (arith, at-start .pre, at-start .good)
 
 same-length : tie.Need-same-length Inv-loop μ-loop
 same-length c = c .before .loop .inv .1 .same
 
 returns : tie.Need-returns Inv-loop μ-loop
-returns c = walk-wrote (c .before .loop .inv .1) (drop-of-length-le (c .before .before .args .text .now) {i = c .before .loop .i} (c .loop-test .left))
+returns c =
+    let at-loop = c .before in
+    walk-wrote (at-loop .loop .inv .1) (drop-of-length-le (at-loop .before .args .text .now) {i = at-loop .loop .i} (c .loop-test .left))
 
 pub put-bytes-spec : {M : Type 1} → statement M
 put-bytes-spec =

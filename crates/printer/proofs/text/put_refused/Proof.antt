@@ -1,6 +1,7 @@
 -- `printer::text::put_refused` meets its contract: the pieces follow one another, and none is longer than its room. Assumes nothing.
 use borrow.Author.Needs.{needs}
-use Prim.Native.Nat.{_+_, _≤_}
+use Prim.Native.Nat.{ℕ, _+_, _≤_}
+use mathlib.Core.List.{List}
 use native.Mathlib.Omega.{arith}
 use lib.ListN.{length}
 use Rattle.format.specs.declared.Returned.{Returned}
@@ -13,17 +14,26 @@ use Rattle.printer.proofs.text.put_refused.Tie as tie
 abbrev numbers : tie.After-put-bytes → Returned
 numbers c = c .before .before .before .refusal-numbers .result
 
--- after the word and the first number there is room for two more, after the second for one
-second : (c : tie.After-put-number) → c .put-number .result + 42 ≤ length (c .put-number .last .1 .1 .0)
-second c =
-    let first = c .before .before .before .before in
-    let w = first .put-bytes .ensures in
-    number-room (numbers first .0) 32 42 (c .put-number .ensures) (omega (arith, w .place, wrote-long w, first .before .before .before .before .before .pre))
+-- the buffer after the first number, and after the second
+abbrev one-put : tie.After-put-number → List ℕ
+one-put c = c .put-number .last .1 .1 .0
 
-third : (c : tie.After-put-number2) → c .put-number2 .result + 21 ≤ length (c .put-number2 .last .1 .1 .0)
+abbrev two-put : tie.After-put-number2 → List ℕ
+two-put c = c .put-number2 .last .1 .1 .0
+
+-- after the word and the first number there is room for two more, after the second for one
+second : (c : tie.After-put-number) → c .put-number .result + 42 ≤ length (one-put c)
+second c =
+    let at-word = c .before .before .before .before in
+    let word = at-word .put-bytes .ensures in
+    let at-start = at-word .before .before .before .before .before in
+    number-room (numbers at-word .0) 32 42 (c .put-number .ensures) (omega (arith, word .place, wrote-long word, at-start .pre))
+
+third : (c : tie.After-put-number2) → c .put-number2 .result + 21 ≤ length (two-put c)
 third c =
-    let s = c .before .before .before .before in
-    number-room (numbers (s .before .before .before .before) .1) 32 21 (c .put-number2 .ensures) (second s)
+    let at-first = c .before .before .before .before in
+    let at-word = at-first .before .before .before .before in
+    number-room (numbers at-word .1) 32 21 (c .put-number2 .ensures) (second at-first)
 
 put-number-requires-2 : tie.Need-put-number-requires-2
 put-number-requires-2 c κs = omega (arith, second (c .before .before .before))
@@ -33,11 +43,13 @@ put-number-requires-3 c κs = third (c .before .before .before)
 
 returns : tie.Need-returns
 returns c =
-    let t = c .before .before in
-    let s = t .before .before .before .before in
-    let f = s .before .before .before .before in
-    let w = f .before .before .before .before in
-    refused-wrote (numbers w) _ (w .before .before .before .refusal-numbers .ensures) (w .put-bytes .ensures) (f .put-number .ensures) (s .put-number2 .ensures) (t .put-number3 .ensures)
+    let at-third = c .before .before in
+    let at-second = at-third .before .before .before .before in
+    let at-first = at-second .before .before .before .before in
+    let at-word = at-first .before .before .before .before in
+    let at-numbers = at-word .before .before .before in
+    refused-wrote (numbers at-word) _ (at-numbers .refusal-numbers .ensures) (at-word .put-bytes .ensures) (at-first .put-number .ensures)
+    (at-second .put-number2 .ensures) (at-third .put-number3 .ensures)
 
 pub put-refused-spec : {M : Type 1} → statement M
 put-refused-spec =

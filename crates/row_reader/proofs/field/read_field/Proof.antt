@@ -26,9 +26,17 @@ read-field-spec =
     (λ c κs. search needs)
     (λ c κs. search needs)
     (λ c κs. search needs)
-    (λ c. let A = c .before .before .before .before .before .args in c .read-boolean .ensures ∙ told (A .row .now) (A .column .options) (c .before .enum-told .given .1))
-    (λ c. let A = c .before .before .before .before .before .args in c .read .ensures ∙ told (A .row .now) (A .column .options) (c .before .enum-told2 .given .1))
     (λ c.
-    let arm = c .before .before in
-    let A = arm .before .before .before .args in
-    wide-read (A .column .kind) (A .column .options) (A .row .now) (c .before .width .result) (c .read2 .result) (wide-arm (A .column .kind) (arm .match .keys3)) (c .before .width .ensures) (c .read2 .ensures)))
+    let arm = c .before in
+    let a = arm .before .before .before .before .args in
+    c .read-boolean .ensures ∙ told (a .row .now) (a .column .options) (arm .enum-told .given .1))
+    (λ c.
+    let arm = c .before in
+    let a = arm .before .before .before .before .args in
+    c .read .ensures ∙ told (a .row .now) (a .column .options) (arm .enum-told2 .given .1))
+    (λ c.
+    let sized = c .before in
+    let arm = sized .before in
+    let a = arm .before .before .before .args in
+    wide-read (a .column .kind) (a .column .options) (a .row .now) (sized .width .result) (c .read2 .result)
+    (wide-arm (a .column .kind) (arm .match .keys3)) (sized .width .ensures) (c .read2 .ensures)))

@@ -9,17 +9,19 @@ use Rattle.format.specs.declared.Kind.{Kind}
 use Rattle.format.specs.Kinds.{shape}
 use Rattle.format.specs.Limits.{maxRows, maxWidth}
 use Rattle.format.specs.Sheet.{Layout, layoutFor}
-use Rattle.laws.proofs.Room.{frame}
+use Rattle.format.specs.Cleared.{frame}
 use Rattle.basics.proofs.Sorts.{wide-arm, wide-layout}
 use Rattle.row_reader.proofs.room.frame_bytes.Statement.{statement}
 use Rattle.row_reader.proofs.room.frame_bytes.Tie as tie
 
 -- no more value bytes than the ceilings allow
-product : (c : tie.After-width) → c .before .before .args .n * c .width .result ≤ maxRows * maxWidth
-product c = mul-le-mul {n₂ = maxRows} {m₂ = maxWidth} (c .before .before .pre .0) (omega (arith, c .width .ensures, c .before .before .pre .1))
+product : (c : tie.After-width) → c .before .before .before .args .n * c .width .result ≤ maxRows * maxWidth
+product c =
+    let at-start = c .before .before .before in
+    mul-le-mul {n₂ = maxRows} {m₂ = maxWidth} (at-start .pre .0) (omega (arith, c .width .ensures, at-start .pre .1))
 
-add-packed : tie.Need-add-packed
-add-packed c = search needs
+packed-requires : tie.Need-packed-requires
+packed-requires c κs = search needs
 
 enum-told : tie.Need-enum-told
 enum-told c = search needs
@@ -50,17 +52,17 @@ add-result-4 c = omega (arith, product c)
 
 returns : tie.Need-returns
 returns c =
-    let A = c .before .before .args in
+    let A = c .before .before .before .args in
     (omega (arith, ap (λ (k : Kind). frame (layoutFor (shape k)) (A .n)) (c .enum-told .given .1)), omega arith)
 
 returns-2 : tie.Need-returns-2
 returns-2 c =
-    let A = c .before .before .args in
+    let A = c .before .before .before .args in
     (omega (arith, ap (λ (k : Kind). frame (layoutFor (shape k)) (A .n)) (c .enum-told2 .given .1)), omega arith)
 
 returns-3 : tie.Need-returns-3
 returns-3 c =
-    let A = c .before .before .args in
+    let A = c .before .before .before .args in
     let is : layoutFor (shape (A .kind)) ≡ _ = wide-layout (wide-arm (A .kind) (c .before .match .keys3)) in
     (omega (arith, ap (λ (k : ℕ). A .n * k) (c .width .ensures), ap (λ (ly : Layout). frame ly (A .n)) is), omega (arith, product c))
 
@@ -68,7 +70,7 @@ pub frame-bytes-spec : {M : Type 1} → statement M
 frame-bytes-spec =
     tie.close
     (tie.spec
-    add-packed
+    packed-requires
     enum-told
     add-result
     enum-told-2

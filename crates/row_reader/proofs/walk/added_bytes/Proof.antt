@@ -4,7 +4,7 @@ use mathlib.Core.Path.{ap, sym, _∙_}
 use Rattle.format.specs.declared.Kind.{Kind}
 use Rattle.format.specs.Kinds.{shape}
 use Rattle.format.specs.Sheet.{layoutFor}
-use Rattle.laws.proofs.Room.{added}
+use Rattle.format.specs.Cleared.{added}
 use Rattle.row_reader.proofs.Arms.{adds-nothing}
 use Rattle.row_reader.proofs.walk.added_bytes.Statement.{statement}
 use Rattle.row_reader.proofs.walk.added_bytes.Tie as tie

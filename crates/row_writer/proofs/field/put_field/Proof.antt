@@ -45,16 +45,19 @@ bit-requires c κs = omega (arith, there (c .before .before), c .before .before 
 
 put-value-requires : tie.Need-put-value-requires
 put-value-requires c κs =
-    let t = c .before .before in
+    let at-packed = c .before .before in
+    let t = at-packed .before in
     let s = entry (t .before) in
-    rw (part-rest (s .args .part .now) (packed (s .args .n)))
+    rw (at-packed .packed .ensures .0, part-rest (s .args .part .now) (packed (s .args .n)))
     (s .pre .0, (values-pass (layout (s .args .column)) (s .args .n) (s .args .part .now) (s .pre .1 .0), rw (valid t) at (s .pre .1 .1)))
 
 returns : tie.Need-returns
 returns c =
-    let t = c .before .before .before .before .before in
+    let at-value = c .before .before in
+    let at-packed = at-value .before .before .before in
+    let t = at-packed .before in
     let a = entry (t .before) .args in
-    rw (valid t, ← part-rest (a .part .now) (packed (a .n))) (c .before .before .put-value .ensures)
+    rw (valid t, ← part-rest (a .part .now) (packed (a .n)), ← at-packed .packed .ensures .0) (at-value .put-value .ensures)
 
 put-null-requires : tie.Need-put-null-requires
 put-null-requires c κs = rw (null (c .before)) at (entry (c .before .before) .pre .1 .1)
@@ -67,9 +70,9 @@ put-field-spec =
     tie.close
     (tie.spec
     bit-requires
-    (λ c. search needs)
-    (λ c. omega (arith, there (entry (c .before))))
-    (λ c. omega (arith, there (entry (c .before))))
+    (λ c κs. search needs)
+    (λ c. let t = c .before in omega (arith, there (entry (t .before)), c .packed .ensures .0))
+    (λ c. let t = c .before in omega (arith, there (entry (t .before)), c .packed .ensures .0))
     (λ c. search needs)
     put-value-requires
     (λ c. search needs)

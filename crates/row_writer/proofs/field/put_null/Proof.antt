@@ -18,16 +18,13 @@ encode-null-requires-2 c κs =
     omega (arith, null-arm (a .column .kind) (a .column .options) (c .before .before .match .keys2) .0)
 
 returns : tie.Need-returns
-returns c =
-    let e = c .before .before .encode-null .ensures in
-    rw (c .before .before .before .before .enum-told .given .1) (record { place = e .0; bytes = e .1 })
+returns c = rw (c .before .before .before .before .enum-told .given .1) (c .before .before .encode-null .ensures)
 
 returns-2 : tie.Need-returns-2
 returns-2 c =
     let a = c .before .before .before .before .before .before .before .before .args in
-    let e = c .before .before .encode-null2 .ensures in
     put-none (a .column .options) (a .at) _ (a .rows .now) _ (a .column .kind) _ (c .before .before .before .before .before .match .keys2)
-    (c .before .before .before .width .ensures) (e .0) (e .1)
+    (c .before .before .before .width .ensures) (c .before .before .encode-null2 .ensures)
 
 pub put-null-spec : {M : Type 1} → statement M
 put-null-spec =

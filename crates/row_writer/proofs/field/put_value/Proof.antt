@@ -58,16 +58,15 @@ returns c =
 returns-2 : tie.Need-returns-2
 returns-2 c =
     let s = c .before .before .before .before .before .before .before .before .before .before .before in
-    let e = c .before .before .encode-boolean .ensures in
     bool-promised (s .args .column .options) (s .args .at) _ (s .args .rows .now) _ (s .args .n) (s .args .r) (s .args .values .now) _
-    (c .before .before .before .before .before .enum-told2 .given .1) (c .before .before .before .bit .ensures) (e .0) (e .1)
+    (c .before .before .before .before .before .enum-told2 .given .1) (c .before .before .before .bit .ensures) (c .before .before .encode-boolean .ensures)
 
 returns-3 : tie.Need-returns-3
 returns-3 c =
     let m = c .before .before .before .before in
     let s = entry m in
-    let e = c .before .before .encode .ensures in
-    wide-promised (s .args .column .options) (s .args .at) _ (s .args .rows .now) _ (s .args .n) (s .args .r) (s .args .values .now) (fixed-wide m) (e .0) (e .1)
+    wide-promised (s .args .column .options) (s .args .at) _ (s .args .rows .now) _ (s .args .n) (s .args .r) (s .args .values .now) (fixed-wide m)
+    (c .before .before .encode .ensures)
 
 pub put-value-spec : {M : Type 1} → statement M
 put-value-spec =

@@ -6,12 +6,12 @@ use Rattle.row_writer.proofs.field.put_variable.Statement.{statement}
 use Rattle.row_writer.proofs.field.put_variable.Tie as tie
 
 -- what was known at the entry
-abbrev entry : tie.After-low322 → tie.Start
+abbrev entry : tie.After-end-at2 → tie.Start
 entry c = c .before .before .before .before
 
 -- where both ends are read
-found : (c : tie.After-low322) → Between (entry c .args .n) (entry c .args .values .now) (entry c .args .r) (c .before .low32 .result) (c .low322 .result)
-found c = between _ _ _ _ _ (entry c .pre .1 .0) (entry c .pre .0 .1) (c .before .low32 .ensures) (c .low322 .ensures)
+found : (c : tie.After-end-at2) → Between (entry c .args .n) (entry c .args .values .now) (entry c .args .r) (c .before .end-at .result) (c .end-at2 .result)
+found c = between _ _ _ _ _ (entry c .pre .1 .0) (entry c .pre .0 .1) (c .before .end-at .ensures .0) (c .end-at2 .ensures .0)
 
 encode-one-requires : tie.Need-encode-one-requires
 encode-one-requires c κs =
@@ -21,8 +21,7 @@ encode-one-requires c κs =
 returns : tie.Need-returns
 returns c =
     let b = found (c .before .before .before .before .before) in
-    let e = c .before .before .encode-one .ensures in
-    rw (← b .value) (record { place = e .0; bytes = e .1 })
+    rw (← b .value) (c .before .before .encode-one .ensures)
 
 pub put-variable-spec : {M : Type 1} → statement M
 put-variable-spec =
@@ -30,14 +29,10 @@ put-variable-spec =
     (tie.spec
     (λ c. search needs)
     (λ c. search needs)
-    (λ c. search needs)
     (λ c κs. search needs)
     (λ c. search needs)
     (λ c. search needs)
-    (λ c. search needs)
-    (λ c. search needs)
     (λ c κs. search needs)
-    (λ c. search needs)
     (λ c. search needs)
     (λ c. found (c .before) .starts)
     (λ c. found (c .before) .starts)

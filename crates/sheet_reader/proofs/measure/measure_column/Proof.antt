@@ -14,9 +14,10 @@ use Rattle.format.specs.declared.Kind.the-variants.{Variable}
 use Rattle.format.specs.declared.Column.{Column}
 use Rattle.format.specs.Limits.{maxRows, maxWidth}
 use Rattle.format.specs.Kinds.{valueBytes}
-use Rattle.format.specs.Sheet.{ended, layout, slotAt}
-use Rattle.laws.proofs.Totals.{columnTotal}
-use Rattle.sheet_reader.specs.Measures.{Passed, variableTotal}
+use Rattle.format.specs.Sheet.{columnFault, ended, layout, slotAt}
+use Rattle.format.specs.Entries.{columnTotal}
+use Rattle.format.specs.Passed.{Passes}
+use Rattle.sheet_reader.specs.Measures.{variableTotal}
 use Rattle.basics.proofs.Sorts.{fixedKeys}
 use Rattle.sheet_reader.proofs.Arms.{field-arm}
 use Rattle.sheet_reader.proofs.Measures.{sum-same}
@@ -25,7 +26,7 @@ use Rattle.sheet_reader.proofs.measure.measure_column.Tie as tie
 
 -- ---- variable bytes
 module _ (col : Column) (n : ℕ) (s : List ℕ) (e : col .kind ≡ Variable) where
-  asked : Passed (layout col) n s → Passed ended n s
+  asked : Passes (λ c. columnFault (layout col) n c s) → Passes (λ c. columnFault ended n c s)
   asked p = rw e at p
 
   added : variableTotal n s ≡ columnTotal col n s

@@ -4,11 +4,11 @@ use Prim.Native.Nat.{_-_, _*_, _≤_}
 use native.Mathlib.Omega.{arith}
 use Rattle.basics.proofs.Bytes.{bytes-of}
 use Rattle.basics.proofs.Lists.{Adding, adding-begin, adding-more, adding-most, adding-end}
-use Rattle.laws.proofs.Totals.{maxField}
 use Rattle.sheet_reader.specs.Measures.{variableLength, variableTotal}
 use Rattle.sheet_reader.proofs.Measures.{variable-most}
 use Rattle.sheet_reader.proofs.measure.measure_variable.Statement.{statement}
 use Rattle.sheet_reader.proofs.measure.measure_variable.Tie as tie
+use Rattle.format.specs.Field.{maxField}
 
 abbrev Inv-loop : tie.InvT-loop
 Inv-loop part n total₀ row₀ total row = Adding (variableLength n part) n row total

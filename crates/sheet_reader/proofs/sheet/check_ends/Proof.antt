@@ -17,18 +17,21 @@ loop-holds c = start _ _ _ _ (c .end-at .ensures .0)
 
 returns : tie.Need-returns Inv-loop μ-loop
 returns c =
-    let t = c .before .before in
-    falls _ _ _ _ _ _ (t .before .loop .inv) (t .loop-test .taken) (c .before .end-at2 .ensures .0) (c .if1 .taken)
+    let read = c .before in
+    let t = read .before in
+    falls _ _ _ _ _ _ (t .before .loop .inv) (t .loop-test .taken) (read .end-at2 .ensures .0) (c .if1 .taken)
 
 returns-2 : tie.Need-returns-2 Inv-loop μ-loop
 returns-2 c =
-    let t = c .before .before .before in
-    long _ _ _ _ _ _ (t .before .loop .inv) (t .loop-test .taken) (c .before .before .end-at2 .ensures .0) (c .before .if1 .left) (c .if2 .taken)
+    let read = c .before .before in
+    let t = read .before in
+    long _ _ _ _ _ _ (t .before .loop .inv) (t .loop-test .taken) (read .end-at2 .ensures .0) (c .before .if1 .left) (omega (arith, c .if2 .taken))
 
 loop-again : tie.Need-loop-again Inv-loop μ-loop
 loop-again c =
-    let t = c .before .before .before in
-    more _ _ _ _ _ _ (t .before .loop .inv) (t .loop-test .taken) (c .before .before .end-at2 .ensures .0) (c .before .if1 .left) (c .if2 .left)
+    let read = c .before .before in
+    let t = read .before in
+    more _ _ _ _ _ _ (t .before .loop .inv) (t .loop-test .taken) (read .end-at2 .ensures .0) (c .before .if1 .left) (omega (arith, c .if2 .left))
 
 returns-3 : tie.Need-returns-3 Inv-loop μ-loop
 returns-3 c = done _ _ _ _ _ (c .before .loop .inv) (c .loop-test .left)

@@ -5,138 +5,183 @@ use Prim.Native.Nat.{ℕ, _-_, _<_, _≤_}
 use mathlib.Core.Path.{_≡_, sym, ap, _∙_}
 use mathlib.Core.List.{List}
 use native.Mathlib.Omega.{arith}
-use lib.ListN.{length, getD, take, drop, length-map, length-drop}
-use lib.Seq.{length-take-le, getD-take}
+use lib.ListN.{length, getD, take, drop, length-drop}
+use lib.Seq.{getD-take}
 use Rattle.format.specs.declared.Column.{Column}
 use Rattle.format.specs.declared.Check.{Check}
 use Rattle.format.specs.declared.Check.the-variants.{Pass}
-use Rattle.format.specs.Limits.{maxColumns, maxWidth}
+use Rattle.format.specs.Limits.{maxRows, maxWidth}
 use Rattle.format.specs.Kinds.{valueBytes}
 use Rattle.format.specs.Sheet.{layout, columnFault, columnBytes, columnSlots, nullsIn}
 use Rattle.bits.proofs.Nulls.{bits-passed}
+use Rattle.laws.proofs.InUse.{in-use}
 use Rattle.laws.proofs.Parts.{part-rest}
 use Rattle.laws.proofs.Sheets.{column-passed, column-room}
-use Rattle.format.specs.Schemas.{noColumn}
+use Rattle.format.specs.Schemas.{Limited, colsOf, noColumn}
 use Rattle.sheet_reader.proofs.SheetTurns.{Turn, start, bad, more, after, good}
 use Rattle.sheet_reader.proofs.sheet.check_sheet.Statement.{statement}
 use Rattle.sheet_reader.proofs.sheet.check_sheet.Tie as tie
 
 abbrev Inv-loop : tie.InvT-loop
-Inv-loop n sheet count columns facts₀ nulls₀ at₀ c₀ facts nulls at c =
-    Turn n (take count columns) sheet facts nulls at c × (length (take count columns) ≡ count)
+Inv-loop n sheet count columns facts₀ nulls₀ at₀ c₀ facts nulls at c = Turn n (take count columns) sheet facts nulls at c
 
 abbrev μ-loop : tie.MeasureT-loop
 μ-loop n sheet count columns facts₀ nulls₀ at₀ c₀ facts nulls at c = count - c
 
--- the array has room for every column
-sixteen : (c : tie.Start Inv-loop μ-loop) → length (c .args .schema .columns) ≡ maxColumns
-sixteen c = sym (length-map (c .args .schema .columns) _) ∙ c .good .0 .1 .1 .0 .1 .0 .1
+-- ---- at the entry
+
+abbrev Start : Type 0
+Start = tie.Start Inv-loop μ-loop
+
+abbrev n : Start → ℕ
+n s = s .args .n
+
+abbrev sheet : Start → List ℕ
+sheet s = s .args .sheet .now
+
+abbrev cols : Start → List Column
+cols s = colsOf (s .args .schema)
+
+few : (s : Start) → n s ≤ maxRows
+few s = s .pre .0
+
+limited : (s : Start) → Limited (s .args .schema)
+limited s = s .pre .1
+
+-- as many columns are in use as the schema counts
+full : (s : Start) → length (cols s) ≡ s .args .schema .count
+full s = let held = s .good .0 in in-use (s .args .schema) held (limited s .few)
 
 loop-holds : tie.Need-loop-holds Inv-loop μ-loop
-loop-holds c = (start _ _ _ _, length-take-le _ _ (omega (arith, sixteen (c .before .before .before))))
+loop-holds c = start _ _ _ _
 
--- ---- in a turn: the rows, the sheet, the columns; which one it is, and the part that is left
-abbrev Turned : Type 0
-Turned = tie.In-loop Inv-loop μ-loop
+-- ---- in a turn: which column it is, and the part that is left
 
-abbrev rows : Turned → ℕ
-rows y = y .before .before .before .before .before .args .n
+abbrev At-loop : Type 0
+At-loop = tie.At-loop Inv-loop μ-loop
 
-abbrev sheet : Turned → List ℕ
-sheet y = y .before .before .before .before .before .args .sheet .now
+abbrev entry : At-loop → Start
+entry c = c .before .before .before .before
 
-abbrev array : Turned → List Column
-array y = y .before .before .before .before .before .args .schema .columns
+module _ (c : tie.In-loop Inv-loop μ-loop) where
+  abbrev at-loop : At-loop
+  at-loop = c .before
 
-abbrev cols : Turned → List Column
-cols y = take (y .before .before .before .before .before .args .schema .count) (array y)
+  abbrev s : Start
+  s = entry at-loop
 
-abbrev index : Turned → ℕ
-index y = y .before .loop .c
+  abbrev index : ℕ
+  index = at-loop .loop .c
 
-abbrev column : Turned → Column
-column y = getD (array y) (index y) noColumn
+  abbrev column : Column
+  column = getD (s .args .schema .columns) index noColumn
 
-abbrev part : Turned → List ℕ
-part y = drop (y .before .loop .at) (sheet y)
+  abbrev part : List ℕ
+  part = drop (at-loop .loop .at) (sheet s)
 
-there : (y : Turned) → index y < length (cols y)
-there y = omega (arith, y .before .loop .inv .1)
+  there : index < length (cols s)
+  there = omega (arith, full s, c .loop-test .taken)
 
-is : (y : Turned) → column y ≡ getD (cols y) (index y) noColumn
-is y = sym (getD-take (y .before .before .before .before .before .args .schema .count) (array y) (index y) noColumn (y .loop-test .taken))
+  is : column ≡ getD (cols s) index noColumn
+  is = sym (getD-take (s .args .schema .count) (s .args .schema .columns) index noColumn (c .loop-test .taken))
 
-narrow : (y : Turned) → valueBytes (column y .kind) ≤ maxWidth
-narrow y = y .before .before .before .before .before .pre .1 .narrow (index y) (y .loop-test .taken)
+  narrow : valueBytes (column .kind) ≤ maxWidth
+  narrow = limited s .narrow index (c .loop-test .taken)
 
-rest : (y : Turned) → take (length (sheet y) - y .before .loop .at) (part y) ≡ part y
-rest y = part-rest (sheet y) (y .before .loop .at)
+  rest : take (length (sheet s) - at-loop .loop .at) part ≡ part
+  rest = part-rest (sheet s) (at-loop .loop .at)
 
--- what is wrong with the column, and the bytes that it takes
-abbrev fault : Turned → Check
-fault y = columnFault (layout (column y)) (rows y) (index y) (part y)
+  -- what is wrong with the column, and the bytes that it takes
+  abbrev fault : Check
+  fault = columnFault (layout column) (n s) index part
 
-abbrev bytes : Turned → ℕ
-bytes y = columnBytes (layout (column y)) (rows y) (part y)
+  abbrev bytes : ℕ
+  bytes = columnBytes (layout column) (n s) part
 
-room : (y : Turned) → fault y ≡ Pass → bytes y ≤ length (part y)
-room y = column-room (layout (column y)) (rows y) (index y) (part y)
+  room : fault ≡ Pass → bytes ≤ length part
+  room = column-room (layout column) (n s) index part
 
--- ---- the calls of a turn
 check-column-requires : tie.Need-check-column-requires Inv-loop μ-loop
-check-column-requires c κs = (c .before .before .before .before .before .before .before .pre .0, narrow (c .before .before))
+check-column-requires c κs =
+    let turn = c .before .before in
+    (few (s turn), narrow turn)
 
-said : (x : tie.After-check-column Inv-loop μ-loop) → x .check-column .result ≡ fault (x .before .before .before)
-said x = x .check-column .ensures ∙ rw (rest (x .before .before .before))
+-- ---- the column is checked
 
-passes : (z : tie.After-enum-told Inv-loop μ-loop) → fault (z .before .before .before .before .before) ≡ Pass
-passes z = sym (said (z .before .before)) ∙ z .enum-told .given .1
+abbrev Checked : Type 0
+Checked = tie.After-check-column Inv-loop μ-loop
+
+abbrev turn : Checked → tie.In-loop Inv-loop μ-loop
+turn c = c .before .before .before
+
+said : (c : Checked) → c .check-column .result ≡ fault (turn c)
+said c = c .check-column .ensures ∙ rw (rest (turn c))
 
 returns : tie.Need-returns Inv-loop μ-loop
 returns c =
-    let x = c .before .before .before .before in
-    let y = x .before .before .before in
-    bad _ _ _ _ _ _ _ (y .before .loop .inv .0) (column y) (there y) (is y) _ _ (sym (said x) ∙ c .before .before .check .given .1) (c .found .ensures .0)
+    let told = c .before .before in
+    let checked = told .before .before in
+    let t = turn checked in
+    let refused = sym (said checked) ∙ told .check .given .1 in
+    bad _ _ _ _ _ _ _ (at-loop t .loop .inv) (column t) (there t) (is t) _ _ refused (c .found .ensures .0)
+
+-- ---- it passes
+
+abbrev Passed : Type 0
+Passed = tie.After-enum-told Inv-loop μ-loop
+
+abbrev passed-turn : Passed → tie.In-loop Inv-loop μ-loop
+passed-turn c = turn (c .before .before)
+
+passes : (c : Passed) → fault (passed-turn c) ≡ Pass
+passes c = sym (said (c .before .before)) ∙ c .enum-told .given .1
 
 column-bytes-requires : tie.Need-column-bytes-requires Inv-loop μ-loop
 column-bytes-requires c κs =
-    let y = c .before .before .before .before .before in
-    rw (rest y) (y .before .before .before .before .before .pre .0, room y (passes c))
+    let t = passed-turn c in
+    rw (rest t) (few (s t), room t (passes c))
 
-wide : (w : tie.After-column-bytes Inv-loop μ-loop) → w .column-bytes .result ≡ bytes (w .before .before .before .before .before .before)
-wide w = w .column-bytes .ensures ∙ rw (rest (w .before .before .before .before .before .before))
+wide : (c : tie.After-column-bytes Inv-loop μ-loop) → c .column-bytes .result ≡ bytes (passed-turn (c .before))
+wide c = c .column-bytes .ensures ∙ rw (rest (passed-turn (c .before)))
 
 add-next : tie.Need-add-next Inv-loop μ-loop
 add-next c =
-    let y = c .before .before .before .before .before .before in
-    omega (arith, wide c, room y (passes (c .before)), length-drop (y .before .loop .at) (sheet y))
+    let t = passed-turn (c .before) in
+    omega (arith, wide c, room t (passes (c .before)), length-drop (at-loop t .loop .at) (sheet (s t)))
 
 null-rows-requires : tie.Need-null-rows-requires Inv-loop μ-loop
 null-rows-requires c κs =
-    let y = c .before .before .before .before .before .before in
-    let valid = column-passed (layout (column y)) (rows y) (index y) (part y) (passes (c .before)) .0 in
-    rw (rest y) (y .before .before .before .before .before .pre .0, bits-passed (rows y) (index y) (part y) valid)
+    let passed = c .before in
+    let t = passed-turn passed in
+    let valid = column-passed (layout (column t)) (n (s t)) (index t) (part t) (passes passed) .0 in
+    rw (rest t) (few (s t), bits-passed (n (s t)) (index t) (part t) valid)
 
 -- ---- the end of a turn
+
 loop-again : tie.Need-loop-again Inv-loop μ-loop
 loop-again c =
-    let y = c .before .before .before .before .before .before .before in
-    let null = c .null-rows .ensures .0 (layout (column y)) ∙ ap (λ (s : List ℕ). nullsIn (columnSlots (layout (column y)) (rows y) s)) (rest y) in (
-      more _ _ _ _ _ _ _ (y .before .loop .inv .0) (column y) (there y) (is y) (passes (c .before .before)) _ _ null (c .null-rows .ensures .1)
-          (y .before .before .before .before .before .pre .0) (wide (c .before)) (omega arith),
-      y .before .loop .inv .1,
-    )
+    let sized = c .before in
+    let passed = sized .before in
+    let t = passed-turn passed in
+    let counted = c .null-rows .ensures in
+    let null = counted .0 (layout (column t)) ∙ ap (λ (s′ : List ℕ). nullsIn (columnSlots (layout (column t)) (n (s t)) s′)) (rest t) in
+    more _ _ _ _ _ _ _ (at-loop t .loop .inv) (column t) (there t) (is t) (passes passed) _ _ null (counted .1) (few (s t)) (wide sized) (omega arith)
+
+-- ---- after the last column
+
+past : (c : tie.After-loop Inv-loop μ-loop) → length (cols (entry (c .before))) ≤ c .before .loop .c
+past c = omega (arith, full (entry (c .before)), c .loop-test .left)
 
 returns-2 : tie.Need-returns-2 Inv-loop μ-loop
 returns-2 c =
-    let t = c .before .before .before .loop in
-    after _ _ _ _ _ _ _ (t .inv .0) (omega (arith, t .inv .1)) _ (c .before .if1 .taken) (c .found2 .ensures .0)
+    let ended = c .before .before in
+    after _ _ _ _ _ _ _ (ended .before .loop .inv) (past ended) _ (c .before .if1 .taken) (c .found2 .ensures .0)
 
 returns-3 : tie.Need-returns-3 Inv-loop μ-loop
 returns-3 c =
-    let t = c .before .before .before .loop in
+    let ended = c .before .before in
     let r = c .found3 .ensures in
-    good _ _ _ _ _ _ _ (t .inv .0) (omega (arith, t .inv .1)) _ (c .before .if1 .left) (r .0) (r .1) (r .2)
+    good _ _ _ _ _ _ _ (ended .before .loop .inv) (past ended) _ (c .before .if1 .left) (r .0) (r .1) (r .2)
 
 pub check-sheet-spec : {M : Type 1} → statement M
 check-sheet-spec =

@@ -45,21 +45,32 @@ enum-known-field c = search needs
 enum-told-2 : tie.Need-enum-told-2
 enum-told-2 c = search needs
 
+-- ---- the arms
+
+abbrev start : tie.After-read → tie.Start
+start c = c .before .before
+
+abbrev field : tie.After-read → Parsed Slot
+field c = readVariable maxSlot (start c .args .options) (start c .args .row .now)
+
 returns : tie.Need-returns
 returns c =
-    let a = c .before .before .before .before .args in
-    (told (a .row .now) (readVariable maxSlot (a .options) (a .row .now)) (c .before .before .read .ensures) (c .enum-told .given .1), omega arith)
+    let read = c .before .before in
+    (told (start read .args .row .now) (field read) (read .read .ensures) (c .enum-told .given .1), omega arith)
 
 returns-2 : tie.Need-returns-2
 returns-2 c =
-    let a = c .before .before .before .before .before .args in
-    let e = told (a .row .now) (readVariable maxSlot (a .options) (a .row .now)) (c .before .before .before .read .ensures) (c .before .field .given .1) in
-    (e, omega (arith, e, variable-short (a .options) (a .row .now) (bytes-of (a .row .now) (λ i. c .before .before .before .before .shared-slice-known .given i .fits))))
+    let arm = c .before in
+    let read = arm .before .before in
+    let a = start read .args in
+    let e = told (a .row .now) (field read) (read .read .ensures) (arm .field .given .1) in
+    let bytes = bytes-of (a .row .now) (λ i. read .before .shared-slice-known .given i .fits) in
+    (e, omega (arith, e, variable-short (a .options) (a .row .now) bytes))
 
 returns-3 : tie.Need-returns-3
 returns-3 c =
-    let a = c .before .before .before .before .args in
-    (told (a .row .now) (readVariable maxSlot (a .options) (a .row .now)) (c .before .before .read .ensures) (c .enum-told2 .given .1), omega arith)
+    let read = c .before .before in
+    (told (start read .args .row .now) (field read) (read .read .ensures) (c .enum-told2 .given .1), omega arith)
 
 pub value-length-spec : {M : Type 1} → statement M
 value-length-spec =

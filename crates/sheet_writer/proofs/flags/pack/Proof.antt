@@ -1,19 +1,48 @@
 -- `sheet_writer::flags::pack` meets its contract. The invariant: the flags before `base` are packed. Assumes nothing.
 use borrow.Author.Needs.{needs}
-use Prim.Native.Nat.{_+_, _-_, _<_, _≤_}
+use Prim.Native.Nat.{ℕ, _+_, _-_, _<_, _≤_}
 use native.Mathlib.Omega.{arith}
 use lib.ListN.{length, drop, length-take}
 use Rattle.sheet_writer.specs.Cursors.{flagAt}
 use Rattle.sheet_writer.proofs.Lead.{readable-part}
-use Rattle.sheet_writer.proofs.Eights.{Packing, pack-start, size-small, pack-room, pack-more, pack-end}
+use Rattle.sheet_writer.proofs.Packing.{Packing, pack-start, size-small, pack-room, pack-more, pack-end}
 use Rattle.sheet_writer.proofs.flags.pack.Statement.{statement}
 use Rattle.sheet_writer.proofs.flags.pack.Tie as tie
 
 abbrev Inv-loop : tie.InvT-loop
-Inv-loop rows cursors column which sheet₀ at n place₀ base₀ sheet place base = Packing (flagAt which column rows) cursors sheet₀ at sheet place base
+Inv-loop rows cursors column which sheet₀ at n place₀ base₀ sheet place base =
+    Packing (flagAt which column rows) cursors sheet₀ at sheet place base
 
 abbrev μ-loop : tie.MeasureT-loop
 μ-loop rows cursors column which sheet₀ at n place₀ base₀ sheet place base = length cursors - base
+
+-- ---- in a turn
+
+abbrev Turn : Type 0
+Turn = tie.In-loop Inv-loop μ-loop
+
+abbrev at-loop : Turn → tie.At-loop Inv-loop μ-loop
+at-loop c = c .before
+
+abbrev start : Turn → tie.Start Inv-loop μ-loop
+start c = at-loop c .before .before .before .before
+
+-- how many rows go into the next byte
+abbrev Sized : Type 0
+Sized = tie.After-in-byte Inv-loop μ-loop
+
+abbrev turn : Sized → Turn
+turn c = c .before
+
+abbrev base : Sized → ℕ
+base c = at-loop (turn c) .loop .base
+
+abbrev size : Sized → ℕ
+size c = c .in-byte .result
+
+-- some, eight at most, which are there
+small : (c : Sized) → (0 < size c) × (size c ≤ 8) × (base c + size c ≤ length (start (turn c) .args .cursors .now))
+small c = size-small (at-loop (turn c) .loop .inv) (turn c .loop-test .taken) (size c) (c .in-byte .ensures)
 
 loop-holds : tie.Need-loop-holds Inv-loop μ-loop
 loop-holds c = let a = c .before .before .before .args in pack-start (flagAt (a .which) (a .column) (a .rows .now)) (a .cursors .now) _ _
@@ -23,13 +52,6 @@ sub-in-byte c = omega arith
 
 in-byte-requires : tie.Need-in-byte-requires Inv-loop μ-loop
 in-byte-requires c κs = search needs
-
--- the next byte has some rows, eight at most, which are there
-small : (c : tie.After-in-byte Inv-loop μ-loop)
-    → let base = c .before .before .loop .base in
-    let size = c .in-byte .result in
-    (0 < size) × (size ≤ 8) × (base + size ≤ length (c .before .before .before .before .before .before .args .cursors .now))
-small c = size-small (c .before .before .loop .inv) (c .before .loop-test .taken) (c .in-byte .result) (c .in-byte .ensures)
 
 add-end : tie.Need-add-end Inv-loop μ-loop
 add-end c = omega (arith, small c .2)
@@ -48,29 +70,35 @@ part-pack-byte-end c = small c .2
 
 pack-byte-requires : tie.Need-pack-byte-requires Inv-loop μ-loop
 pack-byte-requires c κs =
-    let s = c .before .before .before .before .before .before .before in
+    let sized = c .before in
+    let s = start (turn sized) in
     let a = s .args in
-    let base = c .before .before .before .loop .base in
-    let size = c .before .in-byte .result in (
-      omega (arith, small (c .before) .1, length-take (base + size - base) (drop base (a .cursors .now))),
-      (readable-part (a .column) (a .rows .now) (a .cursors .now) base (base + size - base) (s .pre .0), s .pre .1 .0),
+    let readable = s .pre .0 in
+    let flagged = s .pre .1 .0 in
+    let count = base sized + size sized - base sized in (
+      omega (arith, small sized .1, length-take count (drop (base sized) (a .cursors .now))),
+      (readable-part (a .column) (a .rows .now) (a .cursors .now) (base sized) count readable, flagged),
     )
 
 slice-write-sheet : tie.Need-slice-write-sheet Inv-loop μ-loop
 slice-write-sheet c =
-    let k = c .before .before .in-byte in
-    pack-room (c .before .before .before .before .loop .inv) (c .before .before .before .loop-test .taken) (k .result) (k .ensures) (c .before .before .before .before .before .before .before .before .pre .1 .1)
+    let sized = c .before .before in
+    let room = start (turn sized) .pre .1 .1 in
+    pack-room (at-loop (turn sized) .loop .inv) (turn sized .loop-test .taken) (size sized) (sized .in-byte .ensures) room
 
 add-place : tie.Need-add-place Inv-loop μ-loop
 add-place c = omega (arith, slice-write-sheet c)
 
 loop-less : tie.Need-loop-less Inv-loop μ-loop
-loop-less c = omega (arith, small (c .before .before) .0, small (c .before .before) .2)
+loop-less c =
+    let sized = c .before .before in
+    omega (arith, small sized .0, small sized .2)
 
 loop-again : tie.Need-loop-again Inv-loop μ-loop
 loop-again c =
-    let k = c .before .before .in-byte in
-    pack-more (c .before .before .before .before .loop .inv) (c .before .before .before .loop-test .taken) (k .result) (k .ensures) (c .pack-byte .result) (c .pack-byte .ensures)
+    let sized = c .before .before in
+    let inv = at-loop (turn sized) .loop .inv in
+    pack-more inv (turn sized .loop-test .taken) (size sized) (sized .in-byte .ensures) (c .pack-byte .result) (c .pack-byte .ensures)
 
 same-length : tie.Need-same-length Inv-loop μ-loop
 same-length c = c .before .loop .inv .wrote .same

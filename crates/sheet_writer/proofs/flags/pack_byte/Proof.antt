@@ -8,11 +8,12 @@ use native.Mathlib.Omega.{arith}
 use lib.ListN.{length, getD, take}
 use lib.Seq.{take-all}
 use borrow.Rule.Slice.PartAt.{part-to-end}
+use Rattle.format.specs.declared.Column.{Column}
 use Rattle.format.specs.Cleared.{byteOf}
 use Rattle.format.specs.Read.{Good}
-use Rattle.sheet_writer.specs.Cursors.{fieldAt, flagAt}
+use Rattle.sheet_writer.specs.Cursors.{cursorField, flagAt}
 use Rattle.sheet_writer.proofs.Lead.{inside}
-use Rattle.sheet_writer.proofs.Eights.{byte-room, byte-more}
+use Rattle.sheet_writer.proofs.Packing.{byte-room, byte-more}
 use Rattle.sheet_writer.proofs.flags.pack_byte.Statement.{statement}
 use Rattle.sheet_writer.proofs.flags.pack_byte.Tie as tie
 
@@ -22,6 +23,36 @@ Inv-loop rows cursors column which byte₀ k₀ byte k = (k ≤ length cursors) 
 abbrev μ-loop : tie.MeasureT-loop
 μ-loop rows cursors column which byte₀ k₀ byte k = length cursors - k
 
+-- ---- in a turn: a field can be read at the cursor of row k, and so it stands within the rows
+
+module _ (c : tie.In-loop Inv-loop μ-loop) where
+  abbrev at-loop : tie.At-loop Inv-loop μ-loop
+  at-loop = c .before
+
+  abbrev start : tie.Start Inv-loop μ-loop
+  start = at-loop .before .before .before
+
+  abbrev column : Column
+  column = start .args .column
+
+  abbrev rows : List ℕ
+  rows = start .args .rows .now
+
+  abbrev cursors : List ℕ
+  cursors = start .args .cursors .now
+
+  abbrev p : ℕ
+  p = getD cursors (at-loop .loop .k) 0
+
+  abbrev flag : ℕ → Bool
+  flag = flagAt (start .args .which) column rows
+
+  readable : Good (cursorField column rows p)
+  readable = let all = start .pre .1 .0 in all (at-loop .loop .k) (c .loop-test .taken)
+
+  within : p < length rows
+  within = inside column rows p readable
+
 loop-holds : tie.Need-loop-holds Inv-loop μ-loop
 loop-holds c = (omega arith, refl)
 
@@ -30,17 +61,6 @@ mul-p c = omega arith
 
 shared-slice-read-p : tie.Need-shared-slice-read-p Inv-loop μ-loop
 shared-slice-read-p c = omega arith
-
--- a field can be read at the cursor of row k, and so it stands within the rows
-readable : (c : tie.In-loop Inv-loop μ-loop)
-    → let s = c .before .before .before .before in
-    Good (fieldAt (s .args .column) (s .args .rows .now) (getD (s .args .cursors .now) (c .before .loop .k) 0))
-readable c = c .before .before .before .before .pre .1 .0 (c .before .loop .k) (c .loop-test .taken)
-
-within : (c : tie.In-loop Inv-loop μ-loop)
-    → let s = c .before .before .before .before in
-    getD (s .args .cursors .now) (c .before .loop .k) 0 < length (s .args .rows .now)
-within c = let s = c .before .before .before .before in inside (s .args .column) (s .args .rows .now) (getD (s .args .cursors .now) (c .before .loop .k) 0) (readable c)
 
 sub-read-flag : tie.Need-sub-read-flag Inv-loop μ-loop
 sub-read-flag c = omega (arith, within (c .before))
@@ -53,17 +73,18 @@ part-read-flag-end c = omega arith
 
 read-flag-requires : tie.Need-read-flag-requires Inv-loop μ-loop
 read-flag-requires c κs =
-    let s = c .before .before .before .before .before .before in
-    (rw (part-to-end (s .args .rows .now) (getD (s .args .cursors .now) (c .before .before .before .loop .k) 0)) (readable (c .before .before)), s .pre .1 .1)
+    let turn = c .before .before in
+    let flagged = start turn .pre .1 .1 in
+    (rw (part-to-end (rows turn) (p turn)) (readable turn), flagged)
 
 cast-put-bit : tie.Need-cast-put-bit Inv-loop μ-loop
 cast-put-bit c = omega arith
 
 put-bit-requires : tie.Need-put-bit-requires Inv-loop μ-loop
 put-bit-requires c κs =
-    let s = c .before .before .before .before .before .before .before in
-    let l = c .before .before .before .before .loop in
-    (omega arith, rw (l .inv .1) (byte-room (flagAt (s .args .which) (s .args .column) (s .args .rows .now)) (s .args .cursors .now) (l .k) (c .before .before .before .loop-test .taken)))
+    let turn = c .before .before .before in
+    let l = at-loop turn .loop in
+    (omega arith, rw (l .inv .1) (byte-room (flag turn) (cursors turn) (l .k) (turn .loop-test .taken)))
 
 add-k : tie.Need-add-k Inv-loop μ-loop
 add-k c = omega arith
@@ -73,23 +94,22 @@ loop-less c = omega arith
 
 loop-again : tie.Need-loop-again Inv-loop μ-loop
 loop-again c =
-    let s = c .before .before .before .before .before .before .before .before in
-    let l = c .before .before .before .before .before .loop in
-    let f = flagAt (s .args .which) (s .args .column) (s .args .rows .now) in
-    let p = getD (s .args .cursors .now) (l .k) 0 in
-    let e : c .before .read-flag .result ≡ f p = rw (part-to-end (s .args .rows .now) p) at (c .before .read-flag .ensures) in (
+    let read = c .before in
+    let turn = read .before .before .before in
+    let l = at-loop turn .loop in
+    let e : read .read-flag .result ≡ flag turn (p turn) = rw (part-to-end (rows turn) (p turn)) at (read .read-flag .ensures) in (
       omega arith,
       c .put-bit .ensures
           ∙ ap₂ (λ (b : ℕ) (on : Bool). b + cond on (2 ^ l .k) 0) (l .inv .1) e
-          ∙ byte-more f (s .args .cursors .now) (l .k) (c .before .before .before .before .loop-test .taken),
+          ∙ byte-more (flag turn) (cursors turn) (l .k) (turn .loop-test .taken),
     )
 
 returns : tie.Need-returns Inv-loop μ-loop
 returns c =
-    let s = c .before .before .before .before in
-    c .before .loop .inv .1
-    ∙ ap (λ (l : List ℕ). byteOf (map (flagAt (s .args .which) (s .args .column) (s .args .rows .now)) l))
-    (take-all (c .before .loop .k) (s .args .cursors .now) (c .loop-test .left))
+    let at = c .before in
+    let a = at .before .before .before .args in
+    at .loop .inv .1
+    ∙ ap (λ (l : List ℕ). byteOf (map (flagAt (a .which) (a .column) (a .rows .now)) l)) (take-all (at .loop .k) (a .cursors .now) (c .loop-test .left))
 
 pub pack-byte-spec : {M : Type 1} → statement M
 pack-byte-spec =

@@ -1,11 +1,8 @@
 -- `sheet_writer::flags::read_flag` meets its contract: the lead byte tells validity, and a column of bools is read as one.
 -- Assumes nothing.
 use borrow.Author.Needs.{needs}
-use Prim.Native.Nat.{ℕ}
 use mathlib.Core.Path.{ap, _∙_}
 use mathlib.Core.Bool.{not}
-use lib.Dec.{eqb}
-use lib.ListN.{getD}
 use Rattle.format.specs.Kinds.{columnShape}
 use Rattle.basics.proofs.Bytes.{bytes-of}
 use Rattle.sheet_writer.proofs.Lead.{lead-there, valid-flag, bool-good, bool-flag}
@@ -15,14 +12,14 @@ use Rattle.sheet_writer.proofs.flags.read_flag.Tie as tie
 enum-told : tie.Need-enum-told
 enum-told c = search needs
 
-shared-slice-read-result : tie.Need-shared-slice-read-result
-shared-slice-read-result c =
+shared-slice-read-null-lead : tie.Need-shared-slice-read-null-lead
+shared-slice-read-null-lead c =
     let s = c .before .before .before .before .before in
     let a = s .args in
     lead-there (columnShape (a .column)) (a .column .options) (a .row .now) (s .pre .0)
 
-null-sentinel-requires : tie.Need-null-sentinel-requires
-null-sentinel-requires c κs = search needs
+null-lead-requires : tie.Need-null-lead-requires
+null-lead-requires c κs = search needs
 
 enum-told-2 : tie.Need-enum-told-2
 enum-told-2 c = search needs
@@ -36,7 +33,7 @@ returns : tie.Need-returns
 returns c =
     let s = c .before .before .before .before .before .before in
     let a = s .args in
-    ap (λ (n : ℕ). not (eqb (getD (a .row .now) 0 0) n)) (c .null-sentinel .ensures)
+    ap not (c .null-lead .ensures)
     ∙ valid-flag (a .which) (a .column) (a .row .now) (s .pre .0) (bytes-of (a .row .now) (λ i. c .before .shared-slice-known2 .given i .fits)) (c .before .before .enum-told .given .1)
 
 returns-2 : tie.Need-returns-2
@@ -49,8 +46,8 @@ read-flag-spec =
     tie.close
     (tie.spec
     enum-told
-    shared-slice-read-result
-    null-sentinel-requires
+    shared-slice-read-null-lead
+    null-lead-requires
     enum-told-2
     decode-boolean-requires
     returns

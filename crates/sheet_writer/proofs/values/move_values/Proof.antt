@@ -2,15 +2,17 @@
 -- their cursors moved. Assumes nothing.
 use borrow.Author.Needs.{needs}
 use Prim.Native.Nat.{ℕ, _+_, _-_, _<_, _≤_}
-use mathlib.Core.Path.{sym, _∙_}
+use mathlib.Core.Path.{_≡_, sym, _∙_}
+use mathlib.Core.List.{List}
 use native.Mathlib.Omega.{arith}
 use borrow.Rule.Slice.PartAt.{part-to-end}
 use lib.ListN.{length, getD, drop, length-drop}
+use Rattle.format.specs.declared.Column.{Column}
 use Rattle.format.specs.Kinds.{columnShape, valueBytes}
 use Rattle.format.specs.Cleared.{fixedSlot}
 use Rattle.format.specs.Read.{Good}
 use Rattle.basics.proofs.Bytes.{bytes-of, bytes-drop}
-use Rattle.sheet_writer.specs.Cursors.{fieldAt}
+use Rattle.sheet_writer.specs.Cursors.{cursorField, nextAt}
 use Rattle.sheet_writer.proofs.Lead.{inside, Whole, whole}
 use Rattle.sheet_writer.proofs.Moving.{Moving, move-start, move-readable, move-room, move-more, move-end}
 use Rattle.sheet_writer.proofs.values.move_values.Statement.{statement}
@@ -35,30 +37,44 @@ mul-p c = omega arith
 slice-read-p : tie.Need-slice-read-p Inv-loop μ-loop
 slice-read-p c = omega arith
 
--- in a turn: the field at the cursor of row r can be read, the cursor stands within the rows, and there is room for the value
-module _ (c : tie.In-loop Inv-loop μ-loop) where
-  abbrev s : tie.Start Inv-loop μ-loop
-  s = c .before .before .before .before .before .before .before
+-- ---- in a turn: the field at the cursor of row r can be read, the cursor stands within the rows, and there is room for the value
 
-  abbrev l : tie.At-loop Inv-loop μ-loop
-  l = c .before
+module _ (c : tie.In-loop Inv-loop μ-loop) where
+  abbrev at-loop : tie.At-loop Inv-loop μ-loop
+  at-loop = c .before
+
+  abbrev sized : tie.After-width Inv-loop μ-loop
+  sized = at-loop .before
+
+  abbrev known : tie.After-shared-slice-known Inv-loop μ-loop
+  known = sized .before .before .before .before
+
+  abbrev start : tie.Start Inv-loop μ-loop
+  start = known .before
+
+  abbrev column : Column
+  column = start .args .column
+
+  abbrev rows : List ℕ
+  rows = start .args .rows .now
 
   abbrev p : ℕ
-  p = getD (l .loop .cursors) (l .loop .r) 0
+  p = getD (at-loop .loop .cursors) (at-loop .loop .r) 0
 
-  readable : Good (fieldAt (s .args .column) (s .args .rows .now) p)
-  readable = move-readable (l .loop .inv) (c .loop-test .taken) (s .pre .1 .0)
+  readable : Good (cursorField column rows p)
+  readable = let all = start .pre .1 .0 in move-readable (at-loop .loop .inv) (c .loop-test .taken) all
 
-  within : p < length (s .args .rows .now)
-  within = inside (s .args .column) (s .args .rows .now) p readable
+  within : p < length rows
+  within = inside column rows p readable
 
-  all : Whole (columnShape (s .args .column)) (s .args .column .options) (drop p (s .args .rows .now))
-  all =
-      whole (columnShape (s .args .column)) (s .pre .0 .k) (s .args .column .options) (drop p (s .args .rows .now)) (s .pre .0 .says)
-      (bytes-drop p (s .args .rows .now) (bytes-of (s .args .rows .now) (λ i. c .before .before .before .before .before .before .shared-slice-known .given i .fits))) readable
+  all-there : Whole (columnShape column) (column .options) (drop p rows)
+  all-there =
+      let kind = start .pre .0 in
+      let bytes = bytes-of rows (λ i. known .shared-slice-known .given i .fits) in
+      whole (columnShape column) (kind .k) (column .options) (drop p rows) (kind .says) (bytes-drop p rows bytes) readable
 
-  room : l .loop .place + valueBytes (s .args .column .kind) ≤ length (l .loop .sheet)
-  room = rw (all .slot-is) at (move-room (l .loop .inv) (c .loop-test .taken) (s .pre .1 .1))
+  room : at-loop .loop .place + valueBytes (column .kind) ≤ length (at-loop .loop .sheet)
+  room = let fits = start .pre .1 .1 in rw (all-there .slot-is) at (move-room (at-loop .loop .inv) (c .loop-test .taken) fits)
 
 sub-decode : tie.Need-sub-decode Inv-loop μ-loop
 sub-decode c = omega (arith, within (c .before))
@@ -71,16 +87,20 @@ part-decode-end c = omega arith
 
 decode-requires : tie.Need-decode-requires Inv-loop μ-loop
 decode-requires c κs =
-    let t = c .before .before .before in
-    (s t .pre .0, (rw (part-to-end (s t .args .rows .now) (p t)) (readable t), room t))
+    let turn = c .before .before .before in
+    (start turn .pre .0, (rw (part-to-end (rows turn) (p turn)) (readable turn), room turn))
+
+-- the value is decoded
+abbrev turn : tie.After-slice-known4 Inv-loop μ-loop → tie.In-loop Inv-loop μ-loop
+turn c = c .before .before .before .before .before .before
 
 add-cursors : tie.Need-add-cursors Inv-loop μ-loop
-add-cursors c = let t = c .before .before .before .before .before .before in omega (arith, within t, s t .good)
+add-cursors c = omega (arith, within (turn c), start (turn c) .good)
 
 add-cursors-2 : tie.Need-add-cursors-2 Inv-loop μ-loop
 add-cursors-2 c =
-    let t = c .before .before .before .before .before .before in
-    omega (arith, within t, all t .there, c .before .before .before .before .before .before .before .before .width .ensures, length-drop (p t) (s t .args .rows .now), s t .good)
+    let t = turn c in
+    omega (arith, within t, all-there t .there, sized t .width .ensures, length-drop (p t) (rows t), start t .good)
 
 mul-cursors : tie.Need-mul-cursors Inv-loop μ-loop
 mul-cursors c = omega arith
@@ -90,8 +110,8 @@ slice-write-cursors c = omega arith
 
 add-place : tie.Need-add-place Inv-loop μ-loop
 add-place c =
-    let t = c .before .before .before .before .before .before in
-    omega (arith, room t, c .before .before .before .before .before .before .before .before .width .ensures, l t .loop .inv .wrote .1 .same, s t .good)
+    let t = turn c in
+    omega (arith, room t, sized t .width .ensures, at-loop t .loop .inv .wrote .1 .same, start t .good)
 
 add-r : tie.Need-add-r Inv-loop μ-loop
 add-r c = omega arith
@@ -101,10 +121,12 @@ loop-less c = omega arith
 
 loop-again : tie.Need-loop-again Inv-loop μ-loop
 loop-again c =
-    let t = c .before .before .before .before .before .before in
-    let w = c .before .before .before .before .before .before .before .before .width in
-    rw (c .before .before .decode .ensures, part-to-end (s t .args .rows .now) (p t))
-    (move-more (l t .loop .inv) (t .loop-test .taken) (w .result) (p t + 1 + w .result) (all t .slot-is ∙ sym (w .ensures)) (omega (arith, w .ensures, all t .field-long)))
+    let t = turn c in
+    let w = sized t .width in
+    let long = all-there t .slot-is ∙ sym (w .ensures) in
+    let next : p t + 1 + w .result ≡ nextAt (column t) (rows t) (p t) = omega (arith, w .ensures, all-there t .field-long) in
+    rw (c .before .before .decode .ensures, part-to-end (rows t) (p t))
+    (move-more (at-loop t .loop .inv) (t .loop-test .taken) (w .result) (p t + 1 + w .result) long next)
 
 same-length : tie.Need-same-length Inv-loop μ-loop
 same-length c = c .before .loop .inv .moved .long

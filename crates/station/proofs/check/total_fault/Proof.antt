@@ -1,13 +1,14 @@
 -- `station::check::total_fault` meets its contract: the test is the definition's. Assumes nothing.
 use borrow.Author.Tests.{lt-ltb, le-ltb}
+use Rattle.format.specs.Limits.{maxTotal}
 use Rattle.station.proofs.check.total_fault.Statement.{statement}
 use Rattle.station.proofs.check.total_fault.Tie as tie
 
 returns : tie.Need-returns
-returns c = rw (lt-ltb _ _ (c .if1 .taken))
+returns c = rw (lt-ltb maxTotal (c .before .args .total) (c .if1 .taken))
 
 returns-2 : tie.Need-returns-2
-returns-2 c = rw (le-ltb _ _ (c .if1 .left))
+returns-2 c = rw (le-ltb maxTotal (c .before .args .total) (c .if1 .left))
 
 pub total-fault-spec : {M : Type 1} → statement M
 total-fault-spec =

@@ -1,61 +1,59 @@
--- `station::decode::decode` meets its contract: each refusal is that of the checks that led there, and else the sheet is written as
--- `write_sheet` ensures. Assumes nothing.
+-- `station::decode::decode` meets its contract: each refusal is that of the checks that led there, and else 24 decides what is answered
+-- and written. The ways out stand first, then what the calls ask. Assumes nothing.
 use borrow.Author.Needs.{needs}
-use Rattle.station.proofs.Decoding.{bad-begin, bad-rows, small-sheet, offsets-pass, rows-pass, sheet-room, done}
+use Rattle.station.proofs.Decoding.{bad-begin, bad-rows, ready, asked}
 use Rattle.station.proofs.decode.decode.Statement.{statement}
 use Rattle.station.proofs.decode.decode.Tie as tie
 
 returns : tie.Need-returns
 returns c =
-    let b = c .before .before .before .begin in
-    bad-begin _ _ _ _ _ _ (b .ensures) _ (c .before .check .given .1)
+    let at-begin = c .before .before .before in
+    bad-begin _ _ _ _ _ _ (at-begin .begin .ensures) _ (c .before .check .given .1)
 
 -- ---- list and row count pass
-abbrev begun : tie.After-schema → tie.After-begin
-begun c = c .before .before .before
+abbrev listed : tie.After-check-rows → tie.After-enum-told
+listed c = c .before .before
 
-check-rows-requires : tie.Need-check-rows-requires
-check-rows-requires c κs =
-    let b = begun c .begin .ensures in
-    let e = c .before .enum-told .given .1 in
-    (b .few e, b .sound e .limited)
+abbrev begun : tie.After-enum-told → tie.After-begin
+begun c = c .before .before
 
 returns-2 : tie.Need-returns-2
 returns-2 c =
-    let r = c .before .before .before in
-    bad-rows _ _ _ _ _ _ (begun (r .before) .begin .ensures) (r .before .before .enum-told .given .1) _ (r .check-rows .ensures) _ (c .before .found .given .1)
+    let at-check-rows = c .before .before .before in
+    let at-listed = listed at-check-rows in
+    bad-rows _ _ _ _ _ _ (begun at-listed .begin .ensures) (at-listed .enum-told .given .1) _ (at-check-rows .check-rows .ensures) _
+    (c .before .found .given .1)
 
 -- ---- the rows pass
+abbrev checked : tie.After-enum-told2 → tie.After-check-rows
+checked c = c .before .before
+
 returns-3 : tie.Need-returns-3
 returns-3 c =
-    let t = c .before in
-    let r = t .before .before in
-    small-sheet _ _ _ _ _ _ (begun (r .before) .begin .ensures) (r .before .before .enum-told .given .1) _ (r .check-rows .ensures) (t .enum-told2 .given .1) (c .if1 .taken)
+    let at-write-passed = c .before .before .before in
+    let at-room-fault = at-write-passed .before .before in
+    let at-pass = at-room-fault .before in
+    let at-check-rows = checked at-pass in
+    let at-listed = listed at-check-rows in
+    rw (c .answer .ensures)
+    (asked _ _ _ _ _ _ (begun at-listed .begin .ensures) (at-listed .enum-told .given .1) _ (at-check-rows .check-rows .ensures)
+    (at-pass .enum-told2 .given .1) _ (at-room-fault .room-fault .ensures) _ _ (at-write-passed .write-passed .ensures))
 
--- ---- there is room
-write-sheet-requires : tie.Need-write-sheet-requires
-write-sheet-requires c κs =
-    let t = c .before .before in
-    let r = t .before .before in
-    let b = begun (r .before) .begin .ensures in
-    let e = r .before .before .enum-told .given .1 in
-    let k = r .check-rows .ensures in
-    let f = t .enum-told2 .given .1 in (
-      b .few e,
-      (
-        b .sound e .limited,
-        (offsets-pass _ _ _ _ _ k f, (rows-pass _ _ _ _ _ k f, sheet-room _ _ _ _ _ k f _ (c .before .if1 .left))),
-      ),
-    )
+check-rows-requires : tie.Need-check-rows-requires
+check-rows-requires c κs =
+    let at-listed = c .before in
+    let good = begun at-listed .begin .ensures in
+    let pass = at-listed .enum-told .given .1 in
+    (good .few pass, good .sound pass .limited)
 
-returns-4 : tie.Need-returns-4
-returns-4 c =
-    let w = c .before .before in
-    let l = w .before .before in
-    let t = l .before in
-    let r = t .before .before in
-    done _ _ _ _ _ _ (begun (r .before) .begin .ensures) (r .before .before .enum-told .given .1) _ (r .check-rows .ensures) (t .enum-told2 .given .1) (l .if1 .left) _ _
-    (w .write-sheet .ensures .0) (w .write-sheet .ensures .1)
+write-passed-requires : tie.Need-write-passed-requires
+write-passed-requires c κs =
+    let at-room-fault = c .before in
+    let at-pass = at-room-fault .before in
+    let at-check-rows = checked at-pass in
+    let at-listed = listed at-check-rows in
+    ready _ _ _ _ _ _ (begun at-listed .begin .ensures) (at-listed .enum-told .given .1) _ (at-check-rows .check-rows .ensures)
+    (at-pass .enum-told2 .given .1) _ (at-room-fault .room-fault .ensures)
 
 pub decode-spec : {M : Type 1} → statement M
 decode-spec =
@@ -69,7 +67,8 @@ decode-spec =
     (λ c. search needs)
     returns-2
     (λ c. search needs)
-    returns-3
-    write-sheet-requires
+    (λ c κs. search needs)
+    write-passed-requires
+    (λ c κs. search needs)
     (λ c. search needs)
-    returns-4)
+    returns-3)

@@ -1,20 +1,20 @@
--- `station::encode::encode` meets its contract: the batch is refused, or 12, 13 and 14 decide what is answered and written. Assumes
--- nothing.
+-- `station::encode::encode` meets its contract: the batch is refused, or 12, 13 and 14 decide what is answered and written. The ways
+-- out stand first, then what the calls ask. Assumes nothing.
 use borrow.Author.Needs.{needs}
 use mathlib.Core.Path.{_≡_}
 use lib.ListN.{length}
 use Rattle.format.specs.declared.Check.{Check}
 use Rattle.format.specs.Check.{both}
 use Rattle.format.specs.Entries.{totalFault}
-use Rattle.station.specs.Measuring.{roomFault}
-use Rattle.station.proofs.Encoding.{in-order, has-room, row-room, bad-batch, asked}
+use Rattle.station.specs.Encoding.{roomFault}
+use Rattle.station.proofs.Encoding.{in-order, ready, bad-batch, asked}
 use Rattle.station.proofs.encode.encode.Statement.{statement}
 use Rattle.station.proofs.encode.encode.Tie as tie
 
 returns : tie.Need-returns
 returns c =
-    let m = c .before .before .before .measure-list in
-    bad-batch _ _ _ _ _ _ (m .ensures) _ (c .before .check .given .1)
+    let at-measure-list = c .before .before .before in
+    bad-batch _ _ _ _ _ _ (at-measure-list .measure-list .ensures) _ (c .before .check .given .1)
 
 -- ---- the batch passes
 abbrev passed : tie.After-total-fault → tie.After-enum-told
@@ -26,39 +26,37 @@ batch c = c .before .before
 abbrev start : tie.After-measure-list → tie.Start
 start c = c .before .before .before .before .before
 
-room-fault-requires : tie.Need-room-fault-requires
-room-fault-requires c κs =
-    let p = passed c in
-    batch p .measure-list .ensures .found (p .enum-told .given .1) .few
-
 -- 12, 13 and 14, in order
 abbrev asks : tie.After-both → Check
 asks c =
-    let m = batch (passed (c .before .before)) in
-    let a = start m .args in
-    let total = m .measure-list .result .total in
-    both (totalFault total) (roomFault total (length (a .rows .now)) (a .n) (length (a .offsets .now)))
+    let at-measure-list = batch (passed (c .before .before)) in
+    let args = start at-measure-list .args in
+    let total = at-measure-list .measure-list .result .total in
+    both (totalFault total) (roomFault total (length (args .rows .now)) (args .n) (length (args .offsets .now)))
 
 fault : (c : tie.After-both) → c .both .result ≡ asks c
 fault c =
-    let r = c .before in
-    in-order _ _ _ _ _ (r .before .total-fault .ensures) (r .room-fault .ensures) (c .both .ensures)
-
-write-passed-requires : tie.Need-write-passed-requires
-write-passed-requires c κs =
-    let b = c .before .before in
-    let p = passed (b .before .before) in
-    let f = batch p .measure-list .ensures .found (p .enum-told .given .1) in
-    let room = has-room _ _ _ _ _ (fault b) in
-    (f .few, (f .sound .limited .few, (f .known, ((λ e. row-room _ _ _ _ f _ (room e .0)), (λ e. room e .1)))))
+    let at-room-fault = c .before in
+    in-order _ _ _ _ _ (at-room-fault .before .total-fault .ensures) (at-room-fault .room-fault .ensures) (c .both .ensures)
 
 returns-2 : tie.Need-returns-2
 returns-2 c =
-    let w = c .before .before .before .before .before in
-    let b = w .before .before .before in
-    let p = passed (b .before .before) in
-    rw (c .answer .ensures, w .write-passed .ensures .0, w .write-passed .ensures .1)
-    (asked _ _ _ _ _ _ (batch p .measure-list .ensures) (p .enum-told .given .1) _ (fault b))
+    let at-write-passed = c .before .before .before .before .before in
+    let at-both = at-write-passed .before .before .before in
+    let at-pass = passed (at-both .before .before) in
+    rw (c .answer .ensures)
+    (asked _ _ _ _ _ _ (batch at-pass .measure-list .ensures) (at-pass .enum-told .given .1) _ (fault at-both) _ _ (at-write-passed .write-passed .ensures))
+
+room-fault-requires : tie.Need-room-fault-requires
+room-fault-requires c κs =
+    let at-pass = passed c in
+    batch at-pass .measure-list .ensures .found (at-pass .enum-told .given .1) .few
+
+write-passed-requires : tie.Need-write-passed-requires
+write-passed-requires c κs =
+    let at-both = c .before .before in
+    let at-pass = passed (at-both .before .before) in
+    ready _ _ _ _ (batch at-pass .measure-list .ensures .found (at-pass .enum-told .given .1)) _ _ _ (fault at-both)
 
 pub encode-spec : {M : Type 1} → statement M
 encode-spec =

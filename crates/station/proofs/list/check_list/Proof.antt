@@ -12,6 +12,7 @@ use Rattle.format.specs.declared.Answer.the-variants.{Done, Refused}
 use Rattle.format.specs.Columns.{columns}
 use Rattle.format.specs.Entries.{answer, checkListAnswer}
 use Rattle.format.specs.Promises.{ListChecked}
+use Rattle.format.specs.Numbers.{numbersOf}
 use Rattle.list_reader.specs.declared.Listed.{Listed}
 use Rattle.list_reader.specs.Listing.{ListedAs}
 use Rattle.station.proofs.list.check_list.Statement.{statement}
@@ -21,11 +22,11 @@ done : (list : List ℕ) (r : Listed) → ListedAs list r → r .check ≡ Pass 
 unfolding checkListAnswer
 done list r l e =
     let passes = sym (l .check) ∙ e in
-    record { answers = ap (λ (s : Schema). Done (s .count) 0) (l .schema passes) ∙ ap (λ (x : Check). answer x (length (columns list)) 0) (sym passes) }
+    record { answers = ap numbersOf (ap (λ (s : Schema). Done (s .count) 0) (l .schema passes) ∙ ap (λ (x : Check). answer x (length (columns list)) 0) (sym passes)) }
 
 refused : (list : List ℕ) (r : Listed) (x : Refusal) → ListedAs list r → r .check ≡ Refuse x → ListChecked list (Refused x)
 unfolding checkListAnswer
-refused list r x l e = record { answers = ap (λ (y : Check). answer y (length (columns list)) 0) (sym e ∙ l .check) }
+refused list r x l e = record { answers = ap (λ (y : Check). numbersOf (answer y (length (columns list)) 0)) (sym e ∙ l .check) }
 
 returns : tie.Need-returns
 returns c =

@@ -1,6 +1,6 @@
 -- `station_c::bytes::put_answer` meets its contract. Assumes nothing.
 use borrow.Author.Needs.{needs}
-use Rattle.station_c.proofs.Eights.{three-stored}
+use Rattle.station_c.proofs.NumberBytes.{three-stored}
 use Rattle.station_c.proofs.bytes.put_answer.Statement.{statement}
 use Rattle.station_c.proofs.bytes.put_answer.Tie as tie
 

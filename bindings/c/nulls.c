@@ -1,0 +1,77 @@
+/* Each C entry with slices of length 0 whose pointers are null, against what document 01 says. Says what is wrong, if
+ * anything is; the exit status is then 1.
+ *
+ *   cc -I include bindings/c/nulls.c target/staticlib/libstation_c.a -o nulls && ./nulls
+ */
+#include <stdio.h>
+#include <string.h>
+
+#include "station.h"
+
+/* One bool column. */
+static const uint8_t LIST[] = {1, 0};
+
+static uint8_t answer[STATION_ANSWER_BYTES];
+static int wrong;
+
+/* Number i of the answer. */
+static uint64_t number(size_t i) {
+    uint64_t value = 0;
+    for (size_t k = 8; k > 0; k--) value = value << 8 | answer[8 * i + k - 1];
+    return value;
+}
+
+/* Holds the answer to three numbers, and forgets it. */
+static void hold(const char *call, uint64_t first, uint64_t second, uint64_t third) {
+    if (number(0) != first || number(1) != second || number(2) != third) {
+        printf("%s: %llu %llu %llu\n", call, (unsigned long long)number(0), (unsigned long long)number(1),
+               (unsigned long long)number(2));
+        wrong = 1;
+    }
+    memset(answer, 0xA5, sizeof answer);
+}
+
+int main(void) {
+    uint8_t offsets[8] = {1, 2, 3, 4, 5, 6, 7, 8};
+    static const uint8_t zero[8];
+
+    memset(answer, 0xA5, sizeof answer);
+    station_check_list(NULL, 0, answer, sizeof answer);
+    hold("check_list of nothing", 1, 0, 0);
+    station_check_list(NULL, 0, NULL, 0);
+
+    station_measure(NULL, 0, 0, NULL, 0, answer, sizeof answer);
+    hold("measure of nothing", 1, 0, 0);
+    station_measure(LIST, sizeof LIST, 0, NULL, 0, answer, sizeof answer);
+    hold("measure of no rows", 0, 0, 0);
+    station_measure(LIST, sizeof LIST, 1, NULL, 0, answer, sizeof answer);
+    hold("measure of a row that is not there", 7, 0, 0);
+    station_measure(NULL, 0, 0, NULL, 0, NULL, 0);
+
+    station_encode(NULL, 0, 0, NULL, 0, NULL, 0, NULL, 0, answer, sizeof answer);
+    hold("encode of nothing", 1, 0, 0);
+    station_encode(LIST, sizeof LIST, 0, NULL, 0, NULL, 0, NULL, 0, answer, sizeof answer);
+    hold("encode of no rows, and no offsets", 14, 1, 0);
+    station_encode(LIST, sizeof LIST, 0, NULL, 0, NULL, 0, offsets, sizeof offsets, answer, sizeof answer);
+    hold("encode of no rows", 0, 0, 0);
+    if (memcmp(offsets, zero, sizeof zero) != 0) {
+        printf("encode of no rows: the first offset is not 0\n");
+        wrong = 1;
+    }
+    station_encode(NULL, 0, 0, NULL, 0, NULL, 0, NULL, 0, NULL, 0);
+
+    station_decode(NULL, 0, 0, NULL, 0, NULL, 0, NULL, 0, answer, sizeof answer);
+    hold("decode of nothing", 1, 0, 0);
+    station_decode(LIST, sizeof LIST, 0, NULL, 0, NULL, 0, NULL, 0, answer, sizeof answer);
+    hold("decode of no offsets", 14, 1, 0);
+    station_decode(LIST, sizeof LIST, 0, NULL, 0, zero, sizeof zero, NULL, 0, answer, sizeof answer);
+    hold("decode of no rows", 0, 0, 0);
+    station_decode(NULL, 0, 0, NULL, 0, NULL, 0, NULL, 0, NULL, 0);
+
+    if (station_compare(NULL, 0, NULL, 0) != 0 || station_compare(NULL, 0, zero, 1) != -1 ||
+        station_compare(zero, 1, NULL, 0) != 1) {
+        printf("compare of nothing\n");
+        wrong = 1;
+    }
+    return wrong;
+}

@@ -1,0 +1,119 @@
+-- The cleared sheet of slots that fit is a sheet of raw slots: it passes, and it has these slots. Assumes nothing.
+use Prim.Native.Nat.{ℕ, _≤_}
+use mathlib.Core.Path.{_≡_, refl, ap, ap₂, sym, subst, _∙_}
+use mathlib.Core.Bool.{true, false}
+use mathlib.Core.Option.{none, some}
+use mathlib.Core.List.{List, [], _∷_, _++_, map, append-nil, map-map}
+use native.Mathlib.Omega.{arith}
+use lib.Dec.{eqb}
+use lib.ListN.{getD, replicate, length-replicate, length-map}
+use Rattle.format.specs.declared.Check.the-variants.{Pass}
+use Rattle.format.specs.declared.Column.{Column}
+use Rattle.format.specs.Limits.{maxRows, maxSlot}
+use Rattle.format.specs.Lists.{Bytes, endsFrom, joined, lowBytes}
+use Rattle.format.specs.Kinds.{bool, plain, number, integer, float, parts, Shape, fixed, variable, Slot, width, columnShape}
+use Rattle.format.specs.Fits.{Fits, AllSlots, SheetFits}
+use Rattle.format.specs.Sheet.{Layout, bits, ended, wide, layoutFor, layout, packed, sheetFault, sheetSlots}
+use Rattle.format.specs.Cleared.{pack, valid, isTrue, fixedSlot, variableSlot, clearedValues, clearedColumn, clearedSheet}
+use Rattle.basics.proofs.Bytes.{bytes-zeros}
+use Rattle.demands.specs.Raw.{Raw, slotOf, standing, rawColumn, rawSheet, cleared, AllRaw, RawFits}
+use Rattle.demands.proofs.Raw.{raw-passes, raw-slots}
+
+-- a slot as it stands in the cleared sheet
+abbrev pub clearedRaw : Layout → Slot → Raw
+clearedRaw ly none = record { valid = false; bytes = cleared ly }
+clearedRaw ly (some v) = record { valid = true; bytes = v }
+
+abbrev pub clearedRaws : List Column → List (List Slot) → List (List Raw)
+clearedRaws [] sss = []
+clearedRaws (col ∷ cols) [] = []
+clearedRaws (col ∷ cols) (ss ∷ sss) = map (clearedRaw (layout col)) ss ∷ clearedRaws cols sss
+
+-- ---- the cleared sheet is theirs
+
+-- what is made of a slot is made of its raw slot
+raws-map : {B : Type 0} (f : Slot → B) (g : Raw → B) (ly : Layout) → ((s : Slot) → f s ≡ g (clearedRaw ly s)) → (ss : List Slot)
+    → map f ss ≡ map g (map (clearedRaw ly) ss)
+raws-map f g ly h [] = refl
+raws-map f g ly h (s ∷ ss) = ap₂ (λ x y. x ∷ y) (h s) (raws-map f g ly h ss)
+
+valids : (ly : Layout) (s : Slot) → valid s ≡ clearedRaw ly s .valid
+valids ly none = refl
+valids ly (some v) = refl
+
+bools : (s : Slot) → isTrue s ≡ eqb (getD (clearedRaw bits s .bytes) 0 0) 1
+bools none = refl
+bools (some v) = refl
+
+wides : (w : ℕ) (s : Slot) → fixedSlot w s ≡ clearedRaw (wide w) s .bytes
+wides w none = refl
+wides w (some v) = refl
+
+variables : (s : Slot) → variableSlot s ≡ clearedRaw ended s .bytes
+variables none = refl
+variables (some v) = refl
+
+values-raw : (ly : Layout) (n : ℕ) (ss : List Slot) → clearedValues ly n ss ≡ standing ly n (map (λ r. r .bytes) (map (clearedRaw ly) ss))
+values-raw bits n ss =
+    ap (pack (packed n))
+    (raws-map isTrue (λ r. eqb (getD (r .bytes) 0 0) 1) bits bools ss
+    ∙ sym (map-map (λ (x : List ℕ). eqb (getD x 0 0) 1) (λ (r : Raw). r .bytes) (map (clearedRaw bits) ss)))
+values-raw (wide w) n ss = ap joined (raws-map (fixedSlot w) (λ r. r .bytes) (wide w) (wides w) ss)
+values-raw ended n ss =
+    ap (λ (xs : List (List ℕ)). joined (map (lowBytes 4) (endsFrom 0 xs)) ++ joined xs)
+    (raws-map variableSlot (λ r. r .bytes) ended variables ss)
+
+column-raw : (ly : Layout) (n : ℕ) (ss : List Slot) → clearedColumn ly n ss ≡ rawColumn ly n (map (clearedRaw ly) ss)
+column-raw ly n ss = ap₂ (λ (x y : List ℕ). x ++ y) (ap (pack (packed n)) (raws-map valid (λ r. r .valid) ly (valids ly) ss)) (values-raw ly n ss)
+
+pub cleared-raw : (n : ℕ) (cols : List Column) (sss : List (List Slot)) → clearedSheet n cols sss ≡ rawSheet n cols (clearedRaws cols sss)
+cleared-raw n [] sss = refl
+cleared-raw n (col ∷ cols) [] = refl
+cleared-raw n (col ∷ cols) (ss ∷ sss) = ap₂ (λ (x y : List ℕ). x ++ y) (column-raw (layout col) n ss) (cleared-raw n cols sss)
+
+-- ---- they fit
+
+zeros-fit : (w : ℕ) → Bytes (replicate w 0)
+zeros-fit w = subst Bytes (append-nil (replicate w 0)) (bytes-zeros w [] tt)
+
+cleared-fits : (sh : Shape) → Fits maxSlot sh (cleared (layoutFor sh))
+cleared-fits (fixed bool) = ((omega arith, tt), refl, tt)
+cleared-fits (fixed (plain w)) = (zeros-fit w, length-replicate w 0, tt)
+cleared-fits (fixed (number w)) = (zeros-fit w, length-replicate w 0, tt)
+cleared-fits (fixed (integer w)) = (zeros-fit w, length-replicate w 0, tt)
+cleared-fits (fixed (float w)) = (zeros-fit w, length-replicate w 0, tt)
+cleared-fits (fixed (parts ws)) = (zeros-fit (width (parts ws)), length-replicate (width (parts ws)) 0, tt)
+cleared-fits variable = (tt, omega arith)
+
+all-fit : (sh : Shape) (ss : List Slot) → AllSlots sh ss → AllRaw sh (map (clearedRaw (layoutFor sh)) ss)
+all-fit sh [] h = tt
+all-fit sh (none ∷ ss) h = (cleared-fits sh, all-fit sh ss (h .1))
+all-fit sh (some v ∷ ss) h = (h .0, all-fit sh ss (h .1))
+
+pub raws-fit : (n : ℕ) (cols : List Column) (sss : List (List Slot)) → SheetFits n cols sss → RawFits n cols (clearedRaws cols sss)
+raws-fit n [] [] h = tt
+raws-fit n [] (ss ∷ sss) h = absurd h
+raws-fit n (col ∷ cols) [] h = absurd h
+raws-fit n (col ∷ cols) (ss ∷ sss) h = (length-map ss (clearedRaw (layout col)) ∙ h .0, all-fit (columnShape col) ss (h .1), raws-fit n cols sss (h .2))
+
+-- and are the slots
+slots-back : (ly : Layout) (ss : List Slot) → map slotOf (map (clearedRaw ly) ss) ≡ ss
+slots-back ly [] = refl
+slots-back ly (none ∷ ss) = ap (λ (l : List Slot). none ∷ l) (slots-back ly ss)
+slots-back ly (some v ∷ ss) = ap (λ (l : List Slot). some v ∷ l) (slots-back ly ss)
+
+raws-back : (n : ℕ) (cols : List Column) (sss : List (List Slot)) → SheetFits n cols sss → map (map slotOf) (clearedRaws cols sss) ≡ sss
+raws-back n [] [] h = refl
+raws-back n [] (ss ∷ sss) h = absurd h
+raws-back n (col ∷ cols) [] h = absurd h
+raws-back n (col ∷ cols) (ss ∷ sss) h = ap₂ {C = List (List Slot)} (λ x y. x ∷ y) (slots-back (layout col) ss) (raws-back n cols sss (h .2))
+
+-- ---- so the cleared sheet passes, and has the slots
+pub cleared-passes : (n : ℕ) (cols : List Column) (sss : List (List Slot)) → n ≤ maxRows → SheetFits n cols sss
+    → sheetFault n cols (clearedSheet n cols sss) ≡ Pass
+cleared-passes n cols sss few h = ap (sheetFault n cols) (cleared-raw n cols sss) ∙ raw-passes n cols (clearedRaws cols sss) few (raws-fit n cols sss h)
+
+pub cleared-slots : (n : ℕ) (cols : List Column) (sss : List (List Slot)) → n ≤ maxRows → SheetFits n cols sss
+    → sheetSlots n cols (clearedSheet n cols sss) ≡ sss
+cleared-slots n cols sss few h =
+    ap (sheetSlots n cols) (cleared-raw n cols sss) ∙ raw-slots n cols (clearedRaws cols sss) few (raws-fit n cols sss h) ∙ raws-back n cols sss h

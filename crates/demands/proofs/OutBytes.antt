@@ -1,0 +1,116 @@
+-- What encode and decode write is bytes, whatever they answer. Assumes nothing.
+use Prim.Native.Nat.{ℕ, zero, suc, _/_, _<_, _≤_}
+use mathlib.Core.Path.{_≡_, refl, sym, subst}
+use mathlib.Core.Bool.{Bool}
+use mathlib.Core.List.{List, [], _∷_, map}
+use native.Mathlib.Nat.{mod-lt, pow-le-pow-right}
+use native.Mathlib.Omega.{arith}
+use lib.Dec.{eqb, lit<}
+use lib.ListN.{length, getD, take, drop, length-take}
+use Rattle.format.specs.declared.Check.{Check}
+use Rattle.format.specs.declared.Check.the-variants.{Pass, Refuse}
+use Rattle.format.specs.declared.Column.{Column}
+use Rattle.format.specs.Limits.{maxSlot}
+use Rattle.format.specs.Lists.{Bytes, endsFrom, joined, lowBytes}
+use Rattle.format.specs.Kinds.{Shape, fixed, variable, Slot, columnShape}
+use Rattle.format.specs.Fits.{Fits, RowFits, SheetFits}
+use Rattle.format.specs.Columns.{columns}
+use Rattle.format.specs.Row.{row}
+use Rattle.format.specs.Sheet.{Layout, bits, ended, wide, layout, packed, sheetSlots, turned}
+use Rattle.format.specs.Cleared.{byteOf, pack, clearedSheet}
+use Rattle.format.specs.Entries.{written, sheetRows, encodeCheck, encodeRows, cutRows, rowsSlots, decodedSheet, decodeCheck, decodeSheet}
+use Rattle.bits.proofs.Flags.{byte-small}
+use Rattle.basics.proofs.Bytes.{bytes-append, bytes-drop}
+use Rattle.laws.proofs.Fields.{bytes-row}
+use Rattle.laws.proofs.Sheets.{sheet-fits}
+use Rattle.laws.proofs.Accept.{encoded}
+use Rattle.demands.specs.Raw.{Raw, standing, rawColumn, rawSheet, AllRaw, RawFits}
+use Rattle.demands.proofs.Cleared.{clearedRaws, cleared-raw, raws-fit}
+use Rattle.demands.proofs.Turning.{rows-fit}
+use Rattle.demands.proofs.Accept.{decoded}
+use Rattle.demands.proofs.RowsBack.{read-fits}
+use Rattle.basics.proofs.Lists.{Every}
+
+bytes-joined : (xs : List (List ℕ)) → Every Bytes xs → Bytes (joined xs)
+bytes-joined [] h = tt
+bytes-joined (x ∷ xs) h = bytes-append x (joined xs) (h .0) (bytes-joined xs (h .1))
+
+-- ---- the sheet of raw slots, and so the cleared sheet
+eight-flags : (fs : List Bool) → byteOf (take 8 fs) < 256
+eight-flags fs =
+    let few : length (take 8 fs) ≤ 8 = omega (arith, length-take 8 fs) in
+    omega (arith, byte-small (take 8 fs), pow-le-pow-right {n = 2} (omega arith) few)
+
+pub bytes-pack : (m : ℕ) (fs : List Bool) → Bytes (pack m fs)
+bytes-pack zero fs = tt
+bytes-pack (suc m) fs = (eight-flags fs, bytes-pack m (drop 8 fs))
+
+bytes-low : (n x : ℕ) → Bytes (lowBytes n x)
+bytes-low zero x = tt
+bytes-low (suc n) x = (mod-lt x (lit< tt), bytes-low n (x / 256))
+
+all-low : (es : List ℕ) → Every Bytes (map (lowBytes 4) es)
+all-low [] = tt
+all-low (e ∷ es) = (bytes-low 4 e, all-low es)
+
+-- whatever its slots hold
+standing-bytes : (ly : Layout) (n : ℕ) (xs : List (List ℕ)) → Every Bytes xs → Bytes (standing ly n xs)
+standing-bytes bits n xs h = bytes-pack (packed n) (map (λ x. eqb (getD x 0 0) 1) xs)
+standing-bytes (wide w) n xs h = bytes-joined xs h
+standing-bytes ended n xs h =
+    bytes-append (joined (map (lowBytes 4) (endsFrom 0 xs))) (joined xs)
+    (bytes-joined (map (lowBytes 4) (endsFrom 0 xs)) (all-low (endsFrom 0 xs))) (bytes-joined xs h)
+
+fits-bytes : (sh : Shape) (x : List ℕ) → Fits maxSlot sh x → Bytes x
+fits-bytes (fixed k) x h = h .0
+fits-bytes variable x h = h .0
+
+all-bytes : (sh : Shape) (rs : List Raw) → AllRaw sh rs → Every Bytes (map (λ r. r .bytes) rs)
+all-bytes sh [] h = tt
+all-bytes sh (r ∷ rs) h = (fits-bytes sh (r .bytes) (h .0), all-bytes sh rs (h .1))
+
+raw-bytes : (n : ℕ) (cols : List Column) (rss : List (List Raw)) → RawFits n cols rss → Bytes (rawSheet n cols rss)
+raw-bytes n [] [] h = tt
+raw-bytes n [] (rs ∷ rss) h = absurd h
+raw-bytes n (col ∷ cols) [] h = absurd h
+raw-bytes n (col ∷ cols) (rs ∷ rss) h =
+    bytes-append (rawColumn (layout col) n rs) (rawSheet n cols rss)
+    (bytes-append (pack (packed n) (map (λ r. r .valid) rs)) (standing (layout col) n (map (λ r. r .bytes) rs))
+    (bytes-pack (packed n) (map (λ r. r .valid) rs))
+    (standing-bytes (layout col) n (map (λ r. r .bytes) rs) (all-bytes (columnShape col) rs (h .1))))
+    (raw-bytes n cols rss (h .2))
+
+cleared-bytes : (n : ℕ) (cols : List Column) (sss : List (List Slot)) → SheetFits n cols sss → Bytes (clearedSheet n cols sss)
+cleared-bytes n cols sss h = subst Bytes (sym (cleared-raw n cols sss)) (raw-bytes n cols (clearedRaws cols sss) (raws-fit n cols sss h))
+
+-- ---- the lent buffers at exit
+written-bytes : (m : Check) (new old : List ℕ) → (m ≡ Pass → Bytes new) → Bytes old → Bytes (written m new old)
+written-bytes Pass new old h b = bytes-append new (drop (length new) old) (h refl) (bytes-drop (length new) old b)
+written-bytes (Refuse r) new old h b = b
+
+rows-bytes : (cols : List Column) (yss : List (List Slot)) → Every (RowFits cols) yss → Every Bytes (map (row cols) yss)
+rows-bytes cols [] h = tt
+rows-bytes cols (ys ∷ yss) h = (bytes-row cols ys (h .0), rows-bytes cols yss (h .1))
+
+pub encode-bytes : (list : List ℕ) (n : ℕ) (sheet rows : List ℕ) (offsetRoom : ℕ) → Bytes sheet → Bytes rows → Bytes (encodeRows list n sheet rows offsetRoom)
+unfolding encodeRows
+encode-bytes list n sheet rows offsetRoom b old =
+    written-bytes (encodeCheck list n sheet (length rows) offsetRoom) (joined (sheetRows n cols sheet)) rows new old
+  where
+    cols : List Column
+    cols = columns list
+
+    new : encodeCheck list n sheet (length rows) offsetRoom ≡ Pass → Bytes (joined (sheetRows n cols sheet))
+    new e =
+        let fits = sheet-fits n cols sheet b (encoded list n sheet (length rows) offsetRoom e .1 .passes) in
+        bytes-joined (sheetRows n cols sheet) (rows-bytes cols (turned n (sheetSlots n cols sheet)) (rows-fit n cols (sheetSlots n cols sheet) fits))
+
+pub decode-bytes : (list : List ℕ) (n : ℕ) (bytes offsets sheet : List ℕ) → Bytes bytes → Bytes sheet → Bytes (decodeSheet list n bytes offsets sheet)
+unfolding decodeSheet
+decode-bytes list n bytes offsets sheet b old =
+    written-bytes (decodeCheck list n bytes offsets (length sheet)) (decodedSheet n (columns list) (cutRows n bytes offsets)) sheet new old
+  where
+    new : decodeCheck list n bytes offsets (length sheet) ≡ Pass → Bytes (decodedSheet n (columns list) (cutRows n bytes offsets))
+    new e =
+        cleared-bytes n (columns list) (rowsSlots (columns list) (cutRows n bytes offsets))
+        (read-fits (columns list) n bytes offsets b (decoded list n bytes offsets (length sheet) e .1))

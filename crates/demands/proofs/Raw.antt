@@ -1,0 +1,229 @@
+-- The sheet of raw slots within the limits passes and has the slots that they are, whatever its null slots hold. Assumes nothing.
+use Prim.Native.Nat.{ℕ, zero, suc, _+_, _-_, _*_, _/_, _%_, _^_, _<_, _≤_}
+use mathlib.Core.Path.{_≡_, refl, ap, ap₂, sym, _∙_}
+use mathlib.Core.Bool.{Bool, false}
+use mathlib.Core.List.{List, [], _∷_, _++_, map, append-assoc}
+use native.Mathlib.Nat.{pow-suc, zero-add}
+use native.Mathlib.Omega.{arith}
+use lib.Dec.{eqb, ltb→lt}
+use lib.ListN.{length, getD, take, drop, length-append, length-map, List·getD-map}
+use lib.Seq.{drop-at}
+use borrow.Author.Tests.{eq-eqb}
+use Rattle.format.specs.declared.Check.the-variants.{Pass}
+use Rattle.format.specs.declared.Column.{Column}
+use Rattle.format.specs.Limits.{maxRows, maxSlot}
+use Rattle.format.specs.Lists.{endsFrom, joined, low, lowBytes}
+use Rattle.format.specs.Kinds.{Fixed, bool, plain, number, integer, float, parts, Shape, fixed, variable, Slot, width, columnShape}
+use Rattle.format.specs.Fits.{Fits}
+use Rattle.format.specs.Sheet.{Layout, bits, ended, wide, layoutFor, layout, packed, end, endsFault, valuesFault, valuesBytes, boolByte, valueAt, slotIf, columnFault, columnBytes, slotAt, columnSlots, sheetFaultFrom, sheetFault, sheetSlots}
+use Rattle.format.specs.Passed.{Step}
+use Rattle.format.specs.Cleared.{pack}
+use Rattle.bits.proofs.Bits.{length-pack, bit-before, bits-pass}
+use Rattle.basics.proofs.Lists.{Every, every-at, each-is, length-joined, long-at, endAt, length-ends, end-first, end-next, end-last, end-most, cut-at}
+use Rattle.basics.proofs.Checks.{pass-enough, pass-both}
+use Rattle.laws.proofs.Room.{all-four}
+use Rattle.demands.specs.Raw.{Raw, slotOf, standing, rawColumn, rawSheet, AllRaw, RawFits}
+
+-- ---- the values of a column
+
+-- the bytes of its raw slots fit
+raw-fits : (sh : Shape) (rs : List Raw) → AllRaw sh rs → Every (Fits maxSlot sh) (map (λ r. r .bytes) rs)
+raw-fits sh [] h = tt
+raw-fits sh (r ∷ rs) h = (h .0, raw-fits sh rs (h .1))
+
+-- values before t: nothing is refused, they take their bytes, and each is read back
+record Reads (ly : Layout) (n c : ℕ) (xs : List (List ℕ)) (t : List ℕ) : Type 0 where
+  pub passes : valuesFault ly n c (standing ly n xs ++ t) ≡ Pass
+  pub bytes : valuesBytes ly n (standing ly n xs ++ t) ≡ length (standing ly n xs)
+  pub back : (i : ℕ) → i < n → valueAt ly n (standing ly n xs ++ t) i ≡ getD xs i []
+
+-- a bool
+abbrev isSet : List ℕ → Bool
+isSet x = eqb (getD x 0 0) 1
+
+bool-back : (x : List ℕ) → Fits maxSlot (fixed bool) x → boolByte (isSet x) ≡ x
+bool-back [] h = absurd (h .2)
+bool-back (b ∷ x) h = go b x (ltb→lt b 2 (h .2)) (h .1)
+  where
+    go : (b : ℕ) (x : List ℕ) → b < 2 → length (b ∷ x) ≡ 1 → boolByte (eqb b 1) ≡ b ∷ x
+    go zero [] l e = refl
+    go (suc zero) [] l e = refl
+    go (suc (suc b)) [] l e = absurd (omega arith)
+    go b (y ∷ x) l e = absurd (omega arith)
+
+bools-read : (n c : ℕ) (xs : List (List ℕ)) (t : List ℕ) → length xs ≡ n → Every (Fits maxSlot (fixed bool)) xs → Reads bits n c xs t
+bools-read n c xs t e h = record {
+  passes = bits-pass n c (map isSet xs) t (length-map xs isSet ∙ e);
+  bytes = sym (length-pack (packed n) (map isSet xs));
+  back = λ i l.
+      ap boolByte (bit-before (packed n) (map isSet xs) t i (omega arith) ∙ List·getD-map isSet xs i [])
+      ∙ bool-back (getD xs i []) (every-at (Fits maxSlot (fixed bool)) xs [] i h (omega arith));
+}
+
+-- values of w bytes
+all-long : (k : Fixed) (xs : List (List ℕ)) → Every (Fits maxSlot (fixed k)) xs → Every (λ x. length x ≡ width k) xs
+all-long k [] h = tt
+all-long k (x ∷ xs) h = (h .0 .1, all-long k xs (h .1))
+
+wide-read : (k : Fixed) (n c : ℕ) (xs : List (List ℕ)) (t : List ℕ) → length xs ≡ n → Every (Fits maxSlot (fixed k)) xs → Reads (wide (width k)) n c xs t
+wide-read k n c xs t e h =
+    let len : length (joined xs) ≡ n * width k = length-joined (width k) xs (all-long k xs h) ∙ ap (λ (m : ℕ). m * width k) e in
+    record {
+      passes = pass-enough (length (joined xs ++ t)) (n * width k) _ _ (omega (arith, length-append (joined xs) t)) refl;
+      bytes = sym len;
+      back = λ i l. long-at (width k) xs t i [] (all-long k xs h) (omega arith);
+    }
+
+-- variable bytes: a number that n bytes can spell is read back
+low-lowBytes : (n x : ℕ) → x < 256 ^ n → low (lowBytes n x) ≡ x
+low-lowBytes zero x h = omega arith
+low-lowBytes (suc n) x h = ap (λ (y : ℕ). x % 256 + 256 * y) (low-lowBytes n (x / 256) (omega (arith, pow-suc 256 n))) ∙ omega arith
+
+data-short : (xs : List (List ℕ)) → Every (Fits maxSlot variable) xs → length (joined xs) ≤ length xs * maxSlot
+data-short [] h = omega arith
+data-short (x ∷ xs) h = omega (arith, length-append x (joined xs), data-short xs (h .1), h .0 .1)
+
+ends-pass : (c : ℕ) (s : List ℕ) (i k : ℕ) → ((j : ℕ) → i ≤ j → j < i + k → Step s j) → endsFault c s i k ≡ Pass
+ends-pass c s i zero h = refl
+ends-pass c s i (suc k) h =
+    let now = h i (omega arith) (omega arith) in
+    pass-enough (end s (suc i)) (end s i) _ _ (now .rises)
+    (pass-enough maxSlot (end s (suc i) - end s i) _ _ (now .short) (ends-pass c s (suc i) k (λ j l m. h j (omega arith) (omega arith))))
+
+module _ (n c : ℕ) (xs : List (List ℕ)) (t : List ℕ) (many : length xs ≡ n) (few : n ≤ maxRows) (h : Every (Fits maxSlot variable) xs) where
+  abbrev ends : List (List ℕ)
+  ends = map (lowBytes 4) (endsFrom 0 xs)
+
+  abbrev s : List ℕ
+  s = joined ends ++ joined xs ++ t
+
+  count : length ends ≡ suc n
+  count = length-map (endsFrom 0 xs) (lowBytes 4) ∙ length-ends 0 xs ∙ ap suc many
+
+  front : length (joined ends) ≡ 4 * suc n
+  front = length-joined 4 ends (all-four (endsFrom 0 xs)) ∙ omega (arith, count)
+
+  end-is : (i : ℕ) → i ≤ n → end s i ≡ endAt 0 xs i
+  end-is i l =
+      let p : 4 * i ≡ i * 4 = omega arith in
+      let m : endAt 0 xs i < 256 ^ 4 = omega (arith, end-most 0 xs i (omega (arith, many)), data-short xs h) in
+      ap₂ {C = ℕ} (λ (j : ℕ) (z : List ℕ). low (take 4 (drop j z))) p (append-assoc (joined ends) (joined xs) t)
+      ∙ ap low (long-at 4 ends (joined xs ++ t) i (lowBytes 4 0) (all-four (endsFrom 0 xs)) (omega (arith, count))
+      ∙ List·getD-map (lowBytes 4) (endsFrom 0 xs) i 0)
+      ∙ low-lowBytes 4 (endAt 0 xs i) m
+
+  step-is : (i : ℕ) → i < n → Step s i
+  step-is i l =
+      let fits = every-at (Fits maxSlot variable) xs [] i h (omega arith) in
+      let short = fits .1 in
+      let d = end-next 0 xs i (omega arith) in
+      let a = end-is i (omega arith) in
+      let b = end-is (suc i) l in
+      record { rises = omega arith; short = omega arith }
+
+  after : drop (4 * suc n) s ≡ joined xs ++ t
+  after = ap (drop (4 * suc n)) (append-assoc (joined ends) (joined xs) t) ∙ drop-at (joined ends) (joined xs ++ t) (4 * suc n) front
+
+  last : end s n ≡ length (joined xs)
+  last = end-is n (omega arith) ∙ ap (endAt 0 xs) (sym many) ∙ end-last 0 xs ∙ zero-add (length (joined xs))
+
+  total : length s ≡ 4 * suc n + length (joined xs) + length t
+  total = omega (arith, length-append (joined ends ++ joined xs) t, length-append (joined ends) (joined xs), front)
+
+  ended-read : Reads ended n c xs t
+  ended-read = record {
+    passes =
+        pass-enough (length s) (4 * suc n) _ _ (omega (arith, total))
+        (rw (eq-eqb (end s 0) 0 (end-is 0 (omega arith) ∙ end-first 0 xs))
+        (pass-both (endsFault c s 0 n) _ (ends-pass c s 0 n (λ j a b. step-is j (omega arith)))
+        (pass-enough (length s) (4 * suc n + end s n) _ _ (omega (arith, total, last)) refl)));
+    bytes = omega (arith, last, front, length-append (joined ends) (joined xs));
+    back = λ i l.
+        ap (λ (z : List ℕ). take (end s (suc i) - end s i) (drop (end s i) z)) after
+        ∙ ap₂ {C = List ℕ} (λ (a b : ℕ). take (a - b) (drop b (joined xs ++ t))) (end-is (suc i) l) (end-is i (omega arith))
+        ∙ cut-at xs t i (omega arith);
+  }
+
+values-read : (sh : Shape) (n c : ℕ) (xs : List (List ℕ)) (t : List ℕ) → n ≤ maxRows → length xs ≡ n → Every (Fits maxSlot sh) xs
+    → Reads (layoutFor sh) n c xs t
+values-read (fixed bool) n c xs t few e h = bools-read n c xs t e h
+values-read (fixed (plain w)) n c xs t few e h = wide-read (plain w) n c xs t e h
+values-read (fixed (number w)) n c xs t few e h = wide-read (number w) n c xs t e h
+values-read (fixed (integer w)) n c xs t few e h = wide-read (integer w) n c xs t e h
+values-read (fixed (float w)) n c xs t few e h = wide-read (float w) n c xs t e h
+values-read (fixed (parts ws)) n c xs t few e h = wide-read (parts ws) n c xs t e h
+values-read variable n c xs t few e h = ended-read n c xs t e few h
+
+-- ---- a column
+module _ (sh : Shape) (n c : ℕ) (rs : List Raw) (t : List ℕ) (few : n ≤ maxRows) (e : length rs ≡ n) (h : AllRaw sh rs) where
+  abbrev ly : Layout
+  ly = layoutFor sh
+
+  abbrev flags : List Bool
+  flags = map (λ r. r .valid) rs
+
+  abbrev xs : List (List ℕ)
+  xs = map (λ r. r .bytes) rs
+
+  r : Reads (layoutFor sh) n c (map (λ r. r .bytes) rs) t
+  r = values-read sh n c xs t few (length-map rs _ ∙ e) (raw-fits sh rs h)
+
+  abbrev p : List ℕ
+  p = pack (packed n) flags
+
+  abbrev q : List ℕ
+  q = standing ly n xs ++ t
+
+  split : rawColumn ly n rs ++ t ≡ p ++ q
+  split = append-assoc p (standing ly n xs) t
+
+  rest : drop (packed n) (p ++ q) ≡ q
+  rest = drop-at p q (packed n) (length-pack (packed n) flags)
+
+  column-bytes : columnBytes ly n (rawColumn ly n rs ++ t) ≡ length (rawColumn ly n rs)
+  column-bytes = rw split (rw rest (omega (arith, r .bytes, length-append p (standing ly n xs), length-pack (packed n) flags)))
+
+  column-passes : columnFault ly n c (rawColumn ly n rs ++ t) ≡ Pass
+  column-passes = rw split (rw (bits-pass n c flags q (length-map rs _ ∙ e)) (rw rest (r .passes)))
+
+  -- past the column
+  column-past : drop (columnBytes ly n (rawColumn ly n rs ++ t)) (rawColumn ly n rs ++ t) ≡ t
+  column-past = drop-at (rawColumn ly n rs) t (columnBytes ly n (rawColumn ly n rs ++ t)) (sym column-bytes)
+
+  slot-is : (i : ℕ) → i < n → slotAt ly n (p ++ q) i ≡ getD (map slotOf rs) i (slotIf false [])
+  slot-is i l =
+      let none : Raw = record { valid = false; bytes = [] } in
+      ap₂ (λ (b : Bool) (z : List ℕ). slotIf b (valueAt ly n z i))
+      (bit-before (packed n) flags q i (omega arith) ∙ List·getD-map (λ (r : Raw). r .valid) rs i none) rest
+      ∙ ap (slotIf (getD rs i none .valid)) (r .back i l ∙ List·getD-map (λ (r : Raw). r .bytes) rs i none)
+      ∙ sym (List·getD-map slotOf rs i none)
+
+  column-slots : columnSlots ly n (rawColumn ly n rs ++ t) ≡ map slotOf rs
+  column-slots = rw split (each-is (map slotOf rs) (slotIf false []) n (slotAt ly n (p ++ q)) (length-map rs slotOf ∙ e) slot-is)
+
+-- ---- the sheet
+passes-from : (n c at : ℕ) (cols : List Column) (rss : List (List Raw)) → n ≤ maxRows → RawFits n cols rss
+    → sheetFaultFrom n c at cols (rawSheet n cols rss) ≡ Pass
+passes-from n c at [] [] few h = refl
+passes-from n c at [] (rs ∷ rss) few h = absurd h
+passes-from n c at (col ∷ cols) [] few h = absurd h
+passes-from n c at (col ∷ cols) (rs ∷ rss) few h =
+    let t : List ℕ = rawSheet n cols rss in
+    let k : ℕ = columnBytes (layout col) n (rawColumn (layout col) n rs ++ t) in
+    pass-both (columnFault (layout col) n c (rawColumn (layout col) n rs ++ t)) _ (column-passes (columnShape col) n c rs t few (h .0) (h .1))
+    (ap (sheetFaultFrom n (suc c) (at + k) cols) (column-past (columnShape col) n c rs t few (h .0) (h .1))
+    ∙ passes-from n (suc c) (at + k) cols rss few (h .2))
+
+pub raw-passes : (n : ℕ) (cols : List Column) (rss : List (List Raw)) → n ≤ maxRows → RawFits n cols rss → sheetFault n cols (rawSheet n cols rss) ≡ Pass
+unfolding sheetFault
+raw-passes n cols rss few h = passes-from n 0 0 cols rss few h
+
+pub raw-slots : (n : ℕ) (cols : List Column) (rss : List (List Raw)) → n ≤ maxRows → RawFits n cols rss
+    → sheetSlots n cols (rawSheet n cols rss) ≡ map (map slotOf) rss
+raw-slots n [] [] few h = refl
+raw-slots n [] (rs ∷ rss) few h = absurd h
+raw-slots n (col ∷ cols) [] few h = absurd h
+raw-slots n (col ∷ cols) (rs ∷ rss) few h =
+    let t : List ℕ = rawSheet n cols rss in
+    ap₂ {C = List (List Slot)} (λ x y. x ∷ y) (column-slots (columnShape col) n 0 rs t few (h .0) (h .1))
+    (ap (sheetSlots n cols) (column-past (columnShape col) n 0 rs t few (h .0) (h .1)) ∙ raw-slots n cols rss few (h .2))

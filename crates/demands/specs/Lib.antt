@@ -1,0 +1,5 @@
+-- What the demands say beside crate format's definitions.
+pub mod Table
+pub mod Raw
+pub mod RoundTrip
+pub mod Order

@@ -1,0 +1,8 @@
+-- What the proofs of the functions share.
+pub mod Scan
+pub mod Reading
+pub mod Standing
+pub mod Beside
+pub mod Taking
+pub mod Parts
+pub mod DecodeArms

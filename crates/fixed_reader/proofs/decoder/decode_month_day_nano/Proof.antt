@@ -1,0 +1,36 @@
+-- `fixed_reader::decoder::decode_month_day_nano` meets its contract: the parts are written one after the other. Assumes nothing.
+use Prim.Native.Nat.{_+_}
+use mathlib.Core.Path.{refl}
+use mathlib.Core.List.{[], _∷_}
+use native.Mathlib.Omega.{arith}
+use borrow.Author.Needs.{needs}
+use Rattle.basics.proofs.Append.{walk-start}
+use Rattle.fixed_reader.proofs.Parts.{unkeyed, parts-more, parts-end}
+use Rattle.fixed_reader.proofs.decoder.decode_month_day_nano.Statement.{statement}
+use Rattle.fixed_reader.proofs.decoder.decode_month_day_nano.Tie as tie
+
+returns : tie.Need-returns
+returns c =
+    let at-third = c .before .before in
+    let at-second = at-third .before .before .before .before in
+    let at-first = at-second .before .before .before .before in
+    let A = at-first .before .before .before .before .args in
+    let d = A .descending in
+    let s = A .row .now in
+    let one = parts-more d s 4 (4 ∷ 8 ∷ []) 16 1 5 (omega arith) refl (omega arith) _ (A .at + 4)
+    (walk-start (unkeyed d s (4 ∷ 4 ∷ 8 ∷ []) 16 1) (A .out .now) (A .at)) (at-first .take-number32 .ensures) refl in
+    let two = parts-more d s 4 (8 ∷ []) 12 5 9 (omega arith) refl (omega arith) _ (A .at + 8) one (at-second .take-number322 .ensures) (omega arith) in
+    let three = parts-more d s 8 [] 8 9 17 (omega arith) refl (omega arith) _ (A .at + 16) two (at-third .take-number64 .ensures) (omega arith) in
+    parts-end d s 0 17 three
+
+pub decode-month-day-nano-spec : {M : Type 1} → statement M
+decode-month-day-nano-spec =
+    tie.close
+    (tie.spec
+    (λ c κs. search needs)
+    (λ c. search needs)
+    (λ c κs. search needs)
+    (λ c. search needs)
+    (λ c κs. search needs)
+    (λ c. search needs)
+    returns)

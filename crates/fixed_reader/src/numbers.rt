@@ -1,0 +1,87 @@
+// The number whose value bytes stand at a place of a row, as its bytes in the sheet. The parts of an interval are such.
+ghost use mathlib.Core.Path.{_≡_};
+ghost use Prim.Native.Nat.{_+_, _≤_};
+ghost use lib.ListN.{length, take, drop};
+ghost use lib.Seq.{sets};
+ghost use Rattle.format.specs.Field.{directed};
+ghost use Rattle.number.specs.declared.Coding.the-variants.{Float};
+ghost use Rattle.number.specs.Codings.{codingUnkey};
+use number::Coding;
+use number::decode8;
+use number::decode16;
+use number::decode32;
+use number::decode64;
+use number::directed8;
+use number::directed16;
+use number::directed32;
+use number::directed64;
+use number::low16;
+use number::low32;
+use number::low64;
+use number::put16;
+use number::put32;
+use number::put64;
+
+pub fn take_number8(
+    out: &mut [u8],
+    at: usize,
+    row: &[u8],
+    from: usize,
+    coding: Coding,
+    descending: bool,
+)
+    requires { ⌜ (coding ≡ Float → ⊥) ⌝ }
+    requires { ⌜ from + 1 ≤ length (now row) ⌝ }
+    requires { ⌜ at + 1 ≤ length (now out) ⌝ }
+    ensures { λ _. ⌜ now (out .exit) ≡ sets (now (out .entry)) at (codingUnkey coding (directed descending (take 1 (drop from (now (row .entry)))))) ⌝ }
+{
+    out[at] = decode8(coding, directed8(descending, row[from]));
+}
+
+pub fn take_number16(
+    out: &mut [u8],
+    at: usize,
+    row: &[u8],
+    from: usize,
+    coding: Coding,
+    descending: bool,
+)
+    requires { ⌜ from + 2 ≤ length (now row) ⌝ }
+    requires { ⌜ at + 2 ≤ length (now out) ⌝ }
+    ensures { λ _. ⌜ now (out .exit) ≡ sets (now (out .entry)) at (codingUnkey coding (directed descending (take 2 (drop from (now (row .entry)))))) ⌝ }
+{
+    let word = directed16(descending, low16(row, from));
+    put16(out, at, decode16(coding, word));
+}
+
+pub fn take_number32(
+    out: &mut [u8],
+    at: usize,
+    row: &[u8],
+    from: usize,
+    coding: Coding,
+    descending: bool,
+)
+    requires { ⌜ from + 4 ≤ length (now row) ⌝ }
+    requires { ⌜ at + 4 ≤ length (now out) ⌝ }
+    ensures { λ _. ⌜ now (out .exit) ≡ sets (now (out .entry)) at (codingUnkey coding (directed descending (take 4 (drop from (now (row .entry)))))) ⌝ }
+{
+    let word = directed32(descending, low32(row, from));
+    put32(out, at, decode32(coding, word));
+}
+
+pub fn take_number64(
+    out: &mut [u8],
+    at: usize,
+    row: &[u8],
+    from: usize,
+    coding: Coding,
+    descending: bool,
+)
+    requires { ⌜ from + 8 ≤ length (now row) ⌝ }
+    requires { ⌜ at + 8 ≤ length (now out) ⌝ }
+    ensures { λ _. ⌜ now (out .exit) ≡ sets (now (out .entry)) at (codingUnkey coding (directed descending (take 8 (drop from (now (row .entry)))))) ⌝ }
+{
+    let word = directed64(descending, low64(row, from));
+    put64(out, at, decode64(coding, word));
+}

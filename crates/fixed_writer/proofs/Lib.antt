@@ -1,0 +1,4 @@
+-- What the proofs of the functions share.
+pub mod Writing
+pub mod Parts
+pub mod EncodeArms

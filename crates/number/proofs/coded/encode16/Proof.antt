@@ -1,0 +1,34 @@
+-- `number::coded::encode16` meets its contract: the law of each coding. Assumes nothing.
+use borrow.Author.Needs.{needs}
+use mir.Syntax.{w16}
+use Rattle.number.proofs.Codecs.{encode-s}
+use Rattle.number.proofs.coded.encode16.Statement.{statement}
+use Rattle.number.proofs.coded.encode16.Tie as tie
+
+returns-unsigned : tie.Need-returns
+returns-unsigned c = let at-arm = c .before in rw (at-arm .enum-told .given .1) (c .swap16 .ensures)
+
+returns-signed : tie.Need-returns-2
+returns-signed c =
+    let at-signed = c .before in
+    let at-arm = at-signed .before in
+    let at-start = at-arm .before .before in
+    rw (at-arm .enum-told2 .given .1) (encode-s w16 (at-start .args .x) _ _ (at-start .fits .x) (at-signed .signed16 .ensures) (c .encode-i16 .ensures))
+
+returns-float : tie.Need-returns-3
+returns-float c = let at-arm = c .before in rw (at-arm .enum-told3 .given .1) (c .encode-f16 .ensures)
+
+pub encode16-spec : {M : Type 1} → statement M
+encode16-spec =
+    tie.close
+    (tie.spec
+    (λ c. search needs)
+    (λ c κs. search needs)
+    (λ c. search needs)
+    (λ c κs. search needs)
+    (λ c κs. search needs)
+    (λ c. search needs)
+    (λ c κs. search needs)
+    returns-unsigned
+    returns-signed
+    returns-float)

@@ -1,2 +1,0 @@
--- What the promises of this crate cite beside crate format's definitions.
-pub mod Put

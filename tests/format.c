@@ -1,0 +1,495 @@
+/* Runs the examples of a page, docs/FORMAT.md, through the C entries and, where they fit its input, through the program `rows`:
+ *
+ *   format PAGE ROWS
+ *
+ * The page's last section says what an example is. It is a fault, too, if the page has no example; if a number in its table of refusals,
+ * or a kind in its table of kinds, has none; or if a field that is drawn above an example stands in none of its rows.
+ */
+#define _POSIX_C_SOURCE 200809L
+#include <ctype.h>
+#include <inttypes.h>
+#include <stdarg.h>
+#include <stdbool.h>
+#include <stdio.h>
+#include <stdlib.h>
+#include <string.h>
+#include <sys/wait.h>
+#include <unistd.h>
+
+#include "station.h"
+
+enum {
+    NUMBERS = STATION_ANSWER_BYTES / 8,
+    MOST_ROWS = 64,     /* in an example */
+    MOST_DRAWN = 64,    /* fields drawn above an example */
+    CODES = 256,        /* refusals and kinds are below it */
+    FILL = 0xEE,        /* what lent buffers hold before */
+    ROOM = 1 << 16,     /* lent where a refusal is to be seen */
+    INPUT_ROOM = 32768, /* of the program, for its input and for rows */
+};
+
+/* The words of an example. Those up to INPUT have bytes for a value, which may go on in the next line. */
+enum word {
+    LIST, SHEET, CLEARED, ROW, INPUT,
+    N, OFFSETS, ROW_ROOM, OFFSET_ROOM, SHEET_ROOM, REFUSED, CHECK, MEASURE, ENCODE, DECODE, COMPARE, PRINTS,
+    WORDS,
+};
+static const char *const NAMES[WORDS] = {
+    "list", "sheet", "cleared", "row", "input",
+    "n", "offsets", "row-room", "offset-room", "sheet-room", "refused", "check", "measure", "encode", "decode", "compare", "prints",
+};
+
+struct bytes {
+    uint8_t *at; /* never null once something was put or reserved */
+    size_t len, room;
+};
+
+/* The example at hand: the line that it begins in, what it says of each word, and where each of its rows ends. */
+static struct {
+    size_t line;
+    enum word word;
+    bool has[WORDS];
+    struct bytes value[WORDS];
+    size_t rows;
+    uint64_t ends[MOST_ROWS + 1];
+} ex;
+
+/* Fields drawn since the last example. */
+static struct bytes drawn[MOST_DRAWN];
+static size_t drawn_count;
+
+static const char *page, *program;
+static size_t line_number;
+static unsigned examples, faults;
+static bool refusal_listed[CODES], refusal_seen[CODES], kind_listed[CODES], kind_seen[CODES];
+
+static void fault(size_t line, const char *form, ...) {
+    va_list rest;
+    va_start(rest, form);
+    printf("%s:%zu: ", page, line);
+    vprintf(form, rest);
+    printf("\n");
+    va_end(rest);
+    faults++;
+}
+
+/* ---- bytes */
+
+static void reserve(struct bytes *b, size_t more) {
+    if (b->len + more < b->room) return;
+    b->room = 2 * (b->len + more) + 16;
+    b->at = realloc(b->at, b->room);
+    if (!b->at) abort();
+}
+
+static void put(struct bytes *b, const void *from, size_t len) {
+    reserve(b, len);
+    memcpy(b->at + b->len, from, len);
+    b->len += len;
+}
+
+/* A number in so many bytes, low byte first. */
+static void put_low(struct bytes *b, uint64_t number, size_t count) {
+    for (size_t i = 0; i < count; i++) put(b, &(uint8_t){number >> 8 * i}, 1);
+}
+
+/* The bytes from `from` on once more, so often. */
+static void put_again(struct bytes *b, size_t from, unsigned long times) {
+    size_t len = b->len - from;
+    reserve(b, times * len);
+    for (; times > 0; times--) put(b, b->at + from, len);
+}
+
+static struct bytes filled(size_t len) {
+    struct bytes b = {0};
+    reserve(&b, len);
+    memset(b.at, FILL, len);
+    b.len = len;
+    return b;
+}
+
+static bool same(struct bytes a, struct bytes b) { return a.len == b.len && memcmp(a.at, b.at, a.len) == 0; }
+
+static bool untouched(struct bytes b) {
+    size_t i = 0;
+    while (i < b.len && b.at[i] == FILL) i++;
+    return i == b.len;
+}
+
+static bool within(struct bytes part, struct bytes whole) {
+    for (size_t at = 0; at + part.len <= whole.len; at++)
+        if (memcmp(whole.at + at, part.at, part.len) == 0) return true;
+    return false;
+}
+
+static bool is_byte(const char *s) { return isxdigit((unsigned char)s[0]) && isxdigit((unsigned char)s[1]); }
+
+static void put_hex(struct bytes *b, const char *s) {
+    char digits[3] = {s[0], s[1], 0};
+    put_low(b, strtoul(digits, NULL, 16), 1);
+}
+
+/* Bytes as the page writes them: two hex digits each, `61*8` eight of one, `(61*8 FF)*4` four of a run. Answers where it stopped: the
+ * end, or what is no byte. */
+static const char *read_bytes(const char *s, struct bytes *out) {
+    for (;;) {
+        while (*s == ' ') s++;
+        size_t from = out->len;
+        if (*s == '(') {
+            s = read_bytes(s + 1, out);
+            if (*s != ')') return s;
+            s++;
+        } else if (is_byte(s)) {
+            put_hex(out, s);
+            s += 2;
+        } else {
+            return s;
+        }
+        if (*s == '*') {
+            char *end;
+            unsigned long times = strtoul(s + 1, &end, 10);
+            if (times == 0) return s;
+            put_again(out, from, times - 1);
+            s = end;
+        }
+    }
+}
+
+/* ---- what the example says */
+
+static const char *text(enum word word) { return (const char *)ex.value[word].at; }
+
+static uint64_t number(enum word word, uint64_t otherwise) { return ex.has[word] ? strtoull(text(word), NULL, 10) : otherwise; }
+
+/* The offsets, as they are given or as the rows have them, eight bytes each. */
+static struct bytes offsets(void) {
+    struct bytes b = filled(0);
+    if (!ex.has[OFFSETS])
+        for (size_t i = 0; i <= ex.rows; i++) put_low(&b, ex.ends[i], 8);
+    char *end;
+    for (const char *s = text(OFFSETS); ex.has[OFFSETS] && *s; s = end) {
+        put_low(&b, strtoull(s, &end, 10), 8);
+        if (end == s) {
+            fault(ex.line, "not offsets: %s", s);
+            break;
+        }
+    }
+    return b;
+}
+
+/* ---- what the entries answer */
+
+static uint64_t eight(const uint8_t *bytes) {
+    uint64_t x = 0;
+    for (size_t i = 8; i > 0; i--) x = x << 8 | bytes[i - 1];
+    return x;
+}
+
+/* The answer must be what the example has for the entry, or for a refusal; where it has neither, 0 and the total. */
+static void judge(enum word entry, const uint8_t *answer, uint64_t total) {
+    char got[NUMBERS * 21 + 1], done[32];
+    size_t len = 0;
+    for (size_t i = 0; i < NUMBERS; i++) len += sprintf(got + len, i ? " %" PRIu64 : "%" PRIu64, eight(answer + 8 * i));
+    sprintf(done, "0 %" PRIu64 " ", total);
+    enum word said = ex.has[entry] ? entry : REFUSED;
+    if (ex.has[said] ? strcmp(got, text(said)) != 0 : strncmp(got, done, strlen(done)) != 0)
+        fault(ex.line, "%s answers %s, and not %s", NAMES[entry], got, ex.has[said] ? text(said) : done);
+}
+
+static void try_list(void) {
+    struct bytes list = ex.value[LIST];
+    uint8_t answer[STATION_ANSWER_BYTES];
+    station_check_list(list.at, list.len, answer, sizeof answer);
+    if (ex.has[CHECK] || !(ex.has[SHEET] || ex.has[ROW])) judge(CHECK, answer, 0);
+    if (ex.has[REFUSED]) return;
+    for (size_t i = 0; i < list.len; i += list.at[i] == 15 ? 4 : 2) kind_seen[list.at[i]] = true;
+}
+
+static void try_encode(void) {
+    struct bytes list = ex.value[LIST], sheet = ex.value[SHEET];
+    uint64_t n = number(N, 0);
+    uint8_t answer[STATION_ANSWER_BYTES];
+    if (!ex.has[ROW_ROOM] && !ex.has[OFFSET_ROOM]) {
+        station_measure(list.at, list.len, n, sheet.at, sheet.len, answer, sizeof answer);
+        judge(MEASURE, answer, ex.value[ROW].len);
+    }
+    struct bytes rows = filled(number(ROW_ROOM, ex.has[REFUSED] ? ROOM : ex.value[ROW].len));
+    struct bytes ends = filled(8 * number(OFFSET_ROOM, ex.rows + 1)), right = offsets();
+    station_encode(list.at, list.len, n, sheet.at, sheet.len, rows.at, rows.len, ends.at, ends.len, answer, sizeof answer);
+    judge(ENCODE, answer, ex.value[ROW].len);
+    if (ex.has[REFUSED] && !(untouched(rows) && untouched(ends))) fault(ex.line, "encode refuses and writes");
+    if (!ex.has[REFUSED] && !same(rows, ex.value[ROW])) fault(ex.line, "encode writes other rows");
+    if (!ex.has[REFUSED] && !same(ends, right)) fault(ex.line, "encode writes other offsets");
+    free(rows.at);
+    free(ends.at);
+    free(right.at);
+}
+
+static void try_decode(void) {
+    struct bytes list = ex.value[LIST], rows = ex.value[ROW], ends = offsets();
+    struct bytes right = ex.value[ex.has[CLEARED] ? CLEARED : SHEET];
+    struct bytes sheet = filled(number(SHEET_ROOM, ex.has[REFUSED] ? ROOM : right.len));
+    uint8_t answer[STATION_ANSWER_BYTES];
+    station_decode(list.at, list.len, number(N, ex.rows), rows.at, rows.len, ends.at, ends.len, sheet.at, sheet.len, answer,
+                   sizeof answer);
+    judge(DECODE, answer, right.len);
+    if (ex.has[REFUSED] && !untouched(sheet)) fault(ex.line, "decode refuses and writes");
+    if (!ex.has[REFUSED] && !same(sheet, right)) fault(ex.line, "decode writes another sheet");
+    free(sheet.at);
+    free(ends.at);
+}
+
+/* One of < = > for each row and the next. */
+static void try_compare(void) {
+    const char *s = text(COMPARE);
+    for (size_t i = 0; i + 1 < ex.rows; i++) {
+        const uint8_t *a = ex.value[ROW].at + ex.ends[i], *b = ex.value[ROW].at + ex.ends[i + 1];
+        int32_t sign = station_compare(a, ex.ends[i + 1] - ex.ends[i], b, ex.ends[i + 2] - ex.ends[i + 1]);
+        if (*s != "<=>"[sign + 1]) fault(ex.line, "rows %zu and %zu compare as %" PRId32, i, i + 1, sign);
+        if (*s) s++;
+        while (*s == ' ') s++;
+    }
+    if (*s) fault(ex.line, "more signs than neighbours");
+}
+
+/* ---- the program */
+
+/* What the program prints, given this input. */
+static struct bytes printed(struct bytes input) {
+    FILE *in = tmpfile();
+    int out[2], status;
+    if (!in || fwrite(input.at, 1, input.len, in) != input.len || fflush(in) || pipe(out)) abort();
+    rewind(in);
+    pid_t child = fork();
+    if (child < 0) abort();
+    if (child == 0) {
+        dup2(fileno(in), STDIN_FILENO);
+        dup2(out[1], STDOUT_FILENO);
+        close(out[0]);
+        close(out[1]);
+        execl(program, program, (char *)NULL);
+        _exit(127);
+    }
+    close(out[1]);
+    fclose(in);
+    struct bytes got = filled(0);
+    uint8_t piece[4096];
+    for (ssize_t len; (len = read(out[0], piece, sizeof piece)) > 0;) put(&got, piece, len);
+    close(out[0]);
+    if (waitpid(child, &status, 0) < 0 || status != 0) fault(ex.line, "%s ends with status %d", program, status);
+    return got;
+}
+
+static void try_program(struct bytes input, struct bytes right) {
+    struct bytes got = printed(input);
+    if (!same(got, right))
+        fault(ex.line, "%s prints\n%.*sand not\n%.*s", program, (int)got.len, (char *)got.at, (int)right.len, (char *)right.at);
+    free(got.at);
+}
+
+/* The example as the program's input and output: list length, list, row count, sheet; the refusal, or each row in hex. */
+static void try_rows(void) {
+    struct bytes in = filled(0), out = filled(0);
+    put_low(&in, ex.value[LIST].len, 2);
+    put(&in, ex.value[LIST].at, ex.value[LIST].len);
+    put_low(&in, number(N, 0), 2);
+    put(&in, ex.value[SHEET].at, ex.value[SHEET].len);
+    if (ex.has[REFUSED]) {
+        put(&out, "refused ", 8);
+        put(&out, text(REFUSED), ex.value[REFUSED].len);
+        put(&out, "\n", 1);
+    }
+    for (size_t i = 0, row = 0; row < ex.rows; row++) {
+        for (char digits[3]; i < ex.ends[row + 1]; i++) put(&out, digits, sprintf(digits, "%02x", ex.value[ROW].at[i]));
+        put(&out, "\n", 1);
+    }
+    if (in.len <= INPUT_ROOM && ex.value[ROW].len <= INPUT_ROOM) try_program(in, out);
+    free(in.at);
+    free(out.at);
+}
+
+/* ---- the page */
+
+static void begin(void) {
+    ex.line = 0;
+    ex.word = WORDS;
+    ex.rows = 0;
+    ex.ends[0] = 0;
+    for (enum word word = 0; word < WORDS; word++) {
+        ex.has[word] = false;
+        ex.value[word].len = 0;
+        put(&ex.value[word], "", 1);
+        ex.value[word].len = 0;
+    }
+}
+
+/* The example has been read: tries all that it says, and begins the next. */
+static void finish(void) {
+    if (ex.line == 0) return;
+    examples++;
+    bool refused = ex.has[REFUSED], room = ex.has[ROW_ROOM] || ex.has[OFFSET_ROOM];
+    if (refused) refusal_seen[number(REFUSED, 0) % CODES] = true;
+    if (ex.has[PRINTS] && strncmp(text(PRINTS), "refused ", 8) == 0) refusal_seen[atoi(text(PRINTS) + 8) % CODES] = true;
+    if (ex.has[SHEET] && !ex.has[N]) fault(ex.line, "a sheet without its row count");
+    if (ex.has[SHEET] && ex.has[ROW] && refused) fault(ex.line, "rows of a sheet that is refused");
+    if (!ex.has[LIST] && !ex.has[COMPARE] && !ex.has[INPUT]) fault(ex.line, "nothing to try");
+    if (ex.has[LIST]) try_list();
+    if (ex.has[LIST] && ex.has[SHEET]) try_encode();
+    if (ex.has[LIST] && ex.has[SHEET] && !room) try_rows();
+    if (ex.has[LIST] && (ex.has[ROW] || (ex.has[SHEET] && !refused))) try_decode();
+    if (ex.has[COMPARE]) try_compare();
+    if (ex.has[INPUT]) try_program(ex.value[INPUT], ex.value[PRINTS]);
+    for (; drawn_count > 0; drawn_count--)
+        if (!within(drawn[drawn_count - 1], ex.value[ROW])) fault(ex.line, "field %zu drawn above stands in no row", drawn_count);
+    begin();
+}
+
+static size_t word_length(const char *s) { return strcspn(s, " "); }
+
+/* The word of an example that stands here. */
+static enum word word_at(const char *s) {
+    enum word word = 0;
+    while (word < WORDS && (strlen(NAMES[word]) != word_length(s) || strncmp(s, NAMES[word], word_length(s)) != 0)) word++;
+    return word;
+}
+
+/* Where the value that stands here ends: at the next word of an example, or with the line. */
+static const char *value_end(const char *s) {
+    while (*s && word_at(s) == WORDS) {
+        s += word_length(s);
+        s += strspn(s, " ");
+    }
+    return s;
+}
+
+/* The value of the word at hand, from s up to its end. */
+static void read_value(const char *s, const char *end) {
+    while (end > s && end[-1] == ' ') end--;
+    char *said = strndup(s, end - s);
+    struct bytes *value = &ex.value[ex.word];
+    if (ex.word <= INPUT) {
+        const char *stop = read_bytes(said, value);
+        if (*stop) fault(line_number, "not bytes: %s", stop);
+    } else {
+        put(value, said, end - s);
+        if (ex.word == PRINTS) put(value, "\n", 1);
+        put(value, "", 1);
+        value->len--;
+    }
+    ex.ends[ex.rows] = ex.value[ROW].len;
+    free(said);
+}
+
+/* A line of an example: words, each with its value. A line that begins with a space goes on with the bytes of the one above; `prints`
+ * has the rest of its line, and `refused` ends the example. */
+static void read_line(char *line) {
+    line[strcspn(line, "#")] = 0;
+    const char *s = line + strspn(line, " "), *end = value_end(s);
+    if (*s == 0) return;
+    if (ex.line == 0) ex.line = line_number;
+    if (end > s) {
+        if (ex.word <= INPUT) read_value(s, end);
+        else fault(line_number, "not a line of an example: %s", s);
+    }
+    while (*end) {
+        ex.word = word_at(end);
+        if (ex.has[ex.word] && ex.word != ROW && ex.word != PRINTS) fault(line_number, "%s stands twice", NAMES[ex.word]);
+        ex.has[ex.word] = true;
+        if (ex.word == ROW && ex.rows++ == MOST_ROWS) abort();
+        s = end + word_length(end);
+        s += strspn(s, " ");
+        end = ex.word == PRINTS ? s + strlen(s) : value_end(s);
+        read_value(s, end);
+        if (ex.word == REFUSED) finish();
+    }
+}
+
+/* Fields that are drawn on a line, as 01|80 00 00 01. */
+static void read_drawn(const char *s) {
+    while (*s) {
+        if (!is_byte(s) || s[2] != '|' || !is_byte(s + 3)) {
+            s++;
+            continue;
+        }
+        if (drawn_count == MOST_DRAWN) abort();
+        struct bytes *field = &drawn[drawn_count++];
+        field->len = 0;
+        put_hex(field, s);
+        for (s += 2; (*s == '|' || *s == ' ') && is_byte(s + 1); s += 3) put_hex(field, s + 1);
+    }
+}
+
+/* The numbers in the first cell of a table's line. */
+static void read_cell(const char *line, bool *listed) {
+    for (const char *s = line + 1; *s && *s != '|'; s++) {
+        char *end;
+        if (!isdigit((unsigned char)*s)) continue;
+        listed[strtoul(s, &end, 10) % CODES] = true;
+        s = end - 1;
+    }
+}
+
+/* A line outside of examples. */
+static void read_prose(const char *line) {
+    static bool *listed;
+    if (strncmp(line, "| no. |", 7) == 0) listed = refusal_listed;
+    else if (strncmp(line, "| kind |", 8) == 0) listed = kind_listed;
+    else if (*line != '|') listed = NULL;
+    else if (listed) read_cell(line, listed);
+    if (*line == ' ') read_drawn(line);
+}
+
+static void read_page(FILE *file) {
+    char *line = NULL;
+    size_t room = 0;
+    bool inside = false;
+    begin();
+    for (line_number = 1; getline(&line, &room, file) >= 0; line_number++) {
+        line[strcspn(line, "\n")] = 0;
+        if (!inside && strcmp(line, "```example") == 0) {
+            inside = true;
+        } else if (inside && strcmp(line, "```") == 0) {
+            finish();
+            inside = false;
+        } else if (inside) {
+            read_line(line);
+        } else {
+            read_prose(line);
+        }
+    }
+    if (inside) fault(line_number, "an example without an end");
+    if (drawn_count > 0) fault(line_number, "fields drawn above no example");
+    free(line);
+}
+
+/* The table is there, each of its numbers has an example, and each example's number is in it. */
+static void covered(const char *what, const bool *listed, const bool *seen) {
+    bool any = false;
+    for (unsigned no = 0; no < CODES; no++) {
+        any = any || listed[no];
+        if (listed[no] && !seen[no]) fault(line_number, "%s %u has no example", what, no);
+        if (!listed[no] && seen[no]) fault(line_number, "%s %u is in no table", what, no);
+    }
+    if (!any) fault(line_number, "no table of %ss", what);
+}
+
+int main(int count, char **words) {
+    if (count != 3) {
+        fprintf(stderr, "format PAGE ROWS\n");
+        return 2;
+    }
+    page = words[1];
+    program = words[2];
+    FILE *file = fopen(page, "r");
+    if (!file) {
+        perror(page);
+        return 2;
+    }
+    read_page(file);
+    fclose(file);
+    covered("refusal", refusal_listed, refusal_seen);
+    covered("kind", kind_listed, kind_seen);
+    if (examples == 0) fault(line_number, "no example");
+    printf("format: %u examples, %u faults\n", examples, faults);
+    return faults ? 1 : 0;
+}
