@@ -8,6 +8,7 @@ use native.Mathlib.Omega.{arith}
 use lib.Dec.{eqb}
 use lib.ListN.{getD, replicate, length-replicate, length-map}
 use Rattle.format.specs.declared.Check.the-variants.{Pass}
+use Rattle.format.specs.declared.SortOptions.{SortOptions}
 use Rattle.format.specs.declared.Column.{Column}
 use Rattle.format.specs.Limits.{maxRows, maxSlot}
 use Rattle.format.specs.Lists.{Bytes, endsFrom, joined, lowBytes}
@@ -85,16 +86,20 @@ cleared-fits (fixed (float w)) = (zeros-fit w, length-replicate w 0, tt)
 cleared-fits (fixed (parts ws)) = (zeros-fit (width (parts ws)), length-replicate (width (parts ws)) 0, tt)
 cleared-fits variable = (tt, omega arith)
 
-all-fit : (sh : Shape) (ss : List Slot) → AllSlots sh ss → AllRaw sh (map (clearedRaw (layoutFor sh)) ss)
-all-fit sh [] h = tt
-all-fit sh (none ∷ ss) h = (cleared-fits sh, all-fit sh ss (h .1))
-all-fit sh (some v ∷ ss) h = (h .0, all-fit sh ss (h .1))
+all-fit : (sh : Shape) (o : SortOptions) (ss : List Slot) → AllSlots sh o ss → AllRaw sh o (map (clearedRaw (layoutFor sh)) ss)
+all-fit sh o [] h = tt
+all-fit sh o (none ∷ ss) h = (cleared-fits sh, h .0, all-fit sh o ss (h .1))
+all-fit sh o (some v ∷ ss) h = (h .0, h .0, all-fit sh o ss (h .1))
 
 pub raws-fit : (n : ℕ) (cols : List Column) (sss : List (List Slot)) → SheetFits n cols sss → RawFits n cols (clearedRaws cols sss)
 raws-fit n [] [] h = tt
 raws-fit n [] (ss ∷ sss) h = absurd h
 raws-fit n (col ∷ cols) [] h = absurd h
-raws-fit n (col ∷ cols) (ss ∷ sss) h = (length-map ss (clearedRaw (layout col)) ∙ h .0, all-fit (columnShape col) ss (h .1), raws-fit n cols sss (h .2))
+raws-fit n (col ∷ cols) (ss ∷ sss) h = (
+  length-map ss (clearedRaw (layout col)) ∙ h .0,
+  all-fit (columnShape col) (col .options) ss (h .1),
+  raws-fit n cols sss (h .2),
+)
 
 -- and are the slots
 slots-back : (ly : Layout) (ss : List Slot) → map slotOf (map (clearedRaw ly) ss) ≡ ss

@@ -9,6 +9,7 @@ use lib.Dec.{eqb, lit<}
 use lib.ListN.{length, getD, take, drop, length-take}
 use Rattle.format.specs.declared.Check.{Check}
 use Rattle.format.specs.declared.Check.the-variants.{Pass, Refuse}
+use Rattle.format.specs.declared.SortOptions.{SortOptions}
 use Rattle.format.specs.declared.Column.{Column}
 use Rattle.format.specs.Limits.{maxSlot}
 use Rattle.format.specs.Lists.{Bytes, endsFrom, joined, lowBytes}
@@ -65,9 +66,9 @@ fits-bytes : (sh : Shape) (x : List ℕ) → Fits maxSlot sh x → Bytes x
 fits-bytes (fixed k) x h = h .0
 fits-bytes variable x h = h .0
 
-all-bytes : (sh : Shape) (rs : List Raw) → AllRaw sh rs → Every Bytes (map (λ r. r .bytes) rs)
-all-bytes sh [] h = tt
-all-bytes sh (r ∷ rs) h = (fits-bytes sh (r .bytes) (h .0), all-bytes sh rs (h .1))
+all-bytes : (sh : Shape) (o : SortOptions) (rs : List Raw) → AllRaw sh o rs → Every Bytes (map (λ r. r .bytes) rs)
+all-bytes sh o [] h = tt
+all-bytes sh o (r ∷ rs) h = (fits-bytes sh (r .bytes) (h .0), all-bytes sh o rs (h .2))
 
 raw-bytes : (n : ℕ) (cols : List Column) (rss : List (List Raw)) → RawFits n cols rss → Bytes (rawSheet n cols rss)
 raw-bytes n [] [] h = tt
@@ -77,7 +78,7 @@ raw-bytes n (col ∷ cols) (rs ∷ rss) h =
     bytes-append (rawColumn (layout col) n rs) (rawSheet n cols rss)
     (bytes-append (pack (packed n) (map (λ r. r .valid) rs)) (standing (layout col) n (map (λ r. r .bytes) rs))
     (bytes-pack (packed n) (map (λ r. r .valid) rs))
-    (standing-bytes (layout col) n (map (λ r. r .bytes) rs) (all-bytes (columnShape col) rs (h .1))))
+    (standing-bytes (layout col) n (map (λ r. r .bytes) rs) (all-bytes (columnShape col) (col .options) rs (h .1))))
     (raw-bytes n cols rss (h .2))
 
 cleared-bytes : (n : ℕ) (cols : List Column) (sss : List (List Slot)) → SheetFits n cols sss → Bytes (clearedSheet n cols sss)

@@ -1,7 +1,7 @@
 -- The sheet of raw slots within the limits passes and has the slots that they are, whatever its null slots hold. Assumes nothing.
 use Prim.Native.Nat.{ℕ, zero, suc, _+_, _-_, _*_, _/_, _%_, _^_, _<_, _≤_}
 use mathlib.Core.Path.{_≡_, refl, ap, ap₂, sym, _∙_}
-use mathlib.Core.Bool.{Bool, false}
+use mathlib.Core.Bool.{Bool, true, false, true≢false}
 use mathlib.Core.List.{List, [], _∷_, _++_, map, append-assoc}
 use native.Mathlib.Nat.{pow-suc, zero-add}
 use native.Mathlib.Omega.{arith}
@@ -10,15 +10,19 @@ use lib.ListN.{length, getD, take, drop, length-append, length-map, List·getD-m
 use lib.Seq.{drop-at}
 use borrow.Author.Tests.{eq-eqb}
 use Rattle.format.specs.declared.Check.the-variants.{Pass}
+use Rattle.format.specs.declared.SortOptions.{SortOptions}
 use Rattle.format.specs.declared.Column.{Column}
 use Rattle.format.specs.Limits.{maxRows, maxSlot}
 use Rattle.format.specs.Lists.{endsFrom, joined, low, lowBytes}
 use Rattle.format.specs.Kinds.{Fixed, bool, plain, number, integer, float, parts, Shape, fixed, variable, Slot, width, columnShape}
-use Rattle.format.specs.Fits.{Fits}
-use Rattle.format.specs.Sheet.{Layout, bits, ended, wide, layoutFor, layout, packed, end, endsFault, valuesFault, valuesBytes, boolByte, valueAt, slotIf, columnFault, columnBytes, slotAt, columnSlots, sheetFaultFrom, sheetFault, sheetSlots}
+use Rattle.format.specs.Fits.{Fits, SlotFits}
+use Rattle.format.specs.Sheet.{Layout, bits, ended, wide, layoutFor, layout, packed, bitsFault, requiredFault, firstClear, end, endsFault}
+use Rattle.format.specs.Sheet.{valuesFault, valuesBytes, boolByte, valueAt, slotIf, columnFault, columnBytes, slotAt, columnSlots}
+use Rattle.format.specs.Sheet.{sheetFaultFrom, sheetFault, sheetSlots}
 use Rattle.format.specs.Passed.{Step}
 use Rattle.format.specs.Cleared.{pack}
 use Rattle.bits.proofs.Bits.{length-pack, bit-before, bits-pass}
+use Rattle.bits.proofs.Clear.{Set, clear-none}
 use Rattle.basics.proofs.Lists.{Every, every-at, each-is, length-joined, long-at, endAt, length-ends, end-first, end-next, end-last, end-most, cut-at}
 use Rattle.basics.proofs.Checks.{pass-enough, pass-both}
 use Rattle.laws.proofs.Room.{all-four}
@@ -27,9 +31,9 @@ use Rattle.demands.specs.Raw.{Raw, slotOf, standing, rawColumn, rawSheet
 -- ---- the values of a column
 
 -- the bytes of its raw slots fit
-raw-fits : (sh : Shape) (rs : List Raw) → AllRaw sh rs → Every (Fits maxSlot sh) (map (λ r. r .bytes) rs)
-raw-fits sh [] h = tt
-raw-fits sh (r ∷ rs) h = (h .0, raw-fits sh rs (h .1))
+raw-fits : (sh : Shape) (o : SortOptions) (rs : List Raw) → AllRaw sh o rs → Every (Fits maxSlot sh) (map (λ r. r .bytes) rs)
+raw-fits sh o [] h = tt
+raw-fits sh o (r ∷ rs) h = (h .0, raw-fits sh o rs (h .2))
 
 -- values before t: nothing is refused, they take their bytes, and each is read back
 record Reads (ly : Layout) (n c : ℕ) (xs : List (List ℕ)) (t : List ℕ) : Type 0 where
@@ -154,8 +158,24 @@ values-read (fixed (float w)) n c xs t few e h = wide-read (float w) n c xs t e 
 values-read (fixed (parts ws)) n c xs t few e h = wide-read (parts ws) n c xs t e h
 values-read variable n c xs t few e h = ended-read n c xs t e few h
 
+-- ---- the validity of a required column: every raw slot that fits is valid
+valid-asked : (sh : Shape) (o : SortOptions) (b : Bool) (v : List ℕ) → SlotFits maxSlot sh o (slotIf b v) → o .required ≡ true → b ≡ true
+valid-asked sh o true v h q = refl
+valid-asked sh o false v h q = absurd (true≢false (sym q ∙ h))
+
+all-valid : (sh : Shape) (o : SortOptions) (rs : List Raw) → AllRaw sh o rs → o .required ≡ true → (i : ℕ) → i < length rs
+    → getD (map (λ r. r .valid) rs) i false ≡ true
+all-valid sh o [] h q i l = absurd (omega arith)
+all-valid sh o (r ∷ rs) h q zero l = valid-asked sh o (r .valid) (r .bytes) (h .1) q
+all-valid sh o (r ∷ rs) h q (suc i) l = all-valid sh o rs (h .2) q i (omega arith)
+
+-- and so it is not refused
+none-missing : (q : Bool) (n c : ℕ) (s : List ℕ) → (q ≡ true → Set s 0 n) → requiredFault q n c s ≡ Pass
+none-missing true n c s h = pass-enough (firstClear s 0 n) n _ _ (omega (arith, clear-none s n (h refl))) refl
+none-missing false n c s h = refl
+
 -- ---- a column
-module _ (sh : Shape) (n c : ℕ) (rs : List Raw) (t : List ℕ) (few : n ≤ maxRows) (e : length rs ≡ n) (h : AllRaw sh rs) where
+module _ (sh : Shape) (o : SortOptions) (n c : ℕ) (rs : List Raw) (t : List ℕ) (few : n ≤ maxRows) (e : length rs ≡ n) (h : AllRaw sh o rs) where
   abbrev ly : Layout
   ly = layoutFor sh
 
@@ -166,7 +186,7 @@ module _ (sh : Shape) (n c : ℕ) (rs : List Raw) (t : List ℕ) (few : n ≤ ma
   xs = map (λ r. r .bytes) rs
 
   r : Reads (layoutFor sh) n c (map (λ r. r .bytes) rs) t
-  r = values-read sh n c xs t few (length-map rs _ ∙ e) (raw-fits sh rs h)
+  r = values-read sh n c xs t few (length-map rs _ ∙ e) (raw-fits sh o rs h)
 
   abbrev p : List ℕ
   p = pack (packed n) flags
@@ -183,8 +203,14 @@ module _ (sh : Shape) (n c : ℕ) (rs : List Raw) (t : List ℕ) (few : n ≤ ma
   column-bytes : columnBytes ly n (rawColumn ly n rs ++ t) ≡ length (rawColumn ly n rs)
   column-bytes = rw split (rw rest (omega (arith, r .bytes, length-append p (standing ly n xs), length-pack (packed n) flags)))
 
-  column-passes : columnFault ly n c (rawColumn ly n rs ++ t) ≡ Pass
-  column-passes = rw split (rw (bits-pass n c flags q (length-map rs _ ∙ e)) (rw rest (r .passes)))
+  all-set : o .required ≡ true → Set (p ++ q) 0 n
+  all-set asked i l m = bit-before (packed n) flags q i (omega arith) ∙ all-valid sh o rs h asked i (omega arith)
+
+  column-passes : columnFault (o .required) ly n c (rawColumn ly n rs ++ t) ≡ Pass
+  column-passes =
+      rw split
+      (pass-both (bitsFault n c (p ++ q)) _ (bits-pass n c flags q (length-map rs _ ∙ e))
+      (pass-both (requiredFault (o .required) n c (p ++ q)) _ (none-missing (o .required) n c (p ++ q) all-set) (rw rest (r .passes))))
 
   -- past the column
   column-past : drop (columnBytes ly n (rawColumn ly n rs ++ t)) (rawColumn ly n rs ++ t) ≡ t
@@ -210,8 +236,9 @@ passes-from n c at (col ∷ cols) [] few h = absurd h
 passes-from n c at (col ∷ cols) (rs ∷ rss) few h =
     let t : List ℕ = rawSheet n cols rss in
     let k : ℕ = columnBytes (layout col) n (rawColumn (layout col) n rs ++ t) in
-    pass-both (columnFault (layout col) n c (rawColumn (layout col) n rs ++ t)) _ (column-passes (columnShape col) n c rs t few (h .0) (h .1))
-    (ap (sheetFaultFrom n (suc c) (at + k) cols) (column-past (columnShape col) n c rs t few (h .0) (h .1))
+    pass-both (columnFault (col .options .required) (layout col) n c (rawColumn (layout col) n rs ++ t)) _
+    (column-passes (columnShape col) (col .options) n c rs t few (h .0) (h .1))
+    (ap (sheetFaultFrom n (suc c) (at + k) cols) (column-past (columnShape col) (col .options) n c rs t few (h .0) (h .1))
     ∙ passes-from n (suc c) (at + k) cols rss few (h .2))
 
 pub raw-passes : (n : ℕ) (cols : List Column) (rss : List (List Raw)) → n ≤ maxRows → RawFits n cols rss → sheetFault n cols (rawSheet n cols rss) ≡ Pass
@@ -225,5 +252,5 @@ raw-slots n [] (rs ∷ rss) few h = absurd h
 raw-slots n (col ∷ cols) [] few h = absurd h
 raw-slots n (col ∷ cols) (rs ∷ rss) few h =
     let t : List ℕ = rawSheet n cols rss in
-    ap₂ {C = List (List Slot)} (λ x y. x ∷ y) (column-slots (columnShape col) n 0 rs t few (h .0) (h .1))
-    (ap (sheetSlots n cols) (column-past (columnShape col) n 0 rs t few (h .0) (h .1)) ∙ raw-slots n cols rss few (h .2))
+    ap₂ {C = List (List Slot)} (λ x y. x ∷ y) (column-slots (columnShape col) (col .options) n 0 rs t few (h .0) (h .1))
+    (ap (sheetSlots n cols) (column-past (columnShape col) (col .options) n 0 rs t few (h .0) (h .1)) ∙ raw-slots n cols rss few (h .2))

@@ -6,11 +6,12 @@ use mathlib.Core.Bool.{Bool, false}
 use mathlib.Core.List.{List, [], _∷_, _++_, map}
 use lib.Dec.{eqb}
 use lib.ListN.{length, getD, drop, replicate}
+use Rattle.format.specs.declared.SortOptions.{SortOptions}
 use Rattle.format.specs.declared.Column.{Column}
 use Rattle.format.specs.Limits.{maxSlot}
 use Rattle.format.specs.Lists.{each, endsFrom, joined, lowBytes}
 use Rattle.format.specs.Kinds.{Shape, Slot, columnShape}
-use Rattle.format.specs.Fits.{Fits}
+use Rattle.format.specs.Fits.{Fits, SlotFits}
 use Rattle.format.specs.Sheet.{Layout, bits, ended, wide, layout, packed, bit, boolByte, valueAt, slotIf, columnBytes}
 use Rattle.format.specs.Cleared.{pack}
 
@@ -42,17 +43,17 @@ rawSheet n (col ∷ cols) (rs ∷ rss) = rawColumn (layout col) n rs ++ rawSheet
 
 -- ---- within the limits
 
--- whatever stands in a slot is of its column's shape, in null slots too
-abbrev pub AllRaw : Shape → List Raw → Type 0
-AllRaw sh [] = Unit {0}
-AllRaw sh (r ∷ rs) = Fits maxSlot sh (r .bytes) × AllRaw sh rs
+-- whatever stands in a slot is of its column's shape, in null slots too; and the slot fits, so that none is null in a required column
+abbrev pub AllRaw : Shape → SortOptions → List Raw → Type 0
+AllRaw sh o [] = Unit {0}
+AllRaw sh o (r ∷ rs) = Fits maxSlot sh (r .bytes) × SlotFits maxSlot sh o (slotOf r) × AllRaw sh o rs
 
 -- n raw slots to a column
 abbrev pub RawFits : ℕ → List Column → List (List Raw) → Type 0
 RawFits n [] [] = Unit {0}
 RawFits n [] (rs ∷ rss) = ⊥
 RawFits n (col ∷ cols) [] = ⊥
-RawFits n (col ∷ cols) (rs ∷ rss) = (length rs ≡ n) × AllRaw (columnShape col) rs × RawFits n cols rss
+RawFits n (col ∷ cols) (rs ∷ rss) = (length rs ≡ n) × AllRaw (columnShape col) (col .options) rs × RawFits n cols rss
 
 -- ---- the raw slots of a sheet
 
