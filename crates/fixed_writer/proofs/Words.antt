@@ -1,9 +1,9 @@
 -- A signed number word by word: its top word is keyed as a signed number, and the lower ones after it are turned round. Over the
 -- count of words. Assumes nothing.
 use Prim.Native.Nat.{ℕ, _+_, _*_, _≤_}
-use mathlib.Core.Path.{_≡_, refl, sym, ap, ap₂, _∙_}
-use mathlib.Core.Bool.{Bool, true, false}
-use mathlib.Core.List.{List, [], _++_, reverse, reverse-append}
+use mathlib.Core.Path.{_≡_, ap, _∙_}
+use mathlib.Core.Bool.{Bool}
+use mathlib.Core.List.{List, _++_, reverse, reverse-append}
 use native.Mathlib.Omega.{arith}
 use lib.ListN.{length, take, drop, length-drop, length-reverse}
 use lib.Seq.{length-take-le}
@@ -11,8 +11,8 @@ use Rattle.format.specs.Key.{signedKey, unsignedKey}
 use Rattle.format.specs.Field.{directed}
 use Rattle.basics.specs.Wrote.{Wrote}
 use Rattle.basics.proofs.Append.{Walk, walk-start}
-use Rattle.laws.proofs.Directed.{length-directed, directed-append}
-use Rattle.laws.proofs.TopWord.{take-apart, signed-apart}
+use Rattle.laws.proofs.Directed.{length-directed, directed-none, directed-append}
+use Rattle.laws.proofs.TopWord.{words-apart, signed-apart}
 use Rattle.runs.proofs.Written.{walk-step, walk-last, walk-wrote}
 
 module _ (d : Bool) (s : List ℕ) (from : ℕ) where
@@ -37,7 +37,7 @@ module _ (d : Bool) (s : List ℕ) (from : ℕ) where
   -- n + 1 words are n and the one above them
   module _ (m n : ℕ) (e : m ≡ n + 1) where
     apart : low m ≡ low n ++ word n
-    apart = ap (λ (k : ℕ). take k (drop from s)) {x = 8 * m} {y = 8 * n + 8} (omega arith) ∙ take-apart (8 * n) 8 s from
+    apart = words-apart m n e s from
 
     lower-apart : lower m ≡ directed d (unsignedKey (word n)) ++ lower n
     lower-apart =
@@ -64,8 +64,4 @@ module _ (d : Bool) (s : List ℕ) (from : ℕ) where
 
   -- no word is left
   pub words-end : (n : ℕ) → n ≤ 0 → {all out₀ : List ℕ} {at₀ : ℕ} {out : List ℕ} {at : ℕ} → Walk all (lower n) out₀ at₀ out at → Wrote all at₀ out₀ out at
-  words-end n h t = walk-wrote t (ap lower {x = n} {y = 0} (omega arith) ∙ none d)
-    where
-      none : (b : Bool) → directed b [] ≡ []
-      none true = refl
-      none false = refl
+  words-end n h t = walk-wrote t (ap lower {x = n} {y = 0} (omega arith) ∙ directed-none d)
