@@ -105,7 +105,14 @@ pub fn take_words(
     let mut place = at;
     while 1 < left {
         left -= 1;
-        take_number64(out, place, row, from + 8 * left, Coding::Unsigned, descending);
+        take_number64(
+            out,
+            place,
+            row,
+            from + 8 * left,
+            Coding::Unsigned,
+            descending,
+        );
         place += 8;
     }
     take_number64(out, place, row, from, Coding::Signed, descending);

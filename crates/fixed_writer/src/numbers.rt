@@ -115,7 +115,14 @@ pub fn put_words(
     let mut next = put_number64(out, at, values, from + 8 * left, Coding::Signed, descending);
     while 0 < left {
         left -= 1;
-        next = put_number64(out, next, values, from + 8 * left, Coding::Unsigned, descending);
+        next = put_number64(
+            out,
+            next,
+            values,
+            from + 8 * left,
+            Coding::Unsigned,
+            descending,
+        );
     }
     next
 }

@@ -33,22 +33,27 @@ put-number64-requires-2 c κs =
     let A = start at-loop .args in
     let call = top at-loop .put-number64 in
     let long = lower-long (A .descending) (A .values .now) (A .from) in
-    let inv = at-loop .loop .inv in
-    (
+    let inv = at-loop .loop .inv in (
       omega arith,
-      omega (arith, inv .1 .long, inv .1 .same, call .kept .0, long (at-loop .loop .left) (omega (arith, inv .0)), long (A .words - 1) (omega arith),
-      part-place (A .descending) (A .values .now) 8 (A .from + 8 * (A .words - 1)) (A .at) (omega arith) (call .ensures .place)),
+      omega (
+        arith,
+        inv .1 .long,
+        inv .1 .same,
+        call .kept .0,
+        long (at-loop .loop .left) (omega (arith, inv .0)),
+        long (A .words - 1) (omega arith),
+        part-place (A .descending) (A .values .now) 8 (A .from + 8 * (A .words - 1)) (A .at) (omega arith) (call .ensures .place),
+      ),
     )
 
 loop-again : tie.Need-loop-again Inv-loop μ-loop
 loop-again c =
     let at-call = c .before .before in
     let at-loop = at-call .before .before .before in
-    let A = start at-loop .args in
-    (
+    let A = start at-loop .args in (
       omega (arith, at-loop .loop .inv .0),
       words-more (A .descending) (A .values .now) (A .from) (at-loop .loop .left) (at-loop .loop .left - 1) (omega arith) (at-loop .loop .inv .1)
-      (at-call .put-number642 .ensures),
+          (at-call .put-number642 .ensures),
     )
 
 same-length : tie.Need-same-length Inv-loop μ-loop
