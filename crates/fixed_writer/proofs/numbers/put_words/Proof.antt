@@ -62,9 +62,12 @@ same-length c = let at-loop = c .before in at-loop .loop .inv .1 .same ∙ top a
 returns : tie.Need-returns Inv-loop μ-loop
 returns c =
     let at-loop = c .before in
-    let A = start at-loop .args in
-    words-whole (A .descending) (A .values .now) (A .from) (A .words) (A .words - 1) (omega arith) (start at-loop .pre .1 .0) (top at-loop .put-number64 .ensures)
-    (words-end (A .descending) (A .values .now) (A .from) (at-loop .loop .left) (c .loop-test .left) (at-loop .loop .inv .1))
+    let at-start = start at-loop in
+    let A = at-start .args in
+    let d = A .descending in
+    let s = A .values .now in
+    words-whole d s (A .from) (A .words) (A .words - 1) (omega arith) (at-start .pre .1 .0) (top at-loop .put-number64 .ensures)
+    (words-end d s (A .from) (at-loop .loop .left) (c .loop-test .left) (at-loop .loop .inv .1))
 
 pub put-words-spec : {M : Type 1} → statement M
 put-words-spec =
