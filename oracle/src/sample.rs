@@ -34,12 +34,12 @@ pub fn cases(rng: &mut Rng) -> Vec<Case> {
 }
 
 /// Every kind and option, with nulls and without; every boundary length and option; every pattern of
-/// nulls at every small row count; the widest fixed binary; one to sixteen columns.
+/// nulls at every small row count; slices; the widest fixed binary; one to sixteen columns.
 fn tables(rng: &mut Rng) -> Vec<Table> {
     let mut tables = Vec::new();
     for options in make::OPTIONS {
         let columns = make::every_column(options).into_iter();
-        for column in columns.filter(|column| column.width <= 16) {
+        for column in columns.filter(|column| column.width <= 32) {
             for nulls in [Nulls::None, Nulls::Alternating] {
                 tables.push(make::one_column(rng, column, 3, nulls, &[0, 1, 8, 9]));
             }
@@ -64,12 +64,19 @@ fn tables(rng: &mut Rng) -> Vec<Table> {
             }
         }
     }
+    for first_end in make::FIRST_ENDS.into_iter().filter(|end| *end < 300) {
+        for rows in [0, 1, 3] {
+            let columns = vec![Column::new(VARIABLE, rows as u8); 2];
+            let table = make::table_with(rng, rows, columns, Nulls::Random, &[0, 1, 9]);
+            tables.push(make::sliced(rng, table, first_end));
+        }
+    }
     for nulls in [Nulls::None, Nulls::All] {
         let column = Column::fixed_binary(model::MAX_WIDTH, 1);
         tables.push(make::one_column(rng, column, 1, nulls, &[]));
     }
-    for last in 1..=16 {
-        let columns = make::first_columns(last, last % 4);
+    for count in 1..=16 {
+        let columns = make::columns_from(count, count as usize, count % 4);
         tables.push(make::table_with(rng, 2, columns, Nulls::Random, &[0, 1, 9]));
     }
     tables
@@ -79,7 +86,7 @@ fn tables(rng: &mut Rng) -> Vec<Table> {
 fn lists() -> Vec<Call> {
     let faults: [&[u8]; 7] = [
         &[0, 0],
-        &[17, 0],
+        &[19, 0],
         &[1],
         &[FIXED_BINARY, 0, 0],
         &[1, 4],

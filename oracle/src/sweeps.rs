@@ -41,10 +41,29 @@ pub fn lengths(judge: &mut Judge, rng: &mut Rng) {
     }
 }
 
-/// Tables of the first one to sixteen kinds together, then random ones.
+/// Sliced columns: bytes of every count before the first end, every option and pattern of nulls, no
+/// rows too; alone and with a column on each side.
+pub fn slices(judge: &mut Judge, rng: &mut Rng) {
+    for options in make::OPTIONS {
+        judge.progress("slices", options as usize, 4);
+        for first_end in make::FIRST_ENDS {
+            for nulls in make::NULLS {
+                for rows in make::ROW_COUNTS {
+                    let names = Column::new(VARIABLE, options);
+                    for columns in [vec![names], vec![Column::new(6, options), names, names]] {
+                        let table = make::table_with(rng, rows, columns, nulls, &[0, 1, 8, 9, 33]);
+                        judge.table(&make::sliced(rng, table, first_end));
+                    }
+                }
+            }
+        }
+    }
+}
+
+/// Tables of one to sixteen kinds together, then random ones.
 pub fn tables(judge: &mut Judge, rng: &mut Rng, count: usize) {
-    for last in 1..=16 {
-        let columns = make::first_columns(last, last % 4);
+    for count in 1..=16 {
+        let columns = make::columns_from(count, count as usize, count % 4);
         judge.table(&make::table_of(rng, 17, columns));
     }
     for i in 0..count {
@@ -53,13 +72,15 @@ pub fn tables(judge: &mut Judge, rng: &mut Rng, count: usize) {
     }
 }
 
-/// As many rows as there may be, of all kinds together: what every entry takes of its stack then is
+/// As many rows as there may be, of sixteen kinds together, and of all in two tables: what every entry takes of its stack then is
 /// seen in the end ([`crate::stack`]).
 pub fn full(judge: &mut Judge, rng: &mut Rng) {
     for options in make::OPTIONS {
         judge.progress("4,096 rows", options as usize, 4);
-        let columns = make::first_columns(16, options);
-        judge.table(&make::table_of(rng, MAX_ROWS as usize, columns));
+        for first in [1, 3] {
+            let columns = make::columns_from(first, 16, options);
+            judge.table(&make::table_of(rng, MAX_ROWS as usize, columns));
+        }
     }
 }
 
@@ -98,5 +119,6 @@ fn over_ceiling(rng: &mut Rng) -> Table {
     let names = one_slot_each(Column::new(VARIABLE, 2), &names);
     table.columns.extend(names.columns);
     table.slots.extend(names.slots);
+    table.before.extend(names.before);
     table
 }

@@ -89,6 +89,44 @@ pub mod raw {
     }
 }
 
+/// The kinds of columns by name: the first byte of a column in a list.
+///
+/// ```
+/// use station::kind;
+/// // A plate number and two ledger decimals, ascending with nulls first.
+/// let list = [kind::U32, 2, kind::I128, 2, kind::I256, 2];
+/// assert_eq!(station::check_list(&list)?.total, 3);
+/// # Ok::<(), station::Refusal>(())
+/// ```
+pub mod kind {
+    macro_rules! kinds {
+        ($($name:ident $number:literal $words:literal,)*) => {
+            $(#[doc = $words] pub const $name: u8 = $number;)*
+        };
+    }
+
+    kinds! {
+        BOOL 1 "True or false.",
+        I8 2 "A signed number of one byte.",
+        I16 3 "A signed number of two bytes.",
+        I32 4 "A signed number of four bytes.",
+        I64 5 "A signed number of eight bytes.",
+        U8 6 "An unsigned number of one byte.",
+        U16 7 "An unsigned number of two bytes.",
+        U32 8 "An unsigned number of four bytes.",
+        U64 9 "An unsigned number of eight bytes.",
+        F16 10 "A float of two bytes.",
+        F32 11 "A float of four bytes.",
+        F64 12 "A float of eight bytes.",
+        DAY_TIME 13 "Days and milliseconds.",
+        MONTH_DAY_NANO 14 "Months, days and nanoseconds.",
+        FIXED_BINARY 15 "Bytes, as many as the width says that follows the options.",
+        VARIABLE 16 "Bytes, 0 to 65,535.",
+        I128 17 "A signed number of 16 bytes.",
+        I256 18 "A signed number of 32 bytes.",
+    }
+}
+
 /// The bytes of an answer: three numbers of eight bytes.
 pub const ANSWER_BYTES: usize = 24;
 
@@ -195,6 +233,19 @@ pub fn measure(list: &[u8], n: u64, sheet: &[u8]) -> Answer {
 /// assert_eq!(offsets, [0, 10, 11, 7]);
 /// # Ok::<(), station::Refusal>(())
 /// ```
+///
+/// Variable bytes may be a slice of a longer column: what stands before the first end means nothing.
+///
+/// ```
+/// // Ends 3 and 4: "a" after three bytes of another value.
+/// let slice = [0b1, 3, 0, 0, 0, 4, 0, 0, 0, b'x', b'y', b'z', b'a'];
+/// let rows = station::encode_to_vec(&[16, 2], 1, &slice)?;
+/// assert_eq!(rows.row(0), [2, b'a', 0, 0, 0, 0, 0, 0, 0, 1]);
+///
+/// let back = station::decode_to_vec(&[16, 2], 1, &rows.bytes, &rows.offsets)?;
+/// assert_eq!(back, [0b1, 0, 0, 0, 0, 1, 0, 0, 0, b'a']);
+/// # Ok::<(), station::Refusal>(())
+/// ```
 pub fn encode(list: &[u8], n: u64, sheet: &[u8], rows: &mut [u8], offsets: &mut [u64]) -> Answer {
     // SAFETY: as in `check_list`; the offsets are lent as the eight bytes of each, which on this
     // machine lie low byte first, and any bytes make a u64.
@@ -215,7 +266,8 @@ pub fn encode(list: &[u8], n: u64, sheet: &[u8], rows: &mut [u8], offsets: &mut 
     })
 }
 
-/// Writes the cleared sheet of rows to the front of `sheet`: zeros, and length 0, in null slots.
+/// Writes the cleared sheet of rows to the front of `sheet`: zeros, and length 0, in null slots, and
+/// first ends of 0.
 ///
 /// ```
 /// let mut sheet = [0; 3];

@@ -6,7 +6,6 @@ pub mod Sep
 pub mod Invert
 pub mod KeyLaws
 pub mod VariableOrder
-pub mod Signs
 pub mod RowOrder
 pub mod OneRow
 pub mod Turning
@@ -20,8 +19,8 @@ pub mod RowsBack
 pub mod Exact
 pub mod Demand2
 pub mod Demand3
-pub mod Calls
 pub mod NullSlots
+pub mod Calls
 pub mod Front
 pub mod FaultPlace
 pub mod OutBytes
