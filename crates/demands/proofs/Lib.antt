@@ -23,6 +23,5 @@ pub mod Demand3
 pub mod Calls
 pub mod NullSlots
 pub mod Front
-pub mod FaultPlace
 pub mod OutBytes
 pub mod Unique
