@@ -22,6 +22,8 @@ pub mod Demand2
 pub mod Demand3
 pub mod Calls
 pub mod NullSlots
+pub mod FieldPlace
+pub mod Place
 pub mod Front
 pub mod OutBytes
 pub mod Unique
