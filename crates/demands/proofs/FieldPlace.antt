@@ -189,10 +189,13 @@ module _ (limit : ℕ) (s : List ℕ) (k : ℕ) (r : Reached s k) where
       ∙ ap (λ (j : ℕ). getD s j 0) (let e : blockPlace k + (end + i) ≡ blockPlace k + end + i = omega arith in e) in
       let t = first-bad s u (blockPlace k + end) is (omega (arith, r .whole)) z in
       let to : blockPlace k + end + length u ≡ endPlace k = omega arith in
-      let at : endPlace k - fromBad u ≡ length s - (fromBad u + suc (length rest)) = omega (arith, end-at, left-from u z .few, r .whole) in
-      (k, r, subst (λ (e : ℕ). FirstBad s (blockPlace k + e) (endPlace k) (length s - (fromBad u + suc (length rest)))) end-is
-      (subst (FirstBad s (blockPlace k + end) (endPlace k)) at
-      (subst (λ (b : ℕ). FirstBad s (blockPlace k + end) b (b - fromBad u)) to t)))
+      let at : endPlace k - fromBad u ≡ length s - (fromBad u + suc (length rest)) = omega (arith, end-at, left-from u z .few, r .whole) in (
+        k,
+        r,
+        subst (λ (e : ℕ). FirstBad s (blockPlace k + e) (endPlace k) (length s - (fromBad u + suc (length rest)))) end-is
+            (subst (FirstBad s (blockPlace k + end) (endPlace k)) at
+            (subst (λ (b : ℕ). FirstBad s (blockPlace k + end) b (b - fromBad u)) to t)),
+      )
 
   right-block : (more : Parsed (List ℕ)) → (end ≡ 255 → VariableRight limit s more) → VariableRight limit s (readBlock size limit (dataBefore k) part end rest more)
   right-block more h =

@@ -197,7 +197,9 @@ module _ (list : List ℕ) (n : ℕ) (bytes offsets : List ℕ) (room : ℕ) (b 
 
   -- for 16 the row's length
   pub decode-place-cut : f ≡ Cut → place ≡ length (rowBytes bytes offsets r)
-  decode-place-cut k = cut-place (columns list) (rowBytes bytes offsets r) c place (subst (λ (g : RowFault). BadAt _ _ g c place) k decode-place)
+  decode-place-cut k =
+      cut-place (columns list) (rowBytes bytes offsets r) c place
+      (subst (λ (g : RowFault). BadAt (columns list) (rowBytes bytes offsets r) g c place) k decode-place)
 
   -- and else one of the row's bytes
   pub decode-place-byte : (f ≡ Cut → ⊥) → place < length (rowBytes bytes offsets r)
