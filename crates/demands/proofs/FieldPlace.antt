@@ -93,7 +93,8 @@ right-null k o b s =
     by-test (FixedRight k o (b ∷ s)) (ltb (length s) (width k)) _ _ (λ q. omega arith) (λ q.
     by-test (FixedRight k o (b ∷ s)) (allZero (take (width k) s)) _ _ (λ z. tt) (bad (ltb-false (length s) (width k) q)))
   where
-    bad : width k ≤ length s → allZero (take (width k) s) ≡ false → FixedRight k o (b ∷ s) (fault NullRest (fromBad (take (width k) s) + length (drop (width k) s)))
+    bad : width k ≤ length s → allZero (take (width k) s) ≡ false
+        → FixedRight k o (b ∷ s) (fault NullRest (fromBad (take (width k) s) + length (drop (width k) s)))
     bad l z =
         let u : List ℕ = take (width k) s in
         let m : length u ≡ width k = length-take-le (width k) s l in
@@ -197,7 +198,8 @@ module _ (limit : ℕ) (s : List ℕ) (k : ℕ) (r : Reached s k) where
             (subst (λ (b : ℕ). FirstBad s (blockPlace k + end) b (b - fromBad u)) to t)),
       )
 
-  right-block : (more : Parsed (List ℕ)) → (end ≡ 255 → VariableRight limit s more) → VariableRight limit s (readBlock size limit (dataBefore k) part end rest more)
+  right-block : (more : Parsed (List ℕ)) → (end ≡ 255 → VariableRight limit s more)
+      → VariableRight limit s (readBlock size limit (dataBefore k) part end rest more)
   right-block more h =
       by-test (VariableRight limit s) (eqb end 255) _ _
       (λ e.
