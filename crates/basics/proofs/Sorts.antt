@@ -1,10 +1,9 @@
--- The three sorts of kinds: bool, values of one width, and variable bytes; and the last arm of a match on a kind, which takes
--- those that no arm before it names. Assumes nothing.
-use Prim.Native.Nat.{ℕ}
+-- The three sorts of kinds: bool, values of one width, and variable bytes; that every number with a sign has a byte for it; and
+-- the last arm of a match on a kind, which takes those that no arm before it names. Assumes nothing.
+use Prim.Native.Nat.{ℕ, _<_}
 use mathlib.Core.Path.{_≡_, refl, sym, ap, subst, _∙_}
 use mathlib.Core.Bool.{Bool as Truth, true, false, not}
-use mathlib.Core.Logic.{_⊎_, inl, inr}
-use mathlib.Core.List.{List, [], _∷_}
+use mathlib.Core.List.{List, [], _∷_, _++_}
 use native.Mathlib.Omega.{arith}
 use lib.Dec.{T}
 use mir.Val.{hasKey}
@@ -12,15 +11,35 @@ use types.Run.{OneOf, miss}
 use denote.Enum.Declared.{tagOf}
 use Rattle.format.proofs.Kind.{the-type}
 use Rattle.format.specs.declared.Kind.{Kind}
-use Rattle.format.specs.declared.Kind.the-variants.{Bool, I8, I16, I32, I64, U8, U16, U32, U64, F16, F32, F64, DayTime, MonthDayNano, FixedBinary, Variable}
+use Rattle.format.specs.declared.Kind.the-variants.{Bool, I8, I16, I32, I64, U8, U16, U32, U64, F16, F32, F64, DayTime, MonthDayNano, FixedBinary, Variable, I128, I256}
 use Rattle.format.specs.Lists.{each}
-use Rattle.format.specs.Kinds.{Fixed, bool, plain, number, integer, float, parts, fixed, variable, shape, shapeBytes, width, valueBytes}
+use Rattle.format.specs.Kinds.{Fixed, bool, plain, number, integer, float, parts, Shape, fixed, variable, shape, shapeBytes, width, valueBytes}
 use Rattle.format.specs.Sheet.{layoutFor, wide}
 use Rattle.basics.specs.Wide.{WideKind, WideShape}
 
+-- every part has a byte
+abbrev pub AllPositive : List ℕ → Type 0
+AllPositive [] = Unit {0}
+AllPositive (n ∷ ns) = (0 < n) × AllPositive ns
+
+-- every number that has a sign has a byte for it
+abbrev pub Signs : Fixed → Type 0
+Signs bool = Unit {0}
+Signs (plain n) = Unit {0}
+Signs (number n) = Unit {0}
+Signs (integer n) = 0 < n
+Signs (float n) = 0 < n
+Signs (parts ns) = AllPositive ns
+
+abbrev pub ShapeSigns : Shape → Type 0
+ShapeSigns (fixed k) = Signs k
+ShapeSigns variable = Unit {0}
+
 -- a kind is one of the three
-abbrev Sort : Kind → Type 0
-Sort kind = (kind ≡ Bool) ⊎ (WideKind kind ⊎ (kind ≡ Variable))
+data Sort (kind : Kind) : Type 0 where
+  bools : kind ≡ Bool → Sort kind
+  wides : (w : WideKind kind) → Signs (w .k) → Sort kind
+  variables : kind ≡ Variable → Sort kind
 
 -- whether fixed values are bools, which alone are packed bits
 abbrev isBool : Fixed → Truth
@@ -32,27 +51,38 @@ isBool (float w) = false
 isBool (parts ws) = false
 
 -- the second sort
-of-width : {kind : Kind} (k : Fixed) → shape kind ≡ fixed k → isBool k ≡ false → Sort kind
-of-width k e h = inr (inl (record { k = k; says = e; other = λ q. let z : _≡_ {A = ℕ} 0 1 = cc (ap isBool q) in omega arith }))
+of-width : {kind : Kind} (k : Fixed) → shape kind ≡ fixed k → isBool k ≡ false → Signs k → Sort kind
+of-width k e h s = wides (record { k = k; says = e; other = λ q. let z : _≡_ {A = ℕ} 0 1 = cc (ap isBool q) in omega arith }) s
 
--- the table of kinds, by sort
+-- the table of kinds, by sort: what is proved of every kind is proved from here
 sort : (kind : Kind) → Sort kind
-sort Bool = inl refl
-sort I8 = of-width (integer 1) refl refl
-sort I16 = of-width (integer 2) refl refl
-sort I32 = of-width (integer 4) refl refl
-sort I64 = of-width (integer 8) refl refl
-sort U8 = of-width (number 1) refl refl
-sort U16 = of-width (number 2) refl refl
-sort U32 = of-width (number 4) refl refl
-sort U64 = of-width (number 8) refl refl
-sort F16 = of-width (float 2) refl refl
-sort F32 = of-width (float 4) refl refl
-sort F64 = of-width (float 8) refl refl
-sort DayTime = of-width (parts (4 ∷ 4 ∷ [])) refl refl
-sort MonthDayNano = of-width (parts (4 ∷ 4 ∷ 8 ∷ [])) refl refl
-sort (FixedBinary w) = of-width (plain w) refl refl
-sort Variable = inr (inr refl)
+sort Bool = bools refl
+sort I8 = of-width (integer 1) refl refl (omega arith)
+sort I16 = of-width (integer 2) refl refl (omega arith)
+sort I32 = of-width (integer 4) refl refl (omega arith)
+sort I64 = of-width (integer 8) refl refl (omega arith)
+sort U8 = of-width (number 1) refl refl tt
+sort U16 = of-width (number 2) refl refl tt
+sort U32 = of-width (number 4) refl refl tt
+sort U64 = of-width (number 8) refl refl tt
+sort F16 = of-width (float 2) refl refl (omega arith)
+sort F32 = of-width (float 4) refl refl (omega arith)
+sort F64 = of-width (float 8) refl refl (omega arith)
+sort DayTime = of-width (parts (4 ∷ 4 ∷ [])) refl refl (omega arith)
+sort MonthDayNano = of-width (parts (4 ∷ 4 ∷ 8 ∷ [])) refl refl (omega arith)
+sort (FixedBinary w) = of-width (plain w) refl refl tt
+sort Variable = variables refl
+sort I128 = of-width (integer 16) refl refl (omega arith)
+sort I256 = of-width (integer 32) refl refl (omega arith)
+
+-- in every kind
+pub signs : (kind : Kind) → ShapeSigns (shape kind)
+signs kind = go (sort kind)
+  where
+    go : Sort kind → ShapeSigns (shape kind)
+    go (bools e) = rw e tt
+    go (wides w s) = rw (w .says) s
+    go (variables e) = rw e tt
 
 -- ---- values of one width
 
@@ -102,19 +132,23 @@ neither : (kind : Kind) → (kind ≡ Bool → ⊥) → (kind ≡ Variable → �
 neither kind b v = go (sort kind)
   where
     go : Sort kind → WideKind kind
-    go (inl e) = absurd (b e)
-    go (inr (inl w)) = w
-    go (inr (inr e)) = absurd (v e)
+    go (bools e) = absurd (b e)
+    go (wides w s) = w
+    go (variables e) = absurd (v e)
+
+-- the places after that of variable bytes
+abbrev later : List ℕ
+later = each 16 2 (λ k. k)
 
 -- all places but that of variable bytes, all but that of bool, and all but the two
 abbrev pub fixedKeys : List ℕ
-fixedKeys = each 0 15 (λ k. k)
+fixedKeys = each 0 15 (λ k. k) ++ later
 
 abbrev otherKeys : List ℕ
-otherKeys = each 1 15 (λ k. k)
+otherKeys = each 1 17 (λ k. k)
 
 abbrev pub wideKeys : List ℕ
-wideKeys = each 1 14 (λ k. k)
+wideKeys = each 1 14 (λ k. k) ++ later
 
 -- after the arms of bool and of variable bytes
 pub wide-arm : (kind : Kind) → OneOf wideKeys (tagOf the-type kind) → WideKind kind
@@ -129,6 +163,6 @@ pub fixed-arm : (P : Kind → Type 0) (kind : Kind) → P Bool → (WideKind kin
 fixed-arm P kind b w h = go (sort kind)
   where
     go : Sort kind → P kind
-    go (inl e) = subst P (sym e) b
-    go (inr (inl k)) = w k
-    go (inr (inr e)) = absurd (elsewhere fixedKeys kind Variable h tt e)
+    go (bools e) = subst P (sym e) b
+    go (wides k s) = w k
+    go (variables e) = absurd (elsewhere fixedKeys kind Variable h tt e)

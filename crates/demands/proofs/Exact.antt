@@ -17,7 +17,7 @@ use Rattle.format.specs.declared.Refusal.the-variants.{Row}
 use Rattle.format.specs.Limits.{maxRows, maxWidth, maxTotal}
 use Rattle.format.specs.Check.{both, failIf}
 use Rattle.format.specs.Lists.{Bytes}
-use Rattle.format.specs.Kinds.{Slot, columnShape}
+use Rattle.format.specs.Kinds.{lastKind, Slot, columnShape}
 use Rattle.format.specs.Columns.{descriptionBytes, descriptionFault, listFaultFrom, listFault, widthAt}
 use Rattle.format.specs.Fits.{RowFits, HasValues}
 use Rattle.format.specs.Row.{row}
@@ -61,7 +61,7 @@ outer-cond false c d h k = k
 
 outer-description : (s : List ℕ) (at : ℕ) → Outer (descriptionFault s at)
 outer-description s at =
-    outer-if (ltb (getD s at 0) 1 || ltb 16 (getD s at 0)) _ _ refl
+    outer-if (ltb (getD s at 0) 1 || ltb lastKind (getD s at 0)) _ _ refl
     (outer-if (ltb (length s - at) (descriptionBytes (getD s at 0))) _ _ refl
     (outer-if (ltb 3 (getD s (at + 1) 0)) _ _ refl
     (outer-if (ltb maxWidth (widthAt s at)) _ _ refl tt)))

@@ -6,7 +6,6 @@ pub mod Sep
 pub mod Invert
 pub mod KeyLaws
 pub mod VariableOrder
-pub mod Signs
 pub mod RowOrder
 pub mod OneRow
 pub mod Turning

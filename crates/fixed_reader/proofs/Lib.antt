@@ -5,4 +5,5 @@ pub mod Standing
 pub mod Beside
 pub mod Taking
 pub mod Parts
+pub mod Words
 pub mod DecodeArms

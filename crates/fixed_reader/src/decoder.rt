@@ -14,6 +14,7 @@ use crate::numbers::take_number8;
 use crate::numbers::take_number16;
 use crate::numbers::take_number32;
 use crate::numbers::take_number64;
+use crate::numbers::take_words;
 use format::Kind;
 use format::SortOptions;
 use format::null_lead;
@@ -76,6 +77,8 @@ fn decode_value(row: &[u8], kind: Kind, descending: bool, out: &mut [u8], at: us
         Kind::DayTime => decode_day_time(row, descending, out, at),
         Kind::MonthDayNano => decode_month_day_nano(row, descending, out, at),
         Kind::FixedBinary(w) => copy_bytes(out, at, row, 1, w, descending),
+        Kind::I128 => take_words(out, at, row, 1, 2, descending),
+        Kind::I256 => take_words(out, at, row, 1, 4, descending),
         // Not handed.
         Kind::Bool => {}
         Kind::Variable => {}

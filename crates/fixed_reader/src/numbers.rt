@@ -1,9 +1,10 @@
 // The number whose value bytes stand at a place of a row, as its bytes in the sheet. The parts of an interval are such.
 ghost use mathlib.Core.Path.{_≡_};
-ghost use Prim.Native.Nat.{_+_, _≤_};
+ghost use Prim.Native.Nat.{_+_, _*_, _<_, _≤_};
 ghost use lib.ListN.{length, take, drop};
 ghost use lib.Seq.{sets};
 ghost use Rattle.format.specs.Field.{directed};
+ghost use Rattle.format.specs.Key.{signedUnkey};
 ghost use Rattle.number.specs.declared.Coding.the-variants.{Float};
 ghost use Rattle.number.specs.Codings.{codingUnkey};
 use number::Coding;
@@ -84,4 +85,35 @@ pub fn take_number64(
 {
     let word = directed64(descending, low64(row, from));
     put64(out, at, decode64(coding, word));
+}
+
+// A signed number of so many words of 64 bits: from the lowest word, which stands last, up to the top one, which has the sign.
+pub fn take_words(
+    out: &mut [u8],
+    at: usize,
+    row: &[u8],
+    from: usize,
+    words: usize,
+    descending: bool,
+)
+    requires { ⌜ 0 < words ⌝ }
+    requires { ⌜ from + 8 * words ≤ length (now row) ⌝ }
+    requires { ⌜ at + 8 * words ≤ length (now out) ⌝ }
+    ensures { λ _. ⌜ now (out .exit) ≡ sets (now (out .entry)) at (signedUnkey (directed descending (take (8 * words) (drop from (now (row .entry)))))) ⌝ }
+{
+    let mut left = words;
+    let mut place = at;
+    while 1 < left {
+        left -= 1;
+        take_number64(
+            out,
+            place,
+            row,
+            from + 8 * left,
+            Coding::Unsigned,
+            descending,
+        );
+        place += 8;
+    }
+    take_number64(out, place, row, from, Coding::Signed, descending);
 }

@@ -1,7 +1,7 @@
 -- Intervals: part after part, each keyed as a signed number. Assumes nothing.
 use Prim.Native.Nat.{ℕ, _+_, _-_, _≤_}
-use mathlib.Core.Path.{_≡_, refl, ap, ap₂, _∙_}
-use mathlib.Core.Bool.{Bool, true, false}
+use mathlib.Core.Path.{_≡_, ap, ap₂, _∙_}
+use mathlib.Core.Bool.{Bool}
 use mathlib.Core.List.{List, [], _∷_, _++_}
 use native.Mathlib.Omega.{arith}
 use lib.ListN.{length, take, drop, length-drop}
@@ -11,7 +11,7 @@ use Rattle.format.specs.Field.{directed}
 use Rattle.basics.specs.Wrote.{Wrote}
 use Rattle.basics.proofs.Append.{Walk}
 use Rattle.basics.proofs.Bytes.{long-signed}
-use Rattle.laws.proofs.Directed.{length-directed, directed-append}
+use Rattle.laws.proofs.Directed.{length-directed, directed-none, directed-append}
 use Rattle.number.proofs.Tops.{drop-take}
 use Rattle.runs.proofs.Written.{walk-step, walk-wrote}
 
@@ -49,8 +49,4 @@ module _ (d : Bool) (s : List ℕ) where
   -- none is left
   pub parts-end : (m from : ℕ) {whole out₀ : List ℕ} {at₀ : ℕ} {out : List ℕ} {at : ℕ} → Walk whole (keyed [] m from) out₀ at₀ out at
       → Wrote whole at₀ out₀ out at
-  parts-end m from t = walk-wrote t (none d)
-    where
-      none : (b : Bool) → directed b [] ≡ []
-      none true = refl
-      none false = refl
+  parts-end m from t = walk-wrote t (directed-none d)

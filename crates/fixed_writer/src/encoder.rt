@@ -16,6 +16,7 @@ use crate::numbers::put_number8;
 use crate::numbers::put_number16;
 use crate::numbers::put_number32;
 use crate::numbers::put_number64;
+use crate::numbers::put_words;
 use format::Kind;
 use format::SortOptions;
 use format::null_sentinel;
@@ -124,6 +125,8 @@ pub fn encode(
         Kind::DayTime => encode_day_time(out, place, values, r * 8, descending),
         Kind::MonthDayNano => encode_month_day_nano(out, place, values, r * 16, descending),
         Kind::FixedBinary(w) => encode_fixed_size_binary(out, place, values, r * w, w, descending),
+        Kind::I128 => put_words(out, place, values, r * 16, 2, descending),
+        Kind::I256 => put_words(out, place, values, r * 32, 4, descending),
         // Not handed.
         Kind::Bool => place,
         Kind::Variable => place,

@@ -1,9 +1,10 @@
 // The value bytes of a number, from the place where it stands in the sheet to a place of the row buffer. The parts of an
 // interval are such.
 ghost use mathlib.Core.Path.{_≡_};
-ghost use Prim.Native.Nat.{_+_, _≤_};
+ghost use Prim.Native.Nat.{_+_, _*_, _<_, _≤_};
 ghost use lib.ListN.{length, take, drop};
 ghost use Rattle.format.specs.Field.{directed};
+ghost use Rattle.format.specs.Key.{signedKey};
 ghost use Rattle.basics.specs.Wrote.{Wrote};
 ghost use Rattle.number.specs.declared.Coding.the-variants.{Float};
 ghost use Rattle.number.specs.Codings.{codingKey};
@@ -93,4 +94,35 @@ pub fn put_number64(
     let word = encode64(coding, low64(values, from));
     put64(out, at, directed64(descending, word));
     at + 8
+}
+
+// A signed number of so many words of 64 bits: the top word, which has the sign, and then the others, from the highest down.
+pub fn put_words(
+    out: &mut [u8],
+    at: usize,
+    values: &[u8],
+    from: usize,
+    words: usize,
+    descending: bool,
+) -> usize
+    requires { ⌜ 0 < words ⌝ }
+    requires { ⌜ from + 8 * words ≤ length (now values) ⌝ }
+    requires { ⌜ at + 8 * words ≤ length (now out) ⌝ }
+    ensures { λ next. ⌜ Wrote (directed descending (signedKey (take (8 * words) (drop from (now (values .entry)))))) at
+        (now (out .entry)) (now (out .exit)) next ⌝ }
+{
+    let mut left = words - 1;
+    let mut next = put_number64(out, at, values, from + 8 * left, Coding::Signed, descending);
+    while 0 < left {
+        left -= 1;
+        next = put_number64(
+            out,
+            next,
+            values,
+            from + 8 * left,
+            Coding::Unsigned,
+            descending,
+        );
+    }
+    next
 }

@@ -7,7 +7,7 @@ use mathlib.Core.Option.{none, some}
 use mathlib.Core.List.{[], _∷_, _++_}
 use lib.ListN.{replicate}
 use Rattle.format.specs.declared.SortOptions.{SortOptions}
-use Rattle.format.specs.declared.Kind.the-variants.{Bool, I16, U16, F16, MonthDayNano, FixedBinary, Variable}
+use Rattle.format.specs.declared.Kind.the-variants.{Bool, I16, U16, F16, MonthDayNano, FixedBinary, Variable, I128, I256}
 use Rattle.format.specs.declared.RowFault.the-variants.{Cut, Lead, NullRest, BoolByte, EndByte, Padding, Extra, TooLong}
 use Rattle.format.specs.declared.Check.the-variants.{Pass, Refuse}
 use Rattle.format.specs.declared.Refusal.the-variants.{Row}
@@ -32,7 +32,9 @@ pub fields : (field (shape I16) up (some (1 ∷ 0 ∷ [])) ≡ 1 ∷ 0x80 ∷ 1 
     × (field (shape MonthDayNano) up (some (1 ∷ 0 ∷ 0 ∷ 0 ∷ 2 ∷ 0 ∷ 0 ∷ 0 ∷ 3 ∷ 0 ∷ 0 ∷ 0 ∷ 0 ∷ 0 ∷ 0 ∷ 0x80 ∷ [])) ≡ 1 ∷ 0x80 ∷ 0 ∷ 0 ∷ 1 ∷ 0x80 ∷ 0 ∷ 0 ∷ 2 ∷ 0 ∷ 0 ∷ 0 ∷ 0 ∷ 0 ∷ 0 ∷ 0 ∷ 3 ∷ [])
     × (field (shape (FixedBinary 2)) down (some (7 ∷ 8 ∷ [])) ≡ 1 ∷ 0xf8 ∷ 0xf7 ∷ [])
     × (field (shape Variable) down none ≡ 0xff ∷ [])
-fields = (refl, refl, refl, refl, refl, refl, refl, refl)
+    × (field (shape I128) up (some (5 ∷ replicate 15 0xff)) ≡ 1 ∷ 0x7f ∷ replicate 14 0xff ++ 5 ∷ [])
+    × (field (shape I256) down (some (5 ∷ replicate 31 0)) ≡ 1 ∷ 0x7f ∷ replicate 30 0xff ++ 0xfa ∷ [])
+fields = (refl, refl, refl, refl, refl, refl, refl, refl, refl, refl)
 
 -- the length of a field of variable bytes
 pub lengths : (paddedLength 0 ≡ 1) × (paddedLength 8 ≡ 10) × (paddedLength 9 ≡ 19) × (paddedLength 32 ≡ 37) × (paddedLength 33 ≡ 70) × (paddedLength 65535 ≡ 67588)
@@ -47,7 +49,8 @@ pub orders : (slotOrder (shape I16) up (some (0xff ∷ 0xff ∷ [])) (some (0 �
     × (slotOrder (shape Variable) up none (some []) ≡ lt)
     × (slotOrder (shape Variable) down none (some []) ≡ gt)
     × (slotOrder (shape Variable) down none none ≡ eq)
-orders = (refl, refl, refl, refl, refl, refl, refl, refl)
+    × (slotOrder (shape I256) up (some (replicate 31 0xff ++ 0x7f ∷ [])) (some (replicate 32 0xff)) ≡ gt)
+orders = (refl, refl, refl, refl, refl, refl, refl, refl, refl)
 
 -- a fixed field: lead byte 16, 17; rest 16, 18, 19
 pub fixed-faults : (readField (shape I16) up [] ≡ fault Cut 0)

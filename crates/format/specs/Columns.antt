@@ -5,7 +5,7 @@ use mathlib.Core.List.{List, [], _∷_}
 use lib.Dec.{ltb, eqb}
 use lib.ListN.{length, getD}
 use Rattle.format.specs.declared.Kind.{Kind}
-use Rattle.format.specs.declared.Kind.the-variants.{Bool as KindBool, I8, I16, I32, I64, U8, U16, U32, U64, F16, F32, F64, DayTime, MonthDayNano, FixedBinary, Variable}
+use Rattle.format.specs.declared.Kind.the-variants.{Bool as KindBool, I8, I16, I32, I64, U8, U16, U32, U64, F16, F32, F64, DayTime, MonthDayNano, FixedBinary, Variable, I128, I256}
 use Rattle.format.specs.declared.SortOptions.{SortOptions}
 use Rattle.format.specs.declared.Column.{Column}
 use Rattle.format.specs.declared.Check.{Check}
@@ -13,8 +13,9 @@ use Rattle.format.specs.declared.Check.the-variants.{Pass}
 use Rattle.format.specs.declared.Refusal.the-variants.{ListCut, UnknownKind, OptionBits, Width, ManyColumns}
 use Rattle.format.specs.Limits.{maxColumns, maxWidth}
 use Rattle.format.specs.Check.{both, failIf}
+use Rattle.format.specs.Kinds.{lastKind}
 
--- the kind that a kind byte from 1 to 16 says
+-- the kind that a kind byte from 1 to 18 says
 abbrev pub kindOf : ℕ → ℕ → Kind
 kindOf b w =
     cond (eqb b 1) KindBool
@@ -31,7 +32,9 @@ kindOf b w =
     (cond (eqb b 12) F64
     (cond (eqb b 13) DayTime
     (cond (eqb b 14) MonthDayNano
-    (cond (eqb b 15) (FixedBinary w) Variable))))))))))))))
+    (cond (eqb b 15) (FixedBinary w)
+    (cond (eqb b 16) Variable
+    (cond (eqb b 17) I128 I256))))))))))))))))
 
 -- bit 0 descending, bit 1 nulls first
 abbrev pub optionsOf : ℕ → SortOptions
@@ -52,7 +55,7 @@ columnAt s at = record { kind = kindOf (getD s at 0) (widthAt s at); options = o
 -- what is wrong with it: 2, 1, 3, 4 in this order
 abbrev pub descriptionFault : List ℕ → ℕ → Check
 descriptionFault s at =
-    failIf (ltb (getD s at 0) 1 || ltb 16 (getD s at 0)) (UnknownKind at)
+    failIf (ltb (getD s at 0) 1 || ltb lastKind (getD s at 0)) (UnknownKind at)
     (failIf (ltb (length s - at) (descriptionBytes (getD s at 0))) (ListCut at)
     (failIf (ltb 3 (getD s (at + 1) 0)) (OptionBits at)
     (failIf (ltb maxWidth (widthAt s at)) (Width at)

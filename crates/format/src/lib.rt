@@ -22,9 +22,9 @@ pub const MAX_SLOT: usize = 65535;
 pub const MAX_TOTAL: u64 = 16777216;
 
 // The highest kind byte.
-pub const LAST_KIND: u8 = 16;
+pub const LAST_KIND: u8 = 18;
 
-// What the values of a column are, kinds 1 to 16 in this order; fixed binary carries its width.
+// What the values of a column are, kinds 1 to 18 in this order; fixed binary carries its width.
 pub enum Kind {
     Bool,
     I8,
@@ -42,6 +42,8 @@ pub enum Kind {
     MonthDayNano,
     FixedBinary(usize),
     Variable,
+    I128,
+    I256,
 }
 
 // Bit 0 and bit 1 of the options byte.
@@ -139,6 +141,8 @@ pub fn width(kind: Kind) -> usize
         Kind::MonthDayNano => 16,
         Kind::FixedBinary(w) => w,
         Kind::Variable => 0,
+        Kind::I128 => 16,
+        Kind::I256 => 32,
     }
 }
 

@@ -13,7 +13,7 @@ use Rattle.format.specs.declared.Column.{Column}
 use Rattle.format.specs.declared.Check.the-variants.{Pass}
 use Rattle.format.specs.Limits.{maxColumns, maxWidth}
 use Rattle.format.specs.Check.{both}
-use Rattle.format.specs.Kinds.{valueBytes}
+use Rattle.format.specs.Kinds.{lastKind, valueBytes}
 use Rattle.format.specs.Columns.{kindOf, descriptionBytes, widthAt, columnAt, descriptionFault, listFaultFrom, columnsFrom, listFault, columns}
 use Rattle.basics.proofs.Lists.{Every}
 use Rattle.basics.proofs.Checks.{failIf-pass, enough, both-pass}
@@ -43,7 +43,7 @@ width-plain s at e = rw (ne-eqb (getD s at 0) 15 e)
 pub description-passed : (s : List ℕ) (at : ℕ) → descriptionFault s at ≡ Pass
     → (descriptionBytes (getD s at 0) ≤ length s - at) × (widthAt s at ≤ maxWidth)
 description-passed s at e =
-    let known = failIf-pass (ltb (getD s at 0) 1 || ltb 16 (getD s at 0)) _ _ e in
+    let known = failIf-pass (ltb (getD s at 0) 1 || ltb lastKind (getD s at 0)) _ _ e in
     let whole = enough (length s - at) (descriptionBytes (getD s at 0)) _ _ (known .1) in
     let options = enough 3 (getD s (at + 1) 0) _ _ (whole .1) in
     let narrow = enough maxWidth (widthAt s at) _ _ (options .1) in
@@ -71,7 +71,9 @@ kind-narrow b w h =
     (either (eqb b 13) _ _ (lit≤ tt)
     (either (eqb b 14) _ _ (lit≤ tt)
     (either (eqb b 15) _ _ h
-    (lit≤ tt)))))))))))))))
+    (either (eqb b 16) _ _ (lit≤ tt)
+    (either (eqb b 17) _ _ (lit≤ tt)
+    (lit≤ tt)))))))))))))))))
 
 -- ---- the columns of a list that passes
 

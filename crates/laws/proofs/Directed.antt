@@ -24,6 +24,11 @@ length-directed false f = refl
 abbrev pub turn : Bool → ℕ → ℕ
 turn d x = cond d (invert x) x
 
+-- of none there is none
+pub directed-none : (d : Bool) → directed d [] ≡ []
+directed-none true = refl
+directed-none false = refl
+
 -- byte by byte
 pub directed-cons : (d : Bool) (x : ℕ) (f : List ℕ) → directed d (x ∷ f) ≡ turn d x ∷ directed d f
 directed-cons true x f = refl

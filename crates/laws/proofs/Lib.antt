@@ -1,6 +1,7 @@
 -- Laws of the definitions of crate format that the proofs of code cite.
 pub mod Numbers
 pub mod Unkey
+pub mod TopWord
 pub mod Stream
 pub mod Lengths
 pub mod Directed

@@ -19,7 +19,7 @@ pub struct Listed {
     pub schema: Schema,
 }
 
-// The kind that a kind byte from 1 to 16 says; fixed binary takes its width along.
+// The kind that a kind byte from 1 to 18 says; fixed binary takes its width along.
 fn kind_of(b: u8, width: usize) -> Kind
     ensures { λ r. ⌜ r ≡ kindOf b width ⌝ }
 {
@@ -39,7 +39,9 @@ fn kind_of(b: u8, width: usize) -> Kind
         13 => Kind::DayTime,
         14 => Kind::MonthDayNano,
         15 => Kind::FixedBinary(width),
-        _ => Kind::Variable,
+        16 => Kind::Variable,
+        17 => Kind::I128,
+        _ => Kind::I256,
     }
 }
 

@@ -1,7 +1,7 @@
 -- Copying bytes, inverted under descending, in steps of any count. Assumes nothing.
 use Prim.Native.Nat.{ℕ, _+_, _-_, _<_, _≤_}
-use mathlib.Core.Path.{_≡_, refl, sym, ap, ap₂, _∙_}
-use mathlib.Core.Bool.{Bool, true, false}
+use mathlib.Core.Path.{_≡_, sym, ap, ap₂, _∙_}
+use mathlib.Core.Bool.{Bool}
 use mathlib.Core.List.{List, [], _∷_, _++_}
 use native.Mathlib.Nat.{add-zero, sub-zero, sub-eq-zero-of-le}
 use native.Mathlib.Omega.{arith}
@@ -10,7 +10,7 @@ use lib.Seq.{sets, drop-cons, drop-drop, take-add, length-take-le}
 use Rattle.format.specs.Field.{directed}
 use Rattle.format.specs.Lists.{low, lowBytes}
 use Rattle.basics.proofs.Append.{sets-append, Walk, walk-first, walk-at, walk-piece, walk-end}
-use Rattle.laws.proofs.Directed.{length-directed, directed-append, directed-take, directed-drop}
+use Rattle.laws.proofs.Directed.{length-directed, directed-none, directed-append, directed-take, directed-drop}
 use Rattle.number.proofs.Words.{read-back}
 
 -- i of m bytes from place q on are copied
@@ -74,11 +74,7 @@ module _ {l : List ℕ} {q m : ℕ} {d : Bool} {out₀ : List ℕ} {at : ℕ} {o
 
   -- all are
   pub copy-end : m ≤ i → out ≡ sets out₀ at (directed d (take m (drop q l)))
-  copy-end h = walk-end (t .wrote) (ap (λ (k : ℕ). directed d (take k (drop (q + i) l))) (sub-eq-zero-of-le h) ∙ none d) .1
-    where
-      none : (d : Bool) → directed d [] ≡ []
-      none true = refl
-      none false = refl
+  copy-end h = walk-end (t .wrote) (ap (λ (k : ℕ). directed d (take k (drop (q + i) l))) (sub-eq-zero-of-le h) ∙ directed-none d) .1
 
 -- two runs, one after the other
 module _ (l : List ℕ) (q m w : ℕ) (d : Bool) (out₀ : List ℕ) (at : ℕ) (out last : List ℕ) (h : w ≤ m) (inside : q + m ≤ length l) where

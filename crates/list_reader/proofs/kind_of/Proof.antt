@@ -1,11 +1,11 @@
--- `list_reader::kind_of` meets its contract: each arm is the table's entry for the byte that was matched, and past 15 the
--- table says variable bytes. Assumes nothing.
+-- `list_reader::kind_of` meets its contract: each arm is the table's entry for the byte that was matched, and past 17 the
+-- table says decimals of 32 bytes. Assumes nothing.
 use borrow.Author.Tests.{ne-eqb}
 use Rattle.list_reader.proofs.kind_of.Statement.{statement}
 use Rattle.list_reader.proofs.kind_of.Tie as tie
 
-variable : tie.Need-returns-16
-variable c =
+last : tie.Need-returns-18
+last c =
     simp (
       ne-eqb _ _ (c .match .rest .1),
       ne-eqb _ _ (c .match .rest .0 .1),
@@ -22,6 +22,8 @@ variable c =
       ne-eqb _ _ (c .match .rest .0 .0 .0 .0 .0 .0 .0 .0 .0 .0 .0 .0 .1),
       ne-eqb _ _ (c .match .rest .0 .0 .0 .0 .0 .0 .0 .0 .0 .0 .0 .0 .0 .1),
       ne-eqb _ _ (c .match .rest .0 .0 .0 .0 .0 .0 .0 .0 .0 .0 .0 .0 .0 .0 .1),
+      ne-eqb _ _ (c .match .rest .0 .0 .0 .0 .0 .0 .0 .0 .0 .0 .0 .0 .0 .0 .0 .1),
+      ne-eqb _ _ (c .match .rest .0 .0 .0 .0 .0 .0 .0 .0 .0 .0 .0 .0 .0 .0 .0 .0 .1),
     )
 
 pub kind-of-spec : {M : Type 1} → statement M
@@ -43,4 +45,6 @@ kind-of-spec =
     (λ c. rw (c .match .keys13))
     (λ c. rw (c .match .keys14))
     (λ c. rw (c .match .keys15))
-    variable)
+    (λ c. rw (c .match .keys16))
+    (λ c. rw (c .match .keys17))
+    last)

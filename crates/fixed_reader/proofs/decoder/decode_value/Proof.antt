@@ -64,6 +64,10 @@ decode-value-spec =
     (λ c. search needs)
     (λ c κs. let at-arm = c .before .before in omega (arith, fits (taken (at-arm .before .before)) (at-arm .kind .given .1)))
     (λ c. search needs)
+    (λ c κs. let at-arm = c .before in (omega arith, omega (arith, fits (taken (at-arm .before .before)) (at-arm .enum-told14 .given .1))))
+    (λ c. search needs)
+    (λ c κs. let at-arm = c .before in (omega arith, omega (arith, fits (taken (at-arm .before .before)) (at-arm .enum-told15 .given .1))))
+    (λ c. search needs)
     (λ c. search needs)
     (λ c. search needs)
     (λ c.
@@ -135,5 +139,15 @@ decode-value-spec =
     let at-call = c .before .before in
     let at-arm = at-call .before .before .before in
     took (taken (at-arm .before .before)) (at-arm .kind .given .1) (plain _) refl _ (at-call .copy-bytes .ensures))
-    (λ c. let at-start = c .before .before .before .before in absurd (not-bool (at-start .pre .0) (c .enum-told14 .given .1)))
-    (λ c. let at-start = c .before .before .before .before in absurd (not-variable (at-start .pre .0) (c .enum-told15 .given .1))))
+    (λ c. search needs)
+    (λ c.
+    let at-call = c .before .before in
+    let at-arm = at-call .before .before in
+    took (taken (at-arm .before .before)) (at-arm .enum-told14 .given .1) (integer 16) refl _ (at-call .take-words .ensures))
+    (λ c. search needs)
+    (λ c.
+    let at-call = c .before .before in
+    let at-arm = at-call .before .before in
+    took (taken (at-arm .before .before)) (at-arm .enum-told15 .given .1) (integer 32) refl _ (at-call .take-words2 .ensures))
+    (λ c. let at-start = c .before .before .before .before in absurd (not-bool (at-start .pre .0) (c .enum-told16 .given .1)))
+    (λ c. let at-start = c .before .before .before .before in absurd (not-variable (at-start .pre .0) (c .enum-told17 .given .1))))

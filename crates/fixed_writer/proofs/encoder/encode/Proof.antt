@@ -81,6 +81,16 @@ encode-spec =
     (λ c. let at-arm = c .before .before in omega (arith, fits (handed (at-arm .before .before)) (at-arm .kind .given .1)))
     (λ c κs. let at-arm = c .before .before in simp length-set (omega (arith, fits (handed (at-arm .before .before)) (at-arm .kind .given .1))))
     (λ c. search needs)
+    (λ c. let at-arm = c .before in omega (arith, fits (handed (at-arm .before .before)) (at-arm .enum-told14 .given .1)))
+    (λ c κs.
+    let at-arm = c .before in
+    (omega arith, simp length-set (omega (arith, fits (handed (at-arm .before .before)) (at-arm .enum-told14 .given .1)))))
+    (λ c. search needs)
+    (λ c. let at-arm = c .before in omega (arith, fits (handed (at-arm .before .before)) (at-arm .enum-told15 .given .1)))
+    (λ c κs.
+    let at-arm = c .before in
+    (omega arith, simp length-set (omega (arith, fits (handed (at-arm .before .before)) (at-arm .enum-told15 .given .1)))))
+    (λ c. search needs)
     (λ c. search needs)
     (λ c. let at-call = c .before .before in at-call .put-number8 .kept .0 ∙ simp length-set)
     (λ c.
@@ -152,7 +162,17 @@ encode-spec =
     let at-call = c .before .before in
     let at-arm = at-call .before .before .before in
     wrote (handed (at-arm .before .before)) (at-arm .kind .given .1) _ refl (at-call .encode-fixed-size-binary .ensures))
+    (λ c. let at-call = c .before .before in at-call .put-words .kept .0 ∙ simp length-set)
+    (λ c.
+    let at-call = c .before .before in
+    let at-arm = at-call .before .before in
+    wrote (handed (at-arm .before .before)) (at-arm .enum-told14 .given .1) _ refl (at-call .put-words .ensures))
+    (λ c. let at-call = c .before .before in at-call .put-words2 .kept .0 ∙ simp length-set)
+    (λ c.
+    let at-call = c .before .before in
+    let at-arm = at-call .before .before in
+    wrote (handed (at-arm .before .before)) (at-arm .enum-told15 .given .1) _ refl (at-call .put-words2 .ensures))
     (λ c. simp length-set)
-    (λ c. let at-start = c .before .before .before .before in absurd (not-bool (at-start .pre .0) (c .enum-told14 .given .1)))
+    (λ c. let at-start = c .before .before .before .before in absurd (not-bool (at-start .pre .0) (c .enum-told16 .given .1)))
     (λ c. simp length-set)
-    (λ c. let at-start = c .before .before .before .before in absurd (not-variable (at-start .pre .0) (c .enum-told15 .given .1))))
+    (λ c. let at-start = c .before .before .before .before in absurd (not-variable (at-start .pre .0) (c .enum-told17 .given .1))))
