@@ -17,8 +17,8 @@
  * does not read what rows and offsets hold.
  *
  * list     For each column a byte of kind and a byte of options, and for kind 15 also the width in two
- *          bytes, low byte first (0 to 1,024). Options: bit 0 descending, bit 1 nulls first, the others
- *          zero. 1 to 16 columns.
+ *          bytes, low byte first (0 to 1,024). Options: bit 0 descending, bit 1 nulls first, bit 2 required
+ *          (no slot is null), the others zero. 1 to 16 columns.
  *
  *            kind                  values                                         value bytes
  *            1                     bool                                           1
@@ -76,6 +76,7 @@
  *            22  bytes after the last field                 row, column count
  *            23  value over 65,535                          row, column
  *            24  sheet buffer too small                     bytes needed, 0
+ *            27  null in a required column                  column, first null row
  *
  *          On a refusal only these 24 bytes change. On success the bytes past the written part stay.
  */

@@ -96,6 +96,16 @@ const DAMAGED: [(&[u8], u64); 5] = [
     (&[2, 0x61, 0, 0, 0, 0, 0, 0, 1, 1], 21),
 ];
 
+/// A required column with a null byte, and rows of it that begin with that byte.
+const MISSING: [([u8; 2], &[u8]); 6] = [
+    ([6, 4], &[0xFF, 0]),
+    ([6, 6], &[0x00, 0]),
+    ([6, 5], &[0xFF]),
+    ([VARIABLE, 4], &[0xFF]),
+    ([VARIABLE, 5], &[0xFF]),
+    ([VARIABLE, 7], &[0x00]),
+];
+
 /// A table of one column.
 pub fn one_slot_each(column: Column, values: &[Option<&[u8]>]) -> Table {
     let slot = |value: &Option<&[u8]>| Slot {
@@ -150,6 +160,19 @@ fn hold_refusals(judge: &mut Judge) {
         let offsets = eights(&[0, row.len() as u64]);
         let call = Call::decode(&list, 1, row, &offsets, 64);
         hold_numbers(judge, call, [number, 0, 0]);
+    }
+    for (list, row) in MISSING {
+        let call = Call::decode(&list, 1, row, &eights(&[0, row.len() as u64]), 64);
+        hold_numbers(judge, call, [17, 0, 0]);
+    }
+    // Null in row 1 of column 1; the values may be cut, and a spare bit comes first.
+    for (bits, number) in [(0b101, 27), (0b1101, 8)] {
+        for values in [&[5, 6, 7][..], &[]] {
+            let sheet = [&[0b111, 1, 2, 3, bits], values].concat();
+            let call = Call::encode(&[6, 2, 6, 6], 3, &sheet, 100, 32);
+            let row = if number == 27 { 1 } else { 0 };
+            hold_numbers(judge, call, [number, 1, row]);
+        }
     }
     let long = one_slot_each(Column::new(VARIABLE, 2), &[Some(&[0; 65_536])]);
     let call = Call::encode(&list, 1, &long.sheet(), 100_000, 16);

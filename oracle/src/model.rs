@@ -51,7 +51,7 @@ fn read_column(list: &[u8]) -> Result<Column, u64> {
         return Err(1);
     }
     let options = list[1];
-    if options > 3 {
+    if options > 7 {
         return Err(3);
     }
     let width = match kind {
@@ -66,6 +66,7 @@ fn read_column(list: &[u8]) -> Result<Column, u64> {
         width,
         descending: options & 1 == 1,
         nulls_first: options & 2 == 2,
+        required: options & 4 == 4,
     })
 }
 
@@ -131,12 +132,15 @@ fn take_values<'a>(
     }
 }
 
-/// The slots of each column: refusals 7 to 11.
+/// The slots of each column: refusals 7 to 11, and 27 right after the validity bits.
 pub fn read_sheet<'a>(columns: &[Column], n: usize, sheet: &'a [u8]) -> Checked<Vec<Slots<'a>>> {
     let mut rest = sheet;
     let mut slots = Vec::new();
     for (c, column) in columns.iter().enumerate() {
         let valid = take_bits(&mut rest, n, c as u64)?;
+        if let (true, Some(r)) = (column.required, (0..n).find(|i| !bit(valid, *i))) {
+            return Err([27, c as u64, r as u64]);
+        }
         let values = take_values(&mut rest, *column, n, c as u64)?;
         let slot = |(i, value)| bit(valid, i).then_some(value);
         slots.push(values.into_iter().enumerate().map(slot).collect());
@@ -154,6 +158,11 @@ fn null_byte(column: Column) -> u8 {
         true => 0x00,
         false => 0xFF,
     }
+}
+
+/// Whether a field with this lead byte is null, which none is in a required column.
+fn null_lead(column: Column, lead: u8) -> bool {
+    !column.required && lead == null_byte(column)
 }
 
 fn invert(bytes: &mut [u8]) {
@@ -368,7 +377,7 @@ fn inverted_back(column: Column, bytes: &[u8]) -> Vec<u8> {
 /// After a lead byte that is allowed: fixed rest 16, 18, 19.
 fn read_fixed(column: Column, rest: &mut &[u8]) -> Result<Option<Vec<u8>>, u64> {
     let lead = take_row(rest, 1)?[0];
-    if lead != null_byte(column) && lead != 1 {
+    if !null_lead(column, lead) && lead != 1 {
         return Err(17);
     }
     let bytes = take_row(rest, column.width)?;
@@ -402,7 +411,7 @@ fn float_unkey(key: &[u8]) -> Vec<u8> {
 /// Lead byte 16, 17; each block 16, 20, 21, 23.
 fn read_variable(column: Column, rest: &mut &[u8]) -> Result<Option<Vec<u8>>, u64> {
     let lead = take_row(rest, 1)?;
-    if lead[0] == null_byte(column) {
+    if null_lead(column, lead[0]) {
         return Ok(None);
     }
     match inverted_back(column, lead)[0] {
@@ -519,7 +528,7 @@ mod tests {
         assert_eq!(refused(read_list(&[])), [1, 0, 0]);
         assert_eq!(refused(read_list(&[4, 0, 16])), [1, 2, 0]);
         assert_eq!(refused(read_list(&[19])), [2, 0, 0]);
-        assert_eq!(refused(read_list(&[1, 0, 15, 4, 1, 4])), [3, 2, 0]);
+        assert_eq!(refused(read_list(&[1, 7, 15, 8, 1, 4])), [3, 2, 0]);
         assert_eq!(refused(read_list(&[15, 0, 1, 4])), [4, 0, 0]);
         assert_eq!(
             refused(read_list(&[&[1, 0].repeat(16)[..], &[99]].concat())),
@@ -556,6 +565,22 @@ mod tests {
         assert_eq!(slots(0, &[2, 0, 0, 0, 9, 9]), Ok(vec![vec![]]));
         assert_eq!(slots(0, &[2, 0, 0, 0, 9]), Err([7, 0, 0]));
         assert_eq!(slots(0, &[2, 0, 0, 0, 9, 9, 9]), Err([11, 6, 0]));
+    }
+
+    #[test]
+    fn a_required_column_has_no_null() {
+        let plates = |n, sheet: &[u8]| refused(measure(&[6, 4], n, sheet));
+        assert_eq!(plates(3, &[0b001]), [27, 0, 1]);
+        assert_eq!(plates(3, &[0b1001]), [8, 0, 0]);
+        assert_eq!(plates(3, &[0b111]), [7, 0, 0]);
+        let read =
+            |list: &[u8], row: &[u8]| refused(decode(list, 1, row, &[0, row.len() as u64], 99));
+        for options in 4..8 {
+            let null = [0xFF, 0x00][options as usize / 2 % 2];
+            assert_eq!(read(&[6, options], &[null, 0]), [17, 0, 0]);
+            assert_eq!(read(&[6, options], &[null]), [17, 0, 0]);
+            assert_eq!(read(&[16, options], &[null]), [17, 0, 0]);
+        }
     }
 
     #[test]

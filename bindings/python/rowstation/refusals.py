@@ -42,6 +42,7 @@ REASONS = {
     22: Reason("row {second}, column {third}: bytes follow the last field", "row", "column"),
     23: Reason("row {second}, column {third}: the value is over 65,535 bytes", "row", "column"),
     24: Reason("the sheet buffer is too small for {second} bytes", "bytes"),
+    27: Reason("column {second} is required, and null in row {third}", "column", "row"),
 }
 
 #: Answers that this package acts on itself.

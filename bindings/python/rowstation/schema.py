@@ -66,9 +66,18 @@ class Column:
         return bool(self.options & 1)
 
     @property
+    def required(self) -> bool:
+        """Whether no value may be null."""
+        return bool(self.options & 4)
+
+    @property
     def null_byte(self) -> int:
         """The lead byte of a null in a row."""
         return 0x00 if self.options & 2 else 0xFF
+
+    def null_lead(self, byte: int) -> bool:
+        """Whether a field with this lead byte is null, which none is in a required column."""
+        return byte == self.null_byte and not self.required
 
     def __str__(self) -> str:
         width = (str(self.width),) if self.kind is FIXED else ()

@@ -121,7 +121,8 @@ class Rows(Typed):
             texts = [i for i, column in enumerate(schema) if column.kind.name == "text"]
             for row in values:
                 for i in texts:
-                    row[i] = rnd.choice([None, "", "a", "".join(rnd.choice('aß", ;\n\r\t\\N') for _ in range(rnd.randrange(9)))])
+                    words = ["", "a", "".join(rnd.choice('aß", ;\n\r\t\\N') for _ in range(rnd.randrange(9)))]
+                    row[i] = rnd.choice(words if schema.columns[i].required else [None, *words])
             rows = station.encode(schema, [list(column) for column in zip(*values)] or [[]] * len(schema))
             self.put("x.hex", "".join(row.hex() + "\n" for row in rows))
             words = ("--columns", str(schema), "--null", "\\N", "--delimiter", rnd.choice([",", ";", "tab"]))

@@ -127,6 +127,24 @@ pub mod kind {
     }
 }
 
+/// The options of columns by name: bits of the second byte of a column in a list.
+///
+/// ```
+/// use station::{kind, option};
+/// // Plate numbers that are never missing.
+/// let list = [kind::U32, option::REQUIRED];
+/// let refusal = station::measure(&list, 1, &[0, 0, 0, 0, 0]).unwrap_err();
+/// assert_eq!(refusal.to_string(), "refused 27 0 0: column 0 is required, and null in row 0");
+/// ```
+pub mod option {
+    /// Large values first.
+    pub const DESCENDING: u8 = 1;
+    /// Nulls before all values, and not after them.
+    pub const NULLS_FIRST: u8 = 2;
+    /// No slot is null.
+    pub const REQUIRED: u8 = 4;
+}
+
 /// The bytes of an answer: three numbers of eight bytes.
 pub const ANSWER_BYTES: usize = 24;
 

@@ -9,7 +9,7 @@ use std::fmt;
 /// and what they mean.
 #[derive(Clone, Copy, Debug, PartialEq, Eq, Hash)]
 pub struct Refusal {
-    /// The reason, 1 to 24.
+    /// The reason, 1 to 24 or 27.
     pub number: u64,
     /// The first number that goes with it.
     pub second: u64,
@@ -63,6 +63,7 @@ impl fmt::Display for Refusal {
                 "offset {a} is not 0 at the start, falls, or passes the row bytes"
             ),
             24 => write!(f, "the sheet buffer is too small for {a} bytes"),
+            27 => write!(f, "column {a} is required, and null in row {b}"),
             _ => write!(f, "row {a}, column {b}: {}", row_reason(number)),
         }
     }

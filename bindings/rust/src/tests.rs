@@ -98,8 +98,17 @@ fn damaged_rows_are_named() {
 }
 
 #[test]
+fn a_required_column_has_no_null() {
+    let list = [kind::U8, option::NULLS_FIRST | option::REQUIRED];
+    let sheet = [0b101, 1, 2, 3];
+    assert_eq!(measure(&list, 3, &sheet), refused(27, 0, 1));
+    let read = decode(&list, 1, &[0, 0], &[0, 2], &mut [0; 2]);
+    assert_eq!(read, refused(17, 0, 0));
+}
+
+#[test]
 fn every_reason_reads_well() {
-    for number in 1..=24 {
+    for number in (1..=24).chain([27]) {
         let text = refused(number, 5, 6).unwrap_err().to_string();
         assert!(text.starts_with(&format!("refused {number} 5 6: ")));
         assert!(!text.contains("unknown reason"), "{text}");

@@ -8,6 +8,7 @@ use native.Mathlib.Omega.{arith}
 use lib.Dec.{eqb}
 use lib.ListN.{length, getD, replicate, length-replicate, length-map}
 use Rattle.format.specs.declared.Check.the-variants.{Pass}
+use Rattle.format.specs.declared.SortOptions.{SortOptions}
 use Rattle.format.specs.declared.Column.{Column}
 use Rattle.format.specs.Limits.{maxRows, maxSlot}
 use Rattle.format.specs.Lists.{Bytes, endsFrom, joined, lowBytes}
@@ -89,22 +90,22 @@ cleared-fits (fixed (float w)) = (zeros-fit w, length-replicate w 0, tt)
 cleared-fits (fixed (parts ws)) = (zeros-fit (width (parts ws)), length-replicate (width (parts ws)) 0, tt)
 cleared-fits variable = (tt, omega arith)
 
-all-fit : (sh : Shape) (ss : List Slot) → AllSlots sh ss → AllRaw sh (map (clearedRaw (layoutFor sh)) ss)
-all-fit sh [] h = tt
-all-fit sh (none ∷ ss) h = (cleared-fits sh, all-fit sh ss (h .1))
-all-fit sh (some v ∷ ss) h = (h .0, all-fit sh ss (h .1))
+all-fit : (sh : Shape) (o : SortOptions) (ss : List Slot) → AllSlots sh o ss → AllRaw sh o (map (clearedRaw (layoutFor sh)) ss)
+all-fit sh o [] h = tt
+all-fit sh o (none ∷ ss) h = (cleared-fits sh, h .0, all-fit sh o ss (h .1))
+all-fit sh o (some v ∷ ss) h = (h .0, h .0, all-fit sh o ss (h .1))
 
 -- and so does the last end
-end-fits : (sh : Shape) (n : ℕ) (rs : List Raw) → n ≤ maxRows → length rs ≡ n → AllRaw sh rs → EndFits (layoutFor sh) [] (map (λ r. r .bytes) rs)
-end-fits (fixed bool) n rs few e h = tt
-end-fits (fixed (plain w)) n rs few e h = tt
-end-fits (fixed (number w)) n rs few e h = tt
-end-fits (fixed (integer w)) n rs few e h = tt
-end-fits (fixed (float w)) n rs few e h = tt
-end-fits (fixed (parts ws)) n rs few e h = tt
-end-fits variable n rs few e h =
+end-fits : (sh : Shape) (o : SortOptions) (n : ℕ) (rs : List Raw) → n ≤ maxRows → length rs ≡ n → AllRaw sh o rs → EndFits (layoutFor sh) [] (map (λ r. r .bytes) rs)
+end-fits (fixed bool) o n rs few e h = tt
+end-fits (fixed (plain w)) o n rs few e h = tt
+end-fits (fixed (number w)) o n rs few e h = tt
+end-fits (fixed (integer w)) o n rs few e h = tt
+end-fits (fixed (float w)) o n rs few e h = tt
+end-fits (fixed (parts ws)) o n rs few e h = tt
+end-fits variable o n rs few e h =
     let xs : List (List ℕ) = map (λ r. r .bytes) rs in
-    omega (arith, data-short xs (raw-fits variable rs h), length-map rs (λ (r : Raw). r .bytes), e, few)
+    omega (arith, data-short xs (raw-fits variable o rs h), length-map rs (λ (r : Raw). r .bytes), e, few)
 
 pub raws-fit : (n : ℕ) (cols : List Column) (sss : List (List Slot)) → n ≤ maxRows → SheetFits n cols sss → RawFits n cols (clearedRaws cols sss)
 raws-fit n [] [] few h = tt
@@ -112,8 +113,8 @@ raws-fit n [] (ss ∷ sss) few h = absurd h
 raws-fit n (col ∷ cols) [] few h = absurd h
 raws-fit n (col ∷ cols) (ss ∷ sss) few h =
     let many = length-map ss (clearedRaw (layout col)) ∙ h .0 in
-    let all = all-fit (columnShape col) ss (h .1) in (
-      record { many = many; all = all; below = tt; end-fits = end-fits (columnShape col) n (map (clearedRaw (layout col)) ss) few many all },
+    let all = all-fit (columnShape col) (col .options) ss (h .1) in (
+      record { many = many; all = all; below = tt; end-fits = end-fits (columnShape col) (col .options) n (map (clearedRaw (layout col)) ss) few many all },
       raws-fit n cols sss few (h .2),
     )
 

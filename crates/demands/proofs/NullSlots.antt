@@ -72,7 +72,7 @@ resliced-fits n (col ∷ cols) (c ∷ cs) (d ∷ ds) r h = (column-kept (r .0) (
     column-kept : d .slots ≡ c .slots → length (d .before) ≡ length (c .before) → Bytes (d .before) → ColumnFits n col c → ColumnFits n col d
     column-kept same long b f = record {
       many = ap length same ∙ f .many;
-      all = subst (AllRaw (columnShape col)) (sym same) (f .all);
+      all = subst (AllRaw (columnShape col) (col .options)) (sym same) (f .all);
       below = b;
       end-fits = subst (λ (rs : List Raw). EndFits (layout col) (d .before) (map (λ r. r .bytes) rs)) (sym same)
           (end-kept (layout col) (c .before) (d .before) (map (λ r. r .bytes) (c .slots)) long (f .end-fits));

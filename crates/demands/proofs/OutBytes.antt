@@ -9,6 +9,7 @@ use lib.Dec.{eqb, lit<}
 use lib.ListN.{length, getD, take, drop, length-take}
 use Rattle.format.specs.declared.Check.{Check}
 use Rattle.format.specs.declared.Check.the-variants.{Pass, Refuse}
+use Rattle.format.specs.declared.SortOptions.{SortOptions}
 use Rattle.format.specs.declared.Column.{Column}
 use Rattle.format.specs.Limits.{maxRows, maxSlot}
 use Rattle.format.specs.Lists.{Bytes, endsFrom, joined, lowBytes}
@@ -66,9 +67,9 @@ fits-bytes : (sh : Shape) (x : List ℕ) → Fits maxSlot sh x → Bytes x
 fits-bytes (fixed k) x h = h .0
 fits-bytes variable x h = h .0
 
-all-bytes : (sh : Shape) (rs : List Raw) → AllRaw sh rs → Every Bytes (map (λ r. r .bytes) rs)
-all-bytes sh [] h = tt
-all-bytes sh (r ∷ rs) h = (fits-bytes sh (r .bytes) (h .0), all-bytes sh rs (h .1))
+all-bytes : (sh : Shape) (o : SortOptions) (rs : List Raw) → AllRaw sh o rs → Every Bytes (map (λ r. r .bytes) rs)
+all-bytes sh o [] h = tt
+all-bytes sh o (r ∷ rs) h = (fits-bytes sh (r .bytes) (h .0), all-bytes sh o rs (h .2))
 
 raw-bytes : (n : ℕ) (cols : List Column) (cs : List RawColumn) → RawFits n cols cs → Bytes (rawSheet n cols cs)
 raw-bytes n [] [] h = tt
@@ -79,7 +80,7 @@ raw-bytes n (col ∷ cols) (c ∷ cs) h =
     let xs : List (List ℕ) = map (λ r. r .bytes) (c .slots) in
     bytes-append (rawColumn (layout col) n c) (rawSheet n cols cs)
     (bytes-append (pack (packed n) flags) (standing (layout col) n (c .before) xs) (bytes-pack (packed n) flags)
-    (standing-bytes (layout col) n (c .before) xs (h .0 .below) (all-bytes (columnShape col) (c .slots) (h .0 .all))))
+    (standing-bytes (layout col) n (c .before) xs (h .0 .below) (all-bytes (columnShape col) (col .options) (c .slots) (h .0 .all))))
     (raw-bytes n cols cs (h .1))
 
 cleared-bytes : (n : ℕ) (cols : List Column) (sss : List (List Slot)) → n ≤ maxRows → SheetFits n cols sss → Bytes (clearedSheet n cols sss)

@@ -6,11 +6,12 @@ use mathlib.Core.Bool.{Bool, false}
 use mathlib.Core.List.{List, [], _∷_, _++_, map}
 use lib.Dec.{eqb}
 use lib.ListN.{length, getD, take, drop, replicate}
+use Rattle.format.specs.declared.SortOptions.{SortOptions}
 use Rattle.format.specs.declared.Column.{Column}
 use Rattle.format.specs.Limits.{maxSlot}
 use Rattle.format.specs.Lists.{Bytes, each, endsFrom, joined, lowBytes}
 use Rattle.format.specs.Kinds.{Shape, Slot, columnShape}
-use Rattle.format.specs.Fits.{Fits}
+use Rattle.format.specs.Fits.{Fits, SlotFits}
 use Rattle.format.specs.Sheet.{Layout, bits, ended, wide, layout, packed, bit, end, boolByte, valueAt, slotIf, columnBytes}
 use Rattle.format.specs.Cleared.{pack}
 
@@ -51,10 +52,10 @@ rawSheet n (col ∷ cols) (c ∷ cs) = rawColumn (layout col) n c ++ rawSheet n 
 
 -- ---- within the limits
 
--- whatever stands in a slot is of its column's shape, in null slots too
-abbrev pub AllRaw : Shape → List Raw → Type 0
-AllRaw sh [] = Unit {0}
-AllRaw sh (r ∷ rs) = Fits maxSlot sh (r .bytes) × AllRaw sh rs
+-- whatever stands in a slot is of its column's shape, in null slots too; and the slot fits, so that none is null in a required column
+abbrev pub AllRaw : Shape → SortOptions → List Raw → Type 0
+AllRaw sh o [] = Unit {0}
+AllRaw sh o (r ∷ rs) = Fits maxSlot sh (r .bytes) × SlotFits maxSlot sh o (slotOf r) × AllRaw sh o rs
 
 -- the last end is a number of four bytes
 abbrev pub EndFits : Layout → List ℕ → List (List ℕ) → Type 0
@@ -65,7 +66,7 @@ EndFits ended a xs = length a + length (joined xs) < 256 ^ 4
 -- n raw slots to a column
 pub record ColumnFits (n : ℕ) (col : Column) (c : RawColumn) : Type 0 where
   pub many : length (c .slots) ≡ n
-  pub all : AllRaw (columnShape col) (c .slots)
+  pub all : AllRaw (columnShape col) (col .options) (c .slots)
   pub below : Bytes (c .before)
   pub end-fits : EndFits (layout col) (c .before) (map (λ r. r .bytes) (c .slots))
 
