@@ -397,6 +397,7 @@ fn inverted_back(column: Column, bytes: &[u8]) -> Vec<u8> {
 
 /// After a lead byte that is allowed: fixed rest 16, 18, 19.
 fn read_fixed(column: Column, reader: &mut Reader) -> Result<Option<Vec<u8>>, Fault> {
+    let start = reader.at;
     let lead = reader.take(1)?[0];
     if !null_lead(column, lead) && lead != 1 {
         return Err((17, start));
