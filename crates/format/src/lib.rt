@@ -93,6 +93,7 @@ pub enum Refusal {
     Row(RowFault, usize, usize),
     SheetRoom(usize),
     Input,
+    OutOfOrder(usize, usize),
 }
 
 // What a check answers that gives nothing else.
@@ -212,6 +213,7 @@ pub fn refusal_numbers(r: Refusal) -> Returned
         Refusal::Row(f, row, c) => Returned(fault_number(f), row as u64, c as u64),
         Refusal::SheetRoom(bytes) => Returned(24, bytes as u64, 0),
         Refusal::Input => Returned(25, 0, 0),
+        Refusal::OutOfOrder(pass, row) => Returned(26, pass as u64, row as u64),
     }
 }
 

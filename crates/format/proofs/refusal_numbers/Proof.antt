@@ -34,6 +34,7 @@ refusal-numbers-spec =
     (λ c κs. search needs)
     (λ c. search needs)
     (λ c. search needs)
+    (λ c. search needs)
     (λ c. told (c .before .r .given .1))
     (λ c. told (c .before .r2 .given .1))
     (λ c. told (c .before .r3 .given .1))
@@ -53,4 +54,5 @@ refusal-numbers-spec =
     let v = c .before .before .r16 .given in
     ap (λ (n : ℕ). three n (v .0 .1 .0) (v .0 .1 .1 .0)) (c .fault-number .ensures) ∙ told (v .1))
     (λ c. told (c .before .r17 .given .1))
-    (λ c. told (c .enum-told .given .1)))
+    (λ c. told (c .enum-told .given .1))
+    (λ c. told (c .before .r18 .given .1)))
