@@ -1,5 +1,4 @@
 -- What the walks of the station keep, and how each way out of an entry follows.
-pub mod Alike
 pub mod Begun
 pub mod Measuring
 pub mod Encoding
