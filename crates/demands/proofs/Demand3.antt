@@ -20,7 +20,8 @@ use Rattle.laws.proofs.Sheets.{sheet-fits}
 use Rattle.laws.proofs.Turned.{rows-many}
 use Rattle.laws.proofs.Cuts.{written-cuts, written-row, below-last}
 use Rattle.laws.proofs.Accept.{encoded, encode-rows, encode-offsets}
-use Rattle.demands.specs.Order.{Lies, Batch, batchFault, rowIn, valuesIn}
+use Rattle.joiner.specs.Rows.{Lies}
+use Rattle.demands.specs.Order.{Batch, batchFault, rowIn, valuesIn}
 use Rattle.demands.proofs.RowOrder.{row-order, row-begins, row-begun}
 use Rattle.demands.proofs.OneRow.{row-injective}
 use Rattle.demands.proofs.Turning.{row-at, row-fits}

@@ -25,4 +25,7 @@ pub mod NullSlots
 pub mod Front
 pub mod FaultPlace
 pub mod OutBytes
+pub mod Sorted
+pub mod Insertion
+pub mod JoinOrder
 pub mod Unique
