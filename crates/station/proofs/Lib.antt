@@ -3,3 +3,4 @@ pub mod Begun
 pub mod Measuring
 pub mod Encoding
 pub mod Decoding
+pub mod Joining
