@@ -24,8 +24,7 @@ use Rattle.basics.proofs.Checks.{answer-done, both-pass, enough}
 use Rattle.basics.proofs.Lists.{Every, length-each}
 use Rattle.laws.proofs.Below.{up-antisym}
 use Rattle.laws.proofs.Numbers.{numbers-injective}
-use Rattle.joiner.proofs.Turns.{length-whole}
-use Rattle.joiner.proofs.Sorting.{Each, Up, numbers, every-sorted, every-append}
+use Rattle.joiner.proofs.Sorting.{Each, Up, numbers, length-order, every-sorted, every-append}
 use Rattle.demands.specs.JoinOrder.{entryRow, wanted, times, InOrder}
 use Rattle.demands.proofs.Insertion.{Kept, After, sorted-up, sorted-kept, sorted-times}
 use Rattle.demands.proofs.Sorted.{sorted-unique, along-each, each-along}
@@ -212,7 +211,8 @@ joined-in-order {n₀} {rows₀} {offsets₀} {n₁} {rows₁} {offsets₁} {lis
     let pass : check ≡ Pass = answer-done check (n₀ + n₁) 0 a b (sym says ∙ e) .0 in
     let first = both-pass (passFault 0 n₀ rows₀ offsets₀) _ pass .0 in
     let few : n₀ ≤ maxRows = enough maxRows n₀ (ManyRows n₀) Pass (both-pass (rowCountFault n₀) _ first .0) .0 in
-    let many : length (joinOrder xs ys) ≡ n₀ + n₁ = length-whole n₀ (rowBytes rows₀ offsets₀) n₁ (rowBytes rows₁ offsets₁) list in
+    let many : length (joinOrder xs ys) ≡ n₀ + n₁ =
+    length-order xs ys ∙ ap₂ {C = ℕ} (λ a b. a + b) (length-each 0 n₀ (rowBytes rows₀ offsets₀)) (length-each 0 n₁ (rowBytes rows₁ offsets₁)) in
     let front : take (n₀ + n₁) list′ ≡ joinOrder xs ys =
     ap (take (n₀ + n₁)) (g .order ∙ ap (λ (c : Check). written c (joinOrder xs ys) list) pass)
     ∙ take-at (joinOrder xs ys) (drop (length (joinOrder xs ys)) list) (n₀ + n₁) many in

@@ -1,14 +1,14 @@
 -- Entries sorted by their rows: what insertion makes of those that are in order already. Assumes nothing.
-use Prim.Native.Nat.{ℕ, suc, _+_, _*_}
-use mathlib.Core.Path.{_≡_, refl, ap, sym, _∙_}
+use Prim.Native.Nat.{ℕ, suc, _+_}
+use mathlib.Core.Path.{_≡_, refl, ap, ap₂, sym, _∙_}
 use mathlib.Core.Bool.{Bool, true, false, cond}
 use mathlib.Core.List.{List, [], _∷_, _++_, map}
 use native.Mathlib.Omega.{arith}
-use lib.ListN.{length}
+use lib.ListN.{length, length-append, length-map}
 use Rattle.format.specs.declared.Check.the-variants.{Pass}
 use Rattle.format.specs.declared.Refusal.the-variants.{OutOfOrder}
 use Rattle.format.specs.Batch.{below, orderFrom, orderFault}
-use Rattle.format.specs.Join.{Entry, entriesFrom, insert, sorted}
+use Rattle.format.specs.Join.{Entry, entriesFrom, entriesOf, insert, sorted, joinOrder}
 use Rattle.basics.proofs.Checks.{failIf-pass}
 use Rattle.basics.proofs.Lists.{Every}
 use Rattle.laws.proofs.Below.{up-trans}
@@ -51,13 +51,19 @@ length-insert a (d ∷ ds) = go (below (d .bytes) (a .bytes)) (length-insert a d
     go true ih = ap suc ih
     go false ih = refl
 
-pub length-sorted : (es : List Entry) → length (sorted es) ≡ length es
+length-sorted : (es : List Entry) → length (sorted es) ≡ length es
 length-sorted [] = refl
 length-sorted (e ∷ es) = length-insert e (sorted es) ∙ ap suc (length-sorted es)
 
-pub length-entries : (p r : ℕ) (xs : List (List ℕ)) → length (entriesFrom p r xs) ≡ length xs
+length-entries : (p r : ℕ) (xs : List (List ℕ)) → length (entriesFrom p r xs) ≡ length xs
 length-entries p r [] = refl
 length-entries p r (x ∷ xs) = ap suc (length-entries p (suc r) xs)
+
+pub length-order : (xs ys : List (List ℕ)) → length (joinOrder xs ys) ≡ length xs + length ys
+length-order xs ys =
+    length-map (sorted (entriesOf xs ys)) (λ (e : Entry). e .number) ∙ length-sorted (entriesOf xs ys)
+    ∙ length-append (entriesFrom 0 0 xs) (entriesFrom 1 0 ys)
+    ∙ ap₂ {C = ℕ} (λ a b. a + b) (length-entries 0 0 xs) (length-entries 1 0 ys)
 
 -- ---- which entry stands first
 

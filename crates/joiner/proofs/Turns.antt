@@ -7,7 +7,7 @@ use mathlib.Core.List.{List, [], _∷_, _++_}
 use native.Mathlib.Nat.{sub-zero}
 use native.Mathlib.Numerals.{add-one}
 use native.Mathlib.Omega.{arith}
-use lib.ListN.{length, set, length-append, length-map}
+use lib.ListN.{length, set}
 use borrow.Author.Tests.{le-leb, lt-leb}
 use Rattle.format.specs.Limits.{maxRows}
 use Rattle.format.specs.Lists.{each, over}
@@ -17,7 +17,7 @@ use Rattle.basics.proofs.Append.{each-step, each-none, over-sets, Walk, walk-st
 use Rattle.basics.proofs.Compare.{choose}
 use Rattle.basics.proofs.Lists.{length-each}
 use Rattle.joiner.specs.Rows.{secondNext}
-use Rattle.joiner.proofs.Sorting.{Each, Up, numbers, length-sorted, length-entries, takes-only, takes-first, takes-past, takes-second}
+use Rattle.joiner.proofs.Sorting.{Each, Up, numbers, length-order, takes-only, takes-first, takes-past, takes-second}
 
 -- the entries of pass p, of the n rows f, from row i on
 abbrev pub leftOf : ℕ → ℕ → (ℕ → List ℕ) → ℕ → List Entry
@@ -59,12 +59,8 @@ module _ (n : ℕ) (f : ℕ → List ℕ) (m : ℕ) (g : ℕ → List ℕ) (list
     wrote = rw (sub-zero n, sub-zero m) (walk-start whole list₀ 0);
   }
 
-  pub length-whole : length whole ≡ n + m
-  length-whole =
-      length-map (sorted (entriesFrom 0 0 (each 0 n f) ++ entriesFrom 1 0 (each 0 m g))) (λ (e : Entry). e .number)
-      ∙ length-sorted (entriesFrom 0 0 (each 0 n f) ++ entriesFrom 1 0 (each 0 m g))
-      ∙ length-append (entriesFrom 0 0 (each 0 n f)) (entriesFrom 1 0 (each 0 m g))
-      ∙ ap₂ {C = ℕ} (λ a b. a + b) (length-entries 0 0 (each 0 n f) ∙ length-each 0 n f) (length-entries 1 0 (each 0 m g) ∙ length-each 0 m g)
+  length-whole : length whole ≡ n + m
+  length-whole = length-order (each 0 n f) (each 0 m g) ∙ ap₂ {C = ℕ} (λ a b. a + b) (length-each 0 n f) (length-each 0 m g)
 
   -- all are taken
   pub merge-end : {list : List ℕ} {i j : ℕ} → Merges list i j → n + m ≤ length list₀ → n + m ≤ i + j → list ≡ over whole list₀

@@ -1,12 +1,16 @@
 -- `joiner::check::check_pass` meets its contract: what each check ensures, put together. Assumes nothing.
 use borrow.Author.Needs.{needs}
-use mathlib.Core.Path.{_≡_, sym, _∙_}
-use Rattle.format.specs.declared.Check.the-variants.{Pass}
-use Rattle.format.specs.Entries.{offsetsFault}
+use mathlib.Core.Path.{sym, _∙_}
 use Rattle.laws.proofs.Cuts.{offsets-passed}
 use Rattle.joiner.proofs.Passes.{many, bad-offsets, by-order}
 use Rattle.joiner.proofs.check.check_pass.Statement.{statement}
 use Rattle.joiner.proofs.check.check_pass.Tie as tie
+
+-- what check_order asks: the offsets were looked at before, and pass
+check-order-requires : tie.Need-check-order-requires
+check-order-requires c κs =
+    let called = c .before .before in
+    (called .before .if1 .left, offsets-passed _ _ _ (sym (called .check-offsets .ensures) ∙ c .enum-told .given .1))
 
 returns : tie.Need-returns
 returns c = many _ _ _ _ (c .if1 .taken)
@@ -21,19 +25,13 @@ returns-2 c =
     bad-offsets (a .pass) (a .n) (a .rows .now) (a .offsets .now) (called .before .if1 .left) _
     (sym (called .check-offsets .ensures) ∙ c .before .check .given .1)
 
--- ---- the offsets pass
-passed : (c : tie.After-enum-told) → let a = start (c .before .before) .args in offsetsFault (a .n) (a .rows .now) (a .offsets .now) ≡ Pass
-passed c = sym (c .before .before .check-offsets .ensures) ∙ c .enum-told .given .1
-
-check-order-requires : tie.Need-check-order-requires
-check-order-requires c κs = (c .before .before .before .if1 .left, offsets-passed _ _ _ (passed c))
-
 returns-3 : tie.Need-returns-3
 returns-3 c =
     let told = c .before in
     let called = told .before .before in
     let a = start called .args in
-    by-order (a .pass) (a .n) (a .rows .now) (a .offsets .now) (called .before .if1 .left) _ (passed told) (c .check-order .ensures)
+    by-order (a .pass) (a .n) (a .rows .now) (a .offsets .now) (called .before .if1 .left) _
+    (sym (called .check-offsets .ensures) ∙ told .enum-told .given .1) (c .check-order .ensures)
 
 pub check-pass-spec : {M : Type 1} → statement M
 check-pass-spec =

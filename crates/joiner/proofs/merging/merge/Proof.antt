@@ -34,19 +34,19 @@ loop-again : tie.Need-loop-again Inv-loop μ-loop
 loop-again c =
     let called = c .before in
     let at-loop = called .before .before in
-    merge-second _ _ _ _ _ (at-loop .loop .inv) (called .before .loop-test .taken) _ (called .second-next .ensures) (c .if1 .taken) _ refl
+    merge-second _ _ _ _ _ (at-loop .loop .inv) (omega arith) _ (called .second-next .ensures) (c .if1 .taken) _ refl
 
 -- ---- row i of pass 0
 loop-again-2 : tie.Need-loop-again-2 Inv-loop μ-loop
 loop-again-2 c =
     let called = c .before in
     let at-loop = called .before .before in
-    merge-first _ _ _ _ _ (at-loop .loop .inv) (called .before .loop-test .taken) _ (called .second-next .ensures) (c .if1 .left) _ refl
+    merge-first _ _ _ _ _ (at-loop .loop .inv) (omega arith) _ (called .second-next .ensures) (c .if1 .left) _ refl
 
 returns : tie.Need-returns Inv-loop μ-loop
 returns c =
     let at-loop = c .before in
-    merge-end _ _ _ _ _ (at-loop .loop .inv) (start at-loop .pre .room) (c .loop-test .left)
+    merge-end _ _ _ _ _ (at-loop .loop .inv) (start at-loop .pre .room) (omega arith)
 
 pub merge-spec : {M : Type 1} → statement M
 merge-spec =
