@@ -6,12 +6,12 @@ use native.Mathlib.Nat.{suc-inj}
 use native.Mathlib.Omega.{arith}
 use lib.ListN.{length, getD, take, drop, length-drop, take-append-drop, drop-of-length-le}
 use lib.Seq.{drop-cons, drop-drop, take-add, take-take, length-take-le}
-use lib.IntN.{pos, negsuc}
+use lib.IntN.{ℤ, pos, negsuc}
 use Rattle.format.specs.Lists.{lowBytes}
 use Rattle.format.specs.Order.{then, cmp}
-use Rattle.format.specs.Entries.{compareAnswer}
+use Rattle.format.specs.Entries.{sign, compareAnswer}
 use Rattle.format.specs.Promises.{Compared}
-use Rattle.basics.proofs.Compare.{compare-lt, compare-gt, compare-eq}
+use Rattle.basics.proofs.Compare.{Tri, below, same, above, tri, compare-lt, compare-gt, compare-eq}
 use Rattle.number.proofs.Words.{length-lowBytes, bytes-lowBytes, low-lowBytes, byte-back}
 use Rattle.laws.proofs.HighFirst.{unsigned-order}
 
@@ -28,7 +28,15 @@ alike-none a b = record { in-a = omega arith; in-b = omega arith; same = refl }
 pub record Decides (a b : List ℕ) (j w x y : ℕ) : Type 0 where
   pub less : x < y → Compared a b (negsuc 0)
   pub more : y < x → Compared a b (pos 1)
-  pub next : y ≤ x → x ≤ y → Alike a b (j + w)
+  pub differs : (x ≡ y → ⊥) → (r : ℤ) → r ≡ sign (cmpℕ x y) → Compared a b r
+  pub next : x ≡ y → Alike a b (j + w)
+
+-- ---- two numbers that differ
+pub differ-less : (x y : ℕ) → x < y → negsuc 0 ≡ sign (cmpℕ x y)
+differ-less x y h = ap sign (sym (compare-lt x y h))
+
+pub differ-more : (x y : ℕ) → (x ≡ y → ⊥) → y ≤ x → pos 1 ≡ sign (cmpℕ x y)
+differ-more x y ne h = ap sign (sym (compare-gt x y (omega (arith, ne))))
 
 -- ---- comparing what is joined
 
@@ -87,19 +95,26 @@ module _ {a b : List ℕ} {i : ℕ} (k : Alike a b i) (j : ℕ) (h : j ≤ i) wh
         so-far ∙ ap₂ cmp (cut a) (cut b) ∙ cmp-even (take w (drop j a)) (take w (drop j b)) (drop (j + w) a) (drop (j + w) b) even
         ∙ ap (λ (o : Ordering). then o (cmp (drop (j + w) a) (drop (j + w) b))) word-order
 
+    -- words that differ leave nothing to what follows
+    kept : (x ≡ y → ⊥) → (o : Ordering) → Tri x y o → then o (cmp (drop (j + w) a) (drop (j + w) b)) ≡ o
+    kept ne lt (below l) = refl
+    kept ne eq (same e) = absurd (ne e)
+    kept ne gt (above l) = refl
+
     pub decides : Decides a b j w x y
     unfolding compareAnswer
     decides = record {
       less = λ l. record { answers = rw decided (rw (compare-lt x y l)) };
       more = λ l. record { answers = rw decided (rw (compare-gt x y l)) };
-      next = λ g l.
+      differs = λ ne r e. record { answers = e ∙ ap sign (sym (decided ∙ kept ne (cmpℕ x y) (tri x y))) };
+      next = λ e.
           record {
             in-a = ia;
             in-b = ib;
             same =
                 take-add j w a
                 ∙ ap₂ (λ (p q : List ℕ). p ++ q) fronts
-                (spells-x ∙ ap (λ (z : ℕ). reverse (lowBytes w z)) {x = x} {y = y} (omega arith) ∙ sym spells-y)
+                (spells-x ∙ ap (λ (z : ℕ). reverse (lowBytes w z)) e ∙ sym spells-y)
                 ∙ sym (take-add j w b);
           };
     }

@@ -2,10 +2,11 @@
 // first two words that differ decide; the last word ends where the shorter string does, and may begin within the one before it.
 ghost use mathlib.Core.Path.{_≡_};
 ghost use mathlib.Core.List.{reverse};
-ghost use Prim.Native.Nat.{_+_, _<_, _≤_};
+ghost use Prim.Native.Nat.{_+_, _≤_, compare as compareℕ};
 ghost use lib.ListN.{length, take, drop};
 ghost use Rattle.format.specs.Lists.{lowBytes};
 ghost use Rattle.format.specs.Batch.{below as below·};
+ghost use Rattle.format.specs.Entries.{sign};
 ghost use Rattle.format.specs.Promises.{Compared};
 ghost use Rattle.byte_order.specs.Least.{Least};
 use number::Coding;
@@ -33,6 +34,14 @@ fn word(s: &[u8], at: usize) -> u64
     ensures { λ r. ⌜ lowBytes 8 r ≡ reverse (take 8 (drop at (now (s .entry)))) ⌝ }
 {
     encode64(Coding::Unsigned, low64(s, at))
+}
+
+// −1 or 1, of two words that differ. Words that do not are the common case, and cost one test.
+fn differ(x: u64, y: u64) -> i32
+    requires { ⌜ (x ≡ y → ⊥) ⌝ }
+    ensures { λ r. ⌜ r ≡ sign (compareℕ x y) ⌝ }
+{
+    if x < y { LESS } else { GREATER }
 }
 
 // −1, 0 or 1, a byte at a time.
@@ -77,21 +86,15 @@ pub fn compare(a: &[u8], b: &[u8]) -> i32
     while i < last {
         let x = word(a, i);
         let y = word(b, i);
-        if x < y {
-            return LESS;
-        }
-        if y < x {
-            return GREATER;
+        if x != y {
+            return differ(x, y);
         }
         i += WORD;
     }
     let x = word(a, last);
     let y = word(b, last);
-    if x < y {
-        return LESS;
-    }
-    if y < x {
-        return GREATER;
+    if x != y {
+        return differ(x, y);
     }
     if n < m {
         return LESS;

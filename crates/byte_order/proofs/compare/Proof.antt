@@ -1,7 +1,13 @@
 -- `byte_order::compare` meets its contract. The loop's invariant: the two are alike so far. The measure is what is left before the last
 -- word. Assumes nothing.
-use borrow.Author.Needs.{needs}
-use Prim.Native.Nat.{_-_, _+_, _≤_}
+use borrow.Author.Needs.{needs, sfits-of}
+use mathlib.Core.Path.{_≡_, _∙_}
+use lib.IntN.{ℤ}
+use lib.Signed.{mag}
+use mir.Syntax.{w32}
+use mir.Val.{toZ, ofZ, hbits}
+use mir.Facts.{toZ-ofZ}
+use Prim.Native.Nat.{_-_, _+_, _^_, _<_, _≤_}
 use native.Mathlib.Omega.{arith}
 use lib.ListN.{length}
 use Rattle.byte_order.specs.Least.{Least}
@@ -14,6 +20,10 @@ Inv-loop a b n m k last i₀ i = (i ≤ k) × Alike a b i
 
 abbrev μ-loop : tie.MeasureT-loop
 μ-loop a b n m k last i₀ i = last - i
+
+-- an answer that is returned as it is
+told : {z y : ℤ} → mag z < 2 ^ hbits w32 → z ≡ y → toZ w32 (ofZ w32 z) ≡ y
+told f e = toZ-ofZ {w = w32} (sfits-of f) ∙ e
 
 abbrev start : tie.After-least Inv-loop μ-loop → tie.Start Inv-loop μ-loop
 start c = c .before .before .before
@@ -48,26 +58,26 @@ last-decides c =
     (c .before .word3 .ensures) (c .word4 .ensures)
 
 -- they tie: the two are alike up to where the shorter ends
-tied : (c : tie.Else5 Inv-loop μ-loop)
-    → let k = c .before .before .before .before .before .before .before in
+tied : (c : tie.Else3 Inv-loop μ-loop)
+    → let k = c .before .before .before .before .before .before in
     let args = start k .args in
     Alike (args .a .now) (args .b .now) (k .least .result - 8 + 8)
-tied c = last-decides (c .before .before) .next (c .before .if4 .left) (c .if5 .left)
+tied c = last-decides (c .before) .next (c .if3 .left)
 
 -- and there the lengths decide
+returns-4 : tie.Need-returns-4 Inv-loop μ-loop
+returns-4 c =
+    let k = shorter (c .before .before .before .before .before) .first (omega arith) in
+    a-ends (tied (c .before)) (omega arith) (omega arith)
+
+returns-5 : tie.Need-returns-5 Inv-loop μ-loop
+returns-5 c =
+    let k = shorter (c .before .before .before .before .before .before) .second (omega arith) in
+    b-ends (tied (c .before .before)) (omega arith) (omega arith)
+
 returns-6 : tie.Need-returns-6 Inv-loop μ-loop
 returns-6 c =
     let k = shorter (c .before .before .before .before .before .before) .first (omega arith) in
-    a-ends (tied (c .before)) (omega arith) (omega arith)
-
-returns-7 : tie.Need-returns-7 Inv-loop μ-loop
-returns-7 c =
-    let k = shorter (c .before .before .before .before .before .before .before) .second (omega arith) in
-    b-ends (tied (c .before .before)) (omega arith) (omega arith)
-
-returns-8 : tie.Need-returns-8 Inv-loop μ-loop
-returns-8 c =
-    let k = shorter (c .before .before .before .before .before .before .before) .first (omega arith) in
     both-end (tied (c .before .before)) (omega arith) (omega arith)
 
 pub compare-spec : {M : Type 1} → statement M
@@ -82,15 +92,15 @@ compare-spec =
     (λ c. (omega arith, alike-none _ _))
     (λ c κs. omega (arith, shorter (c .before)))
     (λ c κs. omega (arith, shorter (c .before .before)))
-    (λ c. words-decide (c .before) .less (c .if2 .taken))
-    (λ c. words-decide (c .before .before) .more (c .if3 .taken))
+    (λ c κs. c .if2 .taken)
+    (λ c. words-decide (c .before .before) .differs (c .before .if2 .taken) _ (told (c .differ .ok) (c .differ .ensures)))
     (λ c. omega arith)
     (λ c. omega arith)
-    (λ c. (omega arith, words-decide (c .before .before) .next (c .before .if2 .left) (c .if3 .left)))
+    (λ c. (omega arith, words-decide (c .before) .next (c .if2 .left)))
     (λ c κs. omega (arith, shorter (c .before)))
     (λ c κs. omega (arith, shorter (c .before .before)))
-    (λ c. last-decides (c .before) .less (c .if4 .taken))
-    (λ c. last-decides (c .before .before) .more (c .if5 .taken))
-    returns-6
-    returns-7
-    returns-8)
+    (λ c κs. c .if3 .taken)
+    (λ c. last-decides (c .before .before) .differs (c .before .if3 .taken) _ (told (c .differ2 .ok) (c .differ2 .ensures)))
+    returns-4
+    returns-5
+    returns-6)

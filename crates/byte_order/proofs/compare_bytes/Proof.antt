@@ -34,7 +34,7 @@ returns-3 : tie.Need-returns-3 Inv-loop μ-loop
 returns-3 c = bytes-decide (c .before .before) .more (c .if3 .taken)
 
 loop-again : tie.Need-loop-again Inv-loop μ-loop
-loop-again c = bytes-decide (c .before .before) .next (c .before .if2 .left) (c .if3 .left)
+loop-again c = bytes-decide (c .before .before) .next (omega arith)
 
 -- ---- where one ends
 returns : tie.Need-returns Inv-loop μ-loop
