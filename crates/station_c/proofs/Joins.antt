@@ -39,6 +39,12 @@ length-new n₀ rows₀ offsets₀ n₁ rows₁ offsets₁ =
     length-order (cutRows n₀ rows₀ offsets₀) (cutRows n₁ rows₁ offsets₁)
     ∙ ap₂ {C = ℕ} (λ a b. a + b) (length-each 0 n₀ (rowBytes rows₀ offsets₀)) (length-each 0 n₁ (rowBytes rows₁ offsets₁))
 
+-- ---- join with the offsets that were read
+pub read-joined : {n₀ : ℕ} {rows₀ os₀ few₀ : List ℕ} {n₁ : ℕ} {rows₁ os₁ few₁ list : List ℕ} {r : Answer} {list′ : List ℕ} → os₀ ≡ few₀ → os₁ ≡ few₁
+    → Joined n₀ rows₀ os₀ n₁ rows₁ os₁ list r list′ → Joined n₀ rows₀ few₀ n₁ rows₁ few₁ list r list′
+read-joined {n₀} {rows₀} {os₀} {few₀} {n₁} {rows₁} {os₁} {few₁} {list} {r} {list′} e f h =
+    subst (λ (x : List ℕ). Joined n₀ rows₀ x n₁ rows₁ few₁ list r list′) e (subst (λ (x : List ℕ). Joined n₀ rows₀ os₀ n₁ rows₁ x list r list′) f h)
+
 -- ---- join with numbers in bytes
 module _ (n₀ : ℕ) (rows₀ offsets₀ : List ℕ) (n₁ : ℕ) (rows₁ offsets₁ order list : List ℕ) (r : Answer) (list′ : List ℕ)
     (h : Joined n₀ rows₀ offsets₀ n₁ rows₁ offsets₁ list r list′) where
