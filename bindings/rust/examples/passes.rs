@@ -79,7 +79,11 @@ fn rows(points: &[Point]) -> Result<Rows, Refusal> {
     });
     let offsets = std::iter::once(0).chain(ends).collect();
     let nulls = rows.nulls;
-    Ok(Rows { bytes, offsets, nulls })
+    Ok(Rows {
+        bytes,
+        offsets,
+        nulls,
+    })
 }
 
 fn hex(row: &[u8]) -> String {
@@ -106,7 +110,11 @@ fn main() -> Result<(), Refusal> {
     for same in order.chunk_by(|a, b| row(a) == row(b)) {
         let second = same.iter().filter(|&&entry| 4096 <= entry).count();
         let first = same.len() - second;
-        let verdict = if first > 0 && second > 0 { "ink" } else { "dust" };
+        let verdict = if first > 0 && second > 0 {
+            "ink"
+        } else {
+            "dust"
+        };
         println!("{} {verdict} {first} {second}", hex(row(&same[0])));
     }
 

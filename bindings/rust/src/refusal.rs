@@ -60,13 +60,19 @@ impl fmt::Display for Refusal {
             ),
             12 => write!(f, "{a} row bytes, over 16,777,216"),
             13 => write!(f, "the row buffer is too small for {a} bytes"),
-            14 => write!(f, "the list of offsets or of the order is too short for {a} numbers"),
+            14 => write!(
+                f,
+                "the list of offsets or of the order is too short for {a} numbers"
+            ),
             15 => write!(
                 f,
                 "offset {a} is not 0 at the start, falls, or passes the row bytes"
             ),
             24 => write!(f, "the sheet buffer is too small for {a} bytes"),
-            26 => write!(f, "pass {a} is out of order: row {b} is below the row before it"),
+            26 => write!(
+                f,
+                "pass {a} is out of order: row {b} is below the row before it"
+            ),
             _ => write!(f, "row {a}, column {b}: {}", row_reason(number)),
         }
     }
