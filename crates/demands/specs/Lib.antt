@@ -5,3 +5,4 @@ pub mod RoundTrip
 pub mod Order
 pub mod Slices
 pub mod Place
+pub mod JoinOrder
