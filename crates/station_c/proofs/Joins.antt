@@ -21,7 +21,7 @@ use Rattle.format.specs.Numbers.{numbersOf}
 use Rattle.format.specs.Entries.{answer, written, rowCountFault, rowBytes, cutRows}
 use Rattle.format.specs.Batch.{passFault}
 use Rattle.format.specs.Join.{joinOrder, joinCheck, joinAnswer, joinList}
-use Rattle.format.specs.Lent.{eights, eightBytes, numberBytes, lentJoin, lentJoinList}
+use Rattle.format.specs.Lent.{eights, eightBytes, numberBytes, answerRoom, lentJoin, lentJoinList}
 use Rattle.format.specs.Promises.{Joined, LentJoined}
 use Rattle.basics.proofs.Checks.{answer-done, both-pass, enough}
 use Rattle.basics.proofs.Lists.{length-each}
@@ -69,8 +69,8 @@ module _ (n₀ : ℕ) (rows₀ offsets₀ : List ℕ) (n₁ : ℕ) (rows₁ offs
       let all : list′ ≡ new = h .order ∙ rw passes (rw (drop-of-length-le list short) (append-nil new)) in
       record { answers = h .answers; entries = w ∙ rw (passes, all) refl }
 
--- ---- an answer that cannot hold the three numbers
-pub join-short : (n₀ : ℕ) (rows₀ bs₀ : List ℕ) (n₁ : ℕ) (rows₁ bs₁ order lent : List ℕ) → length lent < 24
+-- ---- an answer that cannot hold the four numbers
+pub join-short : (n₀ : ℕ) (rows₀ bs₀ : List ℕ) (n₁ : ℕ) (rows₁ bs₁ order lent : List ℕ) → length lent < answerRoom
     → LentJoined n₀ rows₀ bs₀ n₁ rows₁ bs₁ order lent order lent
 unfolding lentJoin lentJoinList
 join-short n₀ rows₀ bs₀ n₁ rows₁ bs₁ order lent short = record {
@@ -160,9 +160,9 @@ module _ (n₀ : ℕ) (rows₀ bs₀ : List ℕ) (k₀ : ℕ) (u₀ : Used n₀ 
       ∙ front (allCheck room) newAll order b (λ e. omega (arith, passed room e, length-new n₀ rows₀ (eights bs₀) n₁ rows₁ (eights bs₁)))
       ∙ rw (length-each 0 room (eightAt order)) refl
 
-  -- ---- the entry, where the answer can hold the three numbers
+  -- ---- the entry, where the answer can hold the four numbers
   pub join-long : (order : List ℕ) (k : ℕ) (order′ lent lent′ : List ℕ) (r : Answer) → Bytes order → UsedEntries n₀ n₁ (length order / 8) k
-      → 24 ≤ length lent → lent′ ≡ over (numberBytes (numbersOf r)) lent
+      → answerRoom ≤ length lent → lent′ ≡ over (numberBytes (numbersOf r)) lent
       → JoinedBytes n₀ rows₀ (firstEights k₀ bs₀) n₁ rows₁ (firstEights k₁ bs₁) order k r order′
       → LentJoined n₀ rows₀ bs₀ n₁ rows₁ bs₁ order lent order′ lent′
   unfolding lentJoin lentJoinList
