@@ -16,7 +16,7 @@ use Rattle.format.specs.declared.SortOptions.{SortOptions}
 use Rattle.format.specs.Limits.{maxSlot}
 use Rattle.format.specs.Kinds.{Fixed, bool, plain, number, integer, float, parts, Shape, fixed, variable, Slot, width}
 use Rattle.format.specs.Key.{allowed, inverted}
-use Rattle.format.specs.Field.{blockSize, directed, nullByte}
+use Rattle.format.specs.Field.{blockSize, directed}
 use Rattle.format.specs.Read.{Parsed, got, fault, after, allZero, fromBad, nullLead, readBlock, readBlocks, readBytes, readField, readFixed, readKey, readNull, readValue, readVariable, valueSlot}
 use Rattle.laws.proofs.Directed.{length-directed}
 use Rattle.demands.specs.Place.{BadEnd, FieldBad, FirstBad, FixedBad, Reached, VariableBad, blockPlace, dataBefore, dataIn, endPlace}
@@ -132,7 +132,7 @@ right-fixed k o [] = refl
 right-fixed k o (b ∷ s) =
     by-test (FixedRight k o (b ∷ s)) (nullLead o b) _ _ (λ q. right-null k o b s) (λ q.
     by-test (FixedRight k o (b ∷ s)) (eqb b 1) _ _ (λ h. right-bytes k o b s) (λ h.
-    (omega arith, omega arith, eqb-false b (nullByte o) q, eqb-false b 1 h)))
+    (omega arith, omega arith, q, eqb-false b 1 h)))
 
 -- ---- variable bytes
 abbrev VariableRight : {A : Type 0} → ℕ → List ℕ → Parsed A → Type 0

@@ -51,7 +51,7 @@ same-refusal e = cc
 
 -- past a field
 bad-past : (col : Column) (cols : List Column) (x : Slot) (s g : List ℕ) (f : RowFault) (c here : ℕ)
-    → (s ≡ field (columnShape col) (col .options) x ++ g) × SlotFits maxSlot (columnShape col) x → BadAt cols g f c here
+    → (s ≡ field (columnShape col) (col .options) x ++ g) × SlotFits maxSlot (columnShape col) (col .options) x → BadAt cols g f c here
     → BadAt (col ∷ cols) s f (suc c) (length (field (columnShape col) (col .options) x) + here)
 bad-past col cols x s g f c here e t = record {
   values = x ∷ t .values;

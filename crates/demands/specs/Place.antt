@@ -1,7 +1,7 @@
 -- Where in a row a refusal points: the byte that each of 16 to 23 names, said of the row's bytes and not of how they are read.
 use Prim.Native.Nat.{ℕ, zero, suc, _+_, _<_, _≤_}
 use mathlib.Core.Path.{_≡_}
-use mathlib.Core.Bool.{cond}
+use mathlib.Core.Bool.{false, cond}
 use mathlib.Core.List.{List, [], _∷_, _++_}
 use lib.Dec.{eqb}
 use lib.ListN.{length, getD, take, drop}
@@ -11,7 +11,8 @@ use Rattle.format.specs.declared.RowFault.the-variants.{Cut, Lead, NullRest, Bo
 use Rattle.format.specs.declared.SortOptions.{SortOptions}
 use Rattle.format.specs.Limits.{maxSlot}
 use Rattle.format.specs.Kinds.{Fixed, bool, Shape, fixed, variable, Slot, width, columnShape}
-use Rattle.format.specs.Field.{directed, nullByte, blockSize}
+use Rattle.format.specs.Field.{directed, blockSize}
+use Rattle.format.specs.Read.{nullLead}
 use Rattle.format.specs.Fits.{RowFits}
 use Rattle.format.specs.Row.{row}
 
@@ -26,7 +27,7 @@ pub record FirstBad (s : List ℕ) (a b p : ℕ) : Type 0 where
 -- ---- fixed kinds: a field in front of s, of a column with these options, where byte p is the bad one
 abbrev pub FixedBad : Fixed → SortOptions → RowFault → List ℕ → ℕ → Type 0
 FixedBad k o Cut s p = p ≡ length s
-FixedBad k o Lead s p = (p ≡ 0) × (0 < length s) × (getD s 0 0 ≡ nullByte o → ⊥) × (getD s 0 0 ≡ 1 → ⊥)
+FixedBad k o Lead s p = (p ≡ 0) × (0 < length s) × (nullLead o (getD s 0 0) ≡ false) × (getD s 0 0 ≡ 1 → ⊥)
 FixedBad k o NullRest s p = FirstBad s 1 (1 + width k) p
 FixedBad k o BoolByte s p = (k ≡ bool) × (p ≡ 1) × (1 < length s) × (1 < getD (directed (o .descending) s) 1 0)
 FixedBad k o EndByte s p = ⊥
