@@ -47,7 +47,7 @@
  * offsets  n+1 numbers of eight bytes, low byte first: 0, then each row's end. A length that is no multiple
  *          of eight leaves a tail that does not count and stays.
  *
- * answer   Three numbers of eight bytes, low byte first, so 24 bytes; a shorter answer, and no lent byte
+ * answer   Four numbers of eight bytes, low byte first, so 32 bytes; a shorter answer, and no lent byte
  *          changes. The first is 0 for done, and else the number of the refusal:
  *
  *            0   done                                       total, null slots
@@ -78,7 +78,12 @@
  *            24  sheet buffer too small                     bytes needed, 0
  *            27  null in a required column                  column, first null row
  *
- *          On a refusal only these 24 bytes change. On success the bytes past the written part stay.
+ *          The fourth number is the place of a byte in the row, counted from the row's start, for 16 to 23:
+ *          of 16 the first byte missing, so the row's length; of 17 the lead byte; of 18 and 21 the
+ *          first byte that is not zero; of 19 the bool; of 20 and 23 the end byte of the block; of 22 the
+ *          first byte after the last field; It is 0 for all other answers.
+ *
+ *          On a refusal only these 32 bytes change. On success the bytes past the written part stay.
  */
 #ifndef STATION_H
 #define STATION_H
@@ -90,7 +95,7 @@
 extern "C" {
 #endif
 
-enum { STATION_ANSWER_BYTES = 24 };
+enum { STATION_ANSWER_BYTES = 32 };
 
 /* The most bytes of stack that a call takes, from its return address down, whatever it is given. What the C
  * library's memcpy and memset take of it is counted. */

@@ -138,7 +138,7 @@ impl Judge {
         self.tally.calls[entry as usize] += 1;
         match numbers(&exit.answer)[..] {
             _ if entry == Entry::Compare => {}
-            [number, _, _, ..] => self.tally.answers[number as usize] += 1,
+            [number, _, _, _, ..] => self.tally.answers[number as usize] += 1,
             _ => self.tally.short_answers += 1,
         }
     }

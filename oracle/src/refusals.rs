@@ -1,5 +1,5 @@
 //! The runs of the oracle on inputs that are refused, or nearly so: the station must answer the
-//! model's three numbers and leave every other byte as it was.
+//! model's four numbers and leave every other byte as it was.
 
 use crate::call::Call;
 use crate::columns::{Column, BOOL, FIXED_BINARY, VARIABLE};
@@ -159,7 +159,7 @@ pub fn required(judge: &mut Judge, rng: &mut Rng) {
     }
 }
 
-/// Rooms around what is needed, answers around 24 bytes, counts around the ceiling.
+/// Rooms around what is needed, answers around 32 bytes, counts around the ceiling.
 pub fn rooms(judge: &mut Judge, rng: &mut Rng) {
     for _ in 0..200 {
         let good = Good::of(&make::small_table(rng));
@@ -176,7 +176,7 @@ pub fn rooms(judge: &mut Judge, rng: &mut Rng) {
             decode.given[2].truncate(offsets);
             judge.call(decode);
         }
-        for answer in [0, 1, 8, 16, 23, 24, 25, 32] {
+        for answer in [0, 1, 8, 23, 24, 25, 31, 32, 33, 40] {
             judge.call(Call::check_list(&good.list).answer(answer));
             judge.call(Call::measure(&good.list, good.n, &good.sheet).answer(answer));
             judge.call(good.encode().answer(answer));

@@ -150,8 +150,8 @@ type Sort = (&'static str, u64, bool, u8);
 /// The sort of a call; none of one that is accepted.
 fn sort(call: &Call) -> Option<Sort> {
     let exit = call.expected();
-    let [number, b, c] = numbers(&exit.answer)[..] else {
-        panic!("an answer is three numbers");
+    let [number, b, c, _] = numbers(&exit.answer)[..] else {
+        panic!("an answer is four numbers");
     };
     let column = match number {
         7..=10 | 27 => b,

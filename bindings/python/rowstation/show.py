@@ -176,7 +176,7 @@ def told(schema: Schema, row: bytes, number: int) -> Tuple[List[str], Optional[R
         12  02                 glyph  block 1: end byte, the last block, 2 bytes of data
     accepted: plate 7, glyph 'ae'
     """
-    parts, fault = explain(schema, row)
+    parts, _ = explain(schema, row)
     refusal: Optional[Refused] = None
     values: Dict[str, str] = {}
     try:
@@ -184,7 +184,7 @@ def told(schema: Schema, row: bytes, number: int) -> Tuple[List[str], Optional[R
         last = "accepted: " + ", ".join(f"{name} {value}" for name, value in values.items())
     except Refused as refused:
         refusal = refused.moved(number)
-        last = f"{refusal}, at byte {fault.place}" if fault else str(refusal)
+        last = str(refusal)
         good = min(refused.column or 0, len(schema))
         if good:
             # The fields before the one that is refused are the row of their values under the columns before it.

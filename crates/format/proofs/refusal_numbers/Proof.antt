@@ -3,7 +3,7 @@ use borrow.Author.Needs.{needs}
 use Prim.Native.Nat.{ℕ}
 use mathlib.Core.Path.{_≡_, ap, sym, _∙_}
 use Rattle.format.specs.declared.Refusal.{Refusal}
-use Rattle.format.specs.Numbers.{three, refusalNumbers}
+use Rattle.format.specs.Numbers.{four, refusalNumbers}
 use Rattle.format.proofs.refusal_numbers.Statement.{statement}
 use Rattle.format.proofs.refusal_numbers.Tie as tie
 
@@ -52,7 +52,7 @@ refusal-numbers-spec =
     (λ c. told (c .before .r15 .given .1))
     (λ c.
     let v = c .before .before .r16 .given in
-    ap (λ (n : ℕ). three n (v .0 .1 .0) (v .0 .1 .1 .0)) (c .fault-number .ensures) ∙ told (v .1))
+    ap (λ (n : ℕ). four n (v .0 .1 .0) (v .0 .1 .1 .0) (v .0 .1 .1 .1 .0)) (c .fault-number .ensures) ∙ told (v .1))
     (λ c. told (c .before .r17 .given .1))
     (λ c. told (c .enum-told .given .1))
     (λ c. told (c .before .r18 .given .1)))
