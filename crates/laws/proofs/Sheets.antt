@@ -1,14 +1,13 @@
 -- A sheet that passes: its columns have their bytes, and its slots fit. Assumes nothing.
 use Prim.Native.Nat.{ℕ, zero, suc, _+_, _-_, _*_, _<_, _≤_}
 use mathlib.Core.Path.{_≡_, refl, ap, subst}
-use mathlib.Core.Bool.{Bool, true, false, not}
+use mathlib.Core.Bool.{Bool, true, false}
 use mathlib.Core.List.{List, [], _∷_}
 use mathlib.Core.Logic.{_⊎_, inl, inr}
 use native.Mathlib.Omega.{arith}
-use lib.Dec.{T, eqb}
+use lib.Dec.{T}
 use lib.ListN.{length, take, drop, length-take, length-drop}
 use lib.Seq.{length-take-le}
-use borrow.Author.Tests.{eqb-true, not-false}
 use Rattle.format.specs.declared.Check.the-variants.{Pass}
 use Rattle.format.specs.declared.Column.{Column}
 use Rattle.format.specs.Limits.{maxSlot}
@@ -22,7 +21,7 @@ use Rattle.bits.proofs.Nulls.{bits-passed}
 use Rattle.basics.proofs.Compare.{choose}
 use Rattle.basics.proofs.Bytes.{bytes-take, bytes-drop}
 use Rattle.basics.proofs.Lists.{length-each}
-use Rattle.basics.proofs.Checks.{failIf-pass, enough, both-pass}
+use Rattle.basics.proofs.Checks.{enough, both-pass}
 
 -- ---- the ends of a column of variable bytes
 
@@ -46,11 +45,9 @@ last-end n s g (suc k) j e = omega (arith, g .step j (omega arith) .rises, last-
 pub variable-passed : (n c : ℕ) (s : List ℕ) → variableFault n c s ≡ Pass → Ended n s
 variable-passed n c s e =
     let cut = enough (length s) (4 * suc n) _ _ e in
-    let from = failIf-pass (not (eqb (end s 0) 0)) _ _ (cut .1) in
-    let steps = both-pass (endsFault c s 0 n) _ (from .1) in
+    let steps = both-pass (endsFault c s 0 n) _ (cut .1) in
     let all = enough (length s) (4 * suc n + end s n) _ _ (steps .1) in
     record {
-      first = eqb-true (end s 0) 0 (not-false (eqb (end s 0) 0) (from .0));
       step = λ j l. steps-from c s 0 n (steps .0) j (omega arith) (omega arith);
       room = all .0;
     }
