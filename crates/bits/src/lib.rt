@@ -1,11 +1,11 @@
-// Bits packed in bytes, least bit first: how many bytes, taken out and put in by shifts and masks, counted, and looked at
-// past the last row.
+// Bits packed in bytes, least bit first: how many bytes, taken out and put in by shifts and masks, counted, looked at past
+// the last row, and the first clear one found.
 ghost use mathlib.Core.Path.{_≡_};
 ghost use mathlib.Core.Bool.{cond};
-ghost use Prim.Native.Nat.{_+_, _*_, _/_, _^_, _<_, _≤_};
+ghost use Prim.Native.Nat.{_+_, _-_, _*_, _/_, _^_, _<_, _≤_};
 ghost use lib.ListN.{length, take};
 ghost use Rattle.format.specs.Limits.{maxRows};
-ghost use Rattle.format.specs.Sheet.{packed as packedFor, bit as bitOf, spareSet};
+ghost use Rattle.format.specs.Sheet.{packed as packedFor, bit as bitOf, spareSet, firstClear};
 ghost use Rattle.bits.specs.Ones.{onesIn};
 
 // The bytes that the bits of n rows are packed in.
@@ -58,4 +58,36 @@ pub fn spare(s: &[u8], n: usize) -> bool
         return false;
     }
     s[n / 8] >> k != 0
+}
+
+// A row up to which every bit of n rows is set, found by words of 64 rows that are all ones.
+fn set_words(s: &[u8], n: usize) -> usize
+    requires { ⌜ packedFor n ≤ length (now s) ⌝ }
+    ensures { λ r. ⌜ r ≤ n ⌝ }
+    ensures { λ r. ⌜ firstClear (now (s .entry)) r (n - r) ≡ firstClear (now (s .entry)) 0 n ⌝ }
+{
+    let words = n / 64;
+    let mut k: usize = 0;
+    while k < words {
+        if number::low64(s, 8 * k) != u64::MAX {
+            return 64 * k;
+        }
+        k += 1;
+    }
+    64 * k
+}
+
+// The first row of n whose bit is clear, or n: a word at a time, and then bit by bit in the word that has it or is the last.
+pub fn first_clear(s: &[u8], n: usize) -> usize
+    requires { ⌜ packedFor n ≤ length (now s) ⌝ }
+    ensures { λ r. ⌜ r ≡ firstClear (now (s .entry)) 0 n ⌝ }
+{
+    let mut row = set_words(s, n);
+    while row < n {
+        if !bit(s, row) {
+            return row;
+        }
+        row += 1;
+    }
+    row
 }

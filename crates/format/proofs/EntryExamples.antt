@@ -83,7 +83,7 @@ unfolding output encodeCheck measureCheck listFault columns sheetFault
 program = (refl, refl, refl)
 
 -- the lent answer: three numbers, on refusals too; if it cannot hold them, no lent byte changes. A tail of offsets stays
-pub lent : (lentCheckList (16 ∷ 4 ∷ []) (replicate 25 7) ≡ 3 ∷ replicate 23 0 ++ 7 ∷ [])
+pub lent : (lentCheckList (16 ∷ 8 ∷ []) (replicate 25 7) ≡ 3 ∷ replicate 23 0 ++ 7 ∷ [])
     × (lentCheckList list (replicate 23 7) ≡ replicate 23 7)
     × (lentEncode list 2 sheet 11 (replicate 27 7) (replicate 24 7) ≡ 0 ∷ replicate 7 0 ++ 11 ∷ replicate 7 0 ++ 1 ∷ replicate 7 0)
     × (lentEncodeRows list 2 sheet (replicate 11 7) (replicate 27 7) (replicate 23 7) ≡ replicate 11 7)

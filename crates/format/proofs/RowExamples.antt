@@ -18,10 +18,17 @@ use Rattle.format.specs.Read.{got, fault, readVariable, readField, rowFa
 
 -- ascending with nulls first, and descending with nulls last
 abbrev up : SortOptions
-up = record { descending = false; «nulls_first» = true }
+up = record { descending = false; «nulls_first» = true; required = false }
 
 abbrev down : SortOptions
-down = record { descending = true; «nulls_first» = false }
+down = record { descending = true; «nulls_first» = false; required = false }
+
+-- the same as up and as down, and required
+abbrev must : SortOptions
+must = record { descending = false; «nulls_first» = true; required = true }
+
+abbrev must-down : SortOptions
+must-down = record { descending = true; «nulls_first» = false; required = true }
 
 -- descending inverts the value bytes, not the 01; the null byte is never inverted
 pub fields : (field (shape I16) up (some (1 ∷ 0 ∷ [])) ≡ 1 ∷ 0x80 ∷ 1 ∷ [])
@@ -74,6 +81,15 @@ pub variable-faults : (readField (shape Variable) up (3 ∷ []) ≡ fault Lead 1
     × (readField (shape Variable) down (0xfe ∷ 5 ∷ []) ≡ got (some []) (5 ∷ []))
     × (readField (shape Variable) down (0xff ∷ 5 ∷ []) ≡ got none (5 ∷ []))
 variable-faults = (refl, refl, refl, refl, refl, refl, refl, refl, refl, refl)
+
+-- the null byte in a required column is 17, even where the rest is cut
+pub required-faults : (readField (shape I16) must (0 ∷ 0 ∷ 0 ∷ 6 ∷ []) ≡ fault Lead 4)
+    × (readField (shape I16) must (0 ∷ []) ≡ fault Lead 1)
+    × (readField (shape Variable) must (0 ∷ 5 ∷ []) ≡ fault Lead 2)
+    × (readField (shape Variable) must-down (0xff ∷ 5 ∷ []) ≡ fault Lead 2)
+    × (readField (shape Variable) must-down (0xfe ∷ 5 ∷ []) ≡ got (some []) (5 ∷ []))
+    × (readField (shape I16) must (1 ∷ 0x80 ∷ 1 ∷ []) ≡ got (some (1 ∷ 0 ∷ [])) [])
+required-faults = (refl, refl, refl, refl, refl, refl)
 
 -- the first fault in row order, then column order; 22 after the last field
 pub row-faults : (rowFault 4 0 (record { kind = Bool; options = up } ∷ []) (1 ∷ 1 ∷ []) ≡ Pass)

@@ -1,19 +1,23 @@
--- The sheet, computed: refusals 7 to 11 with their values, in order; its slots, its nulls, and the cleared sheet. Assumes nothing.
+-- The sheet, computed: refusals 7 to 11 and 27 with their values, in order; its slots, its nulls, and the cleared sheet. Assumes nothing.
 use Prim.Native.Nat.{ℕ}
 use mathlib.Core.Path.{_≡_, refl}
-use mathlib.Core.Bool.{false}
+use mathlib.Core.Bool.{true, false}
 use mathlib.Core.Option.{none, some}
 use mathlib.Core.List.{List, [], _∷_, _++_}
 use Rattle.format.specs.declared.Kind.the-variants.{Bool, I16, Variable}
 use Rattle.format.specs.declared.Kind.{Kind}
 use Rattle.format.specs.declared.Column.{Column}
 use Rattle.format.specs.declared.Check.the-variants.{Pass, Refuse}
-use Rattle.format.specs.declared.Refusal.the-variants.{ColumnCut, SpareBit, Ends, LongSlot, BytesAfter}
+use Rattle.format.specs.declared.Refusal.the-variants.{ColumnCut, SpareBit, Ends, LongSlot, BytesAfter, Missing}
 use Rattle.format.specs.Sheet.{sheetFault, sheetSlots, nulls, turned}
 use Rattle.format.specs.Cleared.{clearedSheet}
 
 abbrev of : Kind → Column
-of kind = record { kind = kind; options = record { descending = false; «nulls_first» = false } }
+of kind = record { kind = kind; options = record { descending = false; «nulls_first» = false; required = false } }
+
+-- the same, and required
+abbrev must : Kind → Column
+must kind = record { kind = kind; options = record { descending = false; «nulls_first» = false; required = true } }
 
 -- three columns of three rows: bool, i16, variable bytes; the second slot of each is null and holds something
 abbrev cols : List Column
@@ -72,6 +76,15 @@ pub bits-refused : (sheetFault 9 cols (255 ∷ []) ≡ Refuse (ColumnCut 0))
     × (sheetFault 3 cols (flags ++ 7 ∷ 0 ∷ []) ≡ Refuse (ColumnCut 1))
 unfolding sheetFault
 bits-refused = (refl, refl, refl, refl, refl, refl)
+
+-- 27, at the first null row: after the spare bits, before the values
+pub missing-refused : (sheetFault 3 (must Bool ∷ []) (0b1101 ∷ []) ≡ Refuse (SpareBit 0))
+    × (sheetFault 3 (must Bool ∷ []) (0b001 ∷ []) ≡ Refuse (Missing 0 1))
+    × (sheetFault 3 (must Bool ∷ []) (0b111 ∷ []) ≡ Refuse (ColumnCut 0))
+    × (sheetFault 3 (of Bool ∷ must I16 ∷ []) (flags ++ numbers) ≡ Refuse (Missing 1 1))
+    × (sheetFault 0 (must I16 ∷ []) [] ≡ Pass)
+unfolding sheetFault
+missing-refused = (refl, refl, refl, refl, refl)
 
 -- ends cut 7, then row by row 9 and 10, then bytes 7
 pub ends-refused : (sheetFault 1 (of Variable ∷ []) (1 ∷ 1 ∷ 0 ∷ 0 ∷ 0 ∷ []) ≡ Refuse (ColumnCut 0))

@@ -36,9 +36,9 @@ kindOf b w =
     (cond (eqb b 16) Variable
     (cond (eqb b 17) I128 I256))))))))))))))))
 
--- bit 0 descending, bit 1 nulls first
+-- bit 0 descending, bit 1 nulls first, bit 2 required
 abbrev pub optionsOf : ℕ → SortOptions
-optionsOf o = record { descending = eqb (o % 2) 1; «nulls_first» = eqb (o / 2 % 2) 1 }
+optionsOf o = record { descending = eqb (o % 2) 1; «nulls_first» = eqb (o / 2 % 2) 1; required = eqb (o / 4 % 2) 1 }
 
 -- the bytes of a description whose kind byte is b: kind and options, and for kind 15 also the width
 abbrev pub descriptionBytes : ℕ → ℕ
@@ -57,7 +57,7 @@ abbrev pub descriptionFault : List ℕ → ℕ → Check
 descriptionFault s at =
     failIf (ltb (getD s at 0) 1 || ltb lastKind (getD s at 0)) (UnknownKind at)
     (failIf (ltb (length s - at) (descriptionBytes (getD s at 0))) (ListCut at)
-    (failIf (ltb 3 (getD s (at + 1) 0)) (OptionBits at)
+    (failIf (ltb 7 (getD s (at + 1) 0)) (OptionBits at)
     (failIf (ltb maxWidth (widthAt s at)) (Width at)
     Pass)))
 

@@ -1,10 +1,12 @@
 -- Values within the limits.
 use Prim.Native.Nat.{ℕ, _≤_}
 use mathlib.Core.Path.{_≡_}
+use mathlib.Core.Bool.{false}
 use mathlib.Core.Option.{none, some}
 use mathlib.Core.List.{List, [], _∷_}
 use lib.Dec.{T}
 use lib.ListN.{length}
+use Rattle.format.specs.declared.SortOptions.{SortOptions}
 use Rattle.format.specs.declared.Column.{Column}
 use Rattle.format.specs.Limits.{maxSlot}
 use Rattle.format.specs.Lists.{Bytes}
@@ -17,16 +19,17 @@ abbrev pub Fits : ℕ → Shape → List ℕ → Type 0
 Fits limit (fixed k) v = Bytes v × (length v ≡ width k) × T (allowed k v)
 Fits limit variable v = Bytes v × (length v ≤ limit)
 
-abbrev pub SlotFits : ℕ → Shape → Slot → Type 0
-SlotFits limit sh none = Unit {0}
-SlotFits limit sh (some v) = Fits limit sh v
+-- a required column has no null
+abbrev pub SlotFits : ℕ → Shape → SortOptions → Slot → Type 0
+SlotFits limit sh o none = o .required ≡ false
+SlotFits limit sh o (some v) = Fits limit sh v
 
 -- a row of values: a slot for each column
 abbrev pub RowFits : List Column → List Slot → Type 0
 RowFits [] [] = Unit {0}
 RowFits [] (s ∷ ss) = ⊥
 RowFits (col ∷ cols) [] = ⊥
-RowFits (col ∷ cols) (s ∷ ss) = SlotFits maxSlot (columnShape col) s × RowFits cols ss
+RowFits (col ∷ cols) (s ∷ ss) = SlotFits maxSlot (columnShape col) (col .options) s × RowFits cols ss
 
 -- values within the limits have the bytes f
 pub record HasValues (cols : List Column) (f : List ℕ) : Type 0 where
@@ -35,13 +38,13 @@ pub record HasValues (cols : List Column) (f : List ℕ) : Type 0 where
   pub spell : row cols values ≡ f
 
 -- every slot of a column
-abbrev pub AllSlots : Shape → List Slot → Type 0
-AllSlots sh [] = Unit {0}
-AllSlots sh (s ∷ ss) = SlotFits maxSlot sh s × AllSlots sh ss
+abbrev pub AllSlots : Shape → SortOptions → List Slot → Type 0
+AllSlots sh o [] = Unit {0}
+AllSlots sh o (s ∷ ss) = SlotFits maxSlot sh o s × AllSlots sh o ss
 
 -- n slots to a column, each within the limits
 abbrev pub SheetFits : ℕ → List Column → List (List Slot) → Type 0
 SheetFits n [] [] = Unit {0}
 SheetFits n [] (ss ∷ sss) = ⊥
 SheetFits n (col ∷ cols) [] = ⊥
-SheetFits n (col ∷ cols) (ss ∷ sss) = (length ss ≡ n) × AllSlots (columnShape col) ss × SheetFits n cols sss
+SheetFits n (col ∷ cols) (ss ∷ sss) = (length ss ≡ n) × AllSlots (columnShape col) (col .options) ss × SheetFits n cols sss

@@ -26,7 +26,7 @@ pub record Ended (n : ℕ) (s : List ℕ) : Type 0 where
 
 -- column c passes at its place, and ends within the sheet
 pub record Stands (col : Column) (n c at : ℕ) (s : List ℕ) : Type 0 where
-  pub passes : columnFault (layout col) n c (drop at s) ≡ Pass
+  pub passes : columnFault (col .options .required) (layout col) n c (drop at s) ≡ Pass
   pub room : at + columnBytes (layout col) n (drop at s) ≤ length s
 
 -- offsets 0 to n cut rows out of the bytes

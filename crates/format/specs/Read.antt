@@ -1,6 +1,6 @@
 -- Reading rows back: each field is read from the part of the row that the previous one left.
 use Prim.Native.Nat.{ℕ, zero, suc, _+_, _-_}
-use mathlib.Core.Bool.{Bool, true, cond, _&&_, _||_}
+use mathlib.Core.Bool.{Bool, true, cond, not, _&&_, _||_}
 use mathlib.Core.Option.{none, some}
 use mathlib.Core.List.{List, [], _∷_, _++_}
 use lib.Dec.{ltb, leb, eqb}
@@ -40,9 +40,9 @@ abbrev pub Good : {A : Type 0} → Parsed A → Type 0
 Good (got v r) = Unit {0}
 Good (fault f l) = ⊥
 
--- a field whose lead byte is b is null
+-- a field whose lead byte is b is null; in a required column none is
 abbrev pub nullLead : SortOptions → ℕ → Bool
-nullLead o b = eqb b (nullByte o)
+nullLead o b = not (o .required) && eqb b (nullByte o)
 
 -- ---- variable bytes
 

@@ -11,7 +11,7 @@ use Rattle.format.specs.Kinds.{valueBytes}
 
 -- what fills the array after the columns in use
 abbrev pub noColumn : Column
-noColumn = record { kind = Bool; options = record { descending = false; «nulls_first» = false } }
+noColumn = record { kind = Bool; options = record { descending = false; «nulls_first» = false; required = false } }
 
 -- the array and the count of a list of columns
 abbrev pub schemaOf : List Column → Schema

@@ -1,6 +1,6 @@
 -- The sheet: columns follow one another in list order, each with its validity bytes and then its values, for n rows.
 use Prim.Native.Nat.{ℕ, zero, suc, _+_, _-_, _*_, _/_, _%_, _^_}
-use mathlib.Core.Bool.{Bool, false, cond, _||_}
+use mathlib.Core.Bool.{Bool, false, cond, not, _&&_, _||_}
 use mathlib.Core.Option.{none, some}
 use mathlib.Core.List.{List, [], _∷_, map}
 use lib.Dec.{ltb, eqb}
@@ -8,7 +8,7 @@ use lib.ListN.{length, getD, take, drop}
 use Rattle.format.specs.declared.Column.{Column}
 use Rattle.format.specs.declared.Check.{Check}
 use Rattle.format.specs.declared.Check.the-variants.{Pass}
-use Rattle.format.specs.declared.Refusal.the-variants.{ColumnCut, SpareBit, Ends, LongSlot, BytesAfter}
+use Rattle.format.specs.declared.Refusal.the-variants.{ColumnCut, SpareBit, Ends, LongSlot, BytesAfter, Missing}
 use Rattle.format.specs.Limits.{maxSlot}
 use Rattle.format.specs.Check.{both, failIf}
 use Rattle.format.specs.Lists.{each, low, sum}
@@ -56,6 +56,15 @@ bitsFault n c s =
     failIf (ltb (length s) (packed n)) (ColumnCut c)
     (failIf (spareSet (take (packed n) s) n) (SpareBit c)
     Pass)
+
+-- the first clear bit of the k from i on; i + k where all are set
+abbrev pub firstClear : List ℕ → ℕ → ℕ → ℕ
+firstClear bs i zero = i
+firstClear bs i (suc k) = cond (bit bs i) (firstClear bs (suc i) k) i
+
+-- a null in a required column, whose validity bits are in front of s: 27, at the first null row
+abbrev pub requiredFault : Bool → ℕ → ℕ → List ℕ → Check
+requiredFault required n c s = failIf (required && ltb (firstClear s 0 n) n) (Missing c (firstClear s 0 n)) Pass
 
 -- ---- the values of column c, which stand in front of s: what is refused, how many bytes they take, and value i
 
@@ -107,8 +116,12 @@ valueAt ended n s i = take (end s (suc i) - end s i) (drop (end s i) (drop (4 * 
 abbrev pub slotIf : Bool → List ℕ → Slot
 slotIf b v = cond b (some v) none
 
-abbrev pub columnFault : Layout → ℕ → ℕ → List ℕ → Check
-columnFault ly n c s = both (bitsFault n c s) (valuesFault ly n c (drop (packed n) s))
+-- validity 7, 8, of a required column then 27, then the values
+abbrev pub columnFault : Bool → Layout → ℕ → ℕ → List ℕ → Check
+columnFault required ly n c s =
+    both (bitsFault n c s)
+    (both (requiredFault required n c s)
+    (valuesFault ly n c (drop (packed n) s)))
 
 abbrev pub columnBytes : Layout → ℕ → List ℕ → ℕ
 columnBytes ly n s = packed n + valuesBytes ly n (drop (packed n) s)
@@ -125,10 +138,10 @@ columnSlots ly n s = each 0 n (slotAt ly n s)
 abbrev pub sheetFaultFrom : ℕ → ℕ → ℕ → List Column → List ℕ → Check
 sheetFaultFrom n c at [] s = failIf (ltb 0 (length s)) (BytesAfter at) Pass
 sheetFaultFrom n c at (col ∷ cols) s =
-    both (columnFault (layout col) n c s)
+    both (columnFault (col .options .required) (layout col) n c s)
     (sheetFaultFrom n (suc c) (at + columnBytes (layout col) n s) cols (drop (columnBytes (layout col) n s) s))
 
--- refusals 7 to 11 of a sheet of n rows
+-- refusals 7 to 11 and 27 of a sheet of n rows
 unfoldable pub sheetFault : ℕ → List Column → List ℕ → Check
 sheetFault n cols s = sheetFaultFrom n 0 0 cols s
 

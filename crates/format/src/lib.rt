@@ -46,10 +46,11 @@ pub enum Kind {
     I256,
 }
 
-// Bit 0 and bit 1 of the options byte.
+// Bits 0 to 2 of the options byte.
 pub struct SortOptions {
     pub descending: bool,
     pub nulls_first: bool,
+    pub required: bool,
 }
 
 pub struct Column {
@@ -75,7 +76,7 @@ pub enum RowFault {
     TooLong,
 }
 
-// The reasons in the order of their numbers, each with what document 01 reports of it; 16 to 23 are one case, with row and column.
+// The reasons in the order of their numbers, each with what is reported of it; 16 to 23 are one case, with row and column.
 pub enum Refusal {
     ListCut(usize),
     UnknownKind(usize),
@@ -95,6 +96,7 @@ pub enum Refusal {
     Row(RowFault, usize, usize),
     SheetRoom(usize),
     Input,
+    Missing(usize, usize),
 }
 
 // What a check answers that gives nothing else.
@@ -156,10 +158,13 @@ pub fn null_sentinel(options: SortOptions) -> u8
     255
 }
 
-// Whether a field with this lead byte is null. Every reader asks here.
+// Whether a field with this lead byte is null, which none is in a required column. Every reader asks here.
 pub fn null_lead(lead: u8, options: SortOptions) -> bool
     ensures { λ r. ⌜ r ≡ nullLead options lead ⌝ }
 {
+    if options.required {
+        return false;
+    }
     lead == null_sentinel(options)
 }
 
@@ -170,6 +175,7 @@ pub fn no_column() -> Column
     let options = SortOptions {
         descending: false,
         nulls_first: false,
+        required: false,
     };
     Column {
         kind: Kind::Bool,
@@ -216,6 +222,7 @@ pub fn refusal_numbers(r: Refusal) -> Returned
         Refusal::Row(f, row, c) => Returned(fault_number(f), row as u64, c as u64),
         Refusal::SheetRoom(bytes) => Returned(24, bytes as u64, 0),
         Refusal::Input => Returned(25, 0, 0),
+        Refusal::Missing(c, row) => Returned(27, c as u64, row as u64),
     }
 }
 

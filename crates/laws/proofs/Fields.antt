@@ -2,14 +2,15 @@
 use Prim.Native.Nat.{ℕ, suc, _-_, _<_, _≤_}
 use mathlib.Core.Path.{_≡_, refl, sym, _∙_, subst}
 use mathlib.Core.Logic.{_⊎_, inl, inr}
-use mathlib.Core.Bool.{Bool, true, false, cond}
+use mathlib.Core.Bool.{Bool, true, false, cond, not, _&&_, true≢false}
 use mathlib.Core.Option.{none, some}
 use mathlib.Core.List.{List, [], _∷_, _++_, append-nil}
 use native.Mathlib.Omega.{arith}
 use lib.Dec.{ltb, eqb}
 use lib.ListN.{length, replicate, length-replicate}
-use borrow.Author.Tests.{lt-ltb, le-ltb, ne-eqb}
+use borrow.Author.Tests.{lt-ltb, le-ltb, eq-eqb, ne-eqb, eqb-true}
 use Rattle.format.specs.Field.{blockSize, directed, field, fieldLength, nullByte, variableBytes}
+use Rattle.format.specs.Read.{nullLead}
 use Rattle.format.specs.Fits.{RowFits, SlotFits}
 use Rattle.format.specs.Key.{key}
 use Rattle.format.specs.Kinds.{Shape, fixed, variable, Slot, columnShape, width}
@@ -73,12 +74,25 @@ led-variable false [] = record { lead = 1; rest = []; splits = refl; above = ome
 led-variable false (x ∷ xs) = record { lead = 2; rest = _; splits = refl; above = omega arith; below = omega arith }
 
 -- such a byte is no null byte
-pub not-null : (o : SortOptions) (b : ℕ) → 0 < b → b < 255 → eqb b (nullByte o) ≡ false
-not-null o b h l = go (o .«nulls_first»)
+pub not-null : (o : SortOptions) (b : ℕ) → 0 < b → b < 255 → nullLead o b ≡ false
+not-null o b h l = go (o .required) (o .«nulls_first»)
   where
-    go : (n : Bool) → eqb b (cond n 0 255) ≡ false
-    go true = ne-eqb b 0 (omega arith)
-    go false = ne-eqb b 255 (omega arith)
+    go : (r n : Bool) → (not r && eqb b (cond n 0 255)) ≡ false
+    go true n = refl
+    go false true = ne-eqb b 0 (omega arith)
+    go false false = ne-eqb b 255 (omega arith)
+
+-- the null byte is one, unless the column is required
+pub null-led : (o : SortOptions) → o .required ≡ false → nullLead o (nullByte o) ≡ true
+null-led o h = rw h (eq-eqb (nullByte o) (nullByte o) refl)
+
+-- and nothing else
+pub led-null : (o : SortOptions) (b : ℕ) → nullLead o b ≡ true → (o .required ≡ false) × (b ≡ nullByte o)
+led-null o b e = go (o .required) refl e
+  where
+    go : (r : Bool) → o .required ≡ r → (not r && eqb b (nullByte o)) ≡ true → (o .required ≡ false) × (b ≡ nullByte o)
+    go true q e = absurd (true≢false (sym e))
+    go false q e = (q, eqb-true b (nullByte o) e)
 
 -- ---- fields and rows
 
@@ -90,14 +104,14 @@ null-byte o = go (o .«nulls_first»)
     go false = omega arith
 
 -- a field is bytes
-bytes-field : (sh : Shape) (o : SortOptions) (s : Slot) → SlotFits maxSlot sh s → Bytes (field sh o s)
+bytes-field : (sh : Shape) (o : SortOptions) (s : Slot) → SlotFits maxSlot sh o s → Bytes (field sh o s)
 bytes-field (fixed k) o none h = (null-byte o, subst Bytes (append-nil (replicate (width k) 0)) (bytes-zeros (width k) [] tt))
 bytes-field (fixed k) o (some v) h = (omega arith, bytes-directed (o .descending) (key k v) (bytes-key k v (h .0)))
 bytes-field variable o none h = (null-byte o, tt)
 bytes-field variable o (some v) h = bytes-directed (o .descending) (variableBytes v) (bytes-variable v (h .0))
 
 -- a field is as long as the table says
-pub length-field : (sh : Shape) (o : SortOptions) (s : Slot) → SlotFits maxSlot sh s → length (field sh o s) ≡ fieldLength sh s
+pub length-field : (sh : Shape) (o : SortOptions) (s : Slot) → SlotFits maxSlot sh o s → length (field sh o s) ≡ fieldLength sh s
 length-field (fixed k) o none h = omega (arith, length-replicate {A = ℕ} (width k) 0)
 length-field (fixed k) o (some v) h = omega (arith, length-directed (o .descending) (key k v), length-key k v (h .1))
 length-field variable o none h = refl

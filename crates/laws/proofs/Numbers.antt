@@ -7,13 +7,13 @@ use lib.Dec.{eqb}
 use lib.ListN.{getD}
 use Rattle.format.specs.declared.RowFault.the-variants.{Cut, Lead, NullRest, BoolByte, EndByte, Padding, Extra, TooLong}
 use Rattle.format.specs.declared.Refusal.{Refusal}
-use Rattle.format.specs.declared.Refusal.the-variants.{ListCut, UnknownKind, OptionBits, Width, ManyColumns, ManyRows, ColumnCut, SpareBit, Ends, LongSlot, BytesAfter, ManyBytes, RowRoom, OffsetRoom, Offsets, Row, SheetRoom, Input}
+use Rattle.format.specs.declared.Refusal.the-variants.{ListCut, UnknownKind, OptionBits, Width, ManyColumns, ManyRows, ColumnCut, SpareBit, Ends, LongSlot, BytesAfter, ManyBytes, RowRoom, OffsetRoom, Offsets, Row, SheetRoom, Input, Missing}
 use Rattle.format.specs.declared.Answer.{Answer}
 use Rattle.format.specs.declared.Answer.the-variants.{Done, Refused}
 use Rattle.format.specs.declared.Returned.{Returned}
 use Rattle.format.specs.Numbers.{numbersOf}
 
--- the refusals 1 to 25 in their order, each made of the second and third number
+-- the refusals in the order of their numbers, each made of the second and third number; no refusal is 26
 abbrev refusals : List (ℕ → ℕ → Refusal)
 refusals =
     (λ a b. ListCut a) ∷ (λ a b. UnknownKind a) ∷ (λ a b. OptionBits a) ∷ (λ a b. Width a) ∷ (λ a b. ManyColumns a)
@@ -21,7 +21,7 @@ refusals =
     ∷ (λ a b. BytesAfter a) ∷ (λ a b. ManyBytes a) ∷ (λ a b. RowRoom a) ∷ (λ a b. OffsetRoom a) ∷ (λ a b. Offsets a)
     ∷ (λ a b. Row Cut a b) ∷ (λ a b. Row Lead a b) ∷ (λ a b. Row NullRest a b) ∷ (λ a b. Row BoolByte a b)
     ∷ (λ a b. Row EndByte a b) ∷ (λ a b. Row Padding a b) ∷ (λ a b. Row Extra a b) ∷ (λ a b. Row TooLong a b)
-    ∷ (λ a b. SheetRoom a) ∷ (λ a b. Input) ∷ []
+    ∷ (λ a b. SheetRoom a) ∷ (λ a b. Input) ∷ (λ a b. Input) ∷ (λ a b. Missing a b) ∷ []
 
 -- the answer of three numbers
 abbrev answerOf : Returned → Answer
@@ -54,6 +54,7 @@ numbers-back (Refused (Row Extra r c)) = refl
 numbers-back (Refused (Row TooLong r c)) = refl
 numbers-back (Refused (SheetRoom bytes)) = refl
 numbers-back (Refused Input) = refl
+numbers-back (Refused (Missing c r)) = refl
 
 pub numbers-injective : (a b : Answer) → numbersOf a ≡ numbersOf b → a ≡ b
 numbers-injective a b e = sym (numbers-back a) ∙ ap answerOf e ∙ numbers-back b

@@ -35,8 +35,8 @@ first-stands : (n c at : ℕ) (col : Column) (cols : List Column) (s : List ℕ)
     → Stands col n c at s
     × (sheetFaultFrom n (suc c) (at + columnBytes (layout col) n (drop at s)) cols (drop (at + columnBytes (layout col) n (drop at s)) s) ≡ Pass)
 first-stands n c at col cols s l e =
-    let p = both-pass (columnFault (layout col) n c (drop at s)) _ e in (
-      record { passes = p .0; room = omega (arith, column-room (layout col) n c (drop at s) (p .0), length-drop at s) },
+    let p = both-pass (columnFault (col .options .required) (layout col) n c (drop at s)) _ e in (
+      record { passes = p .0; room = omega (arith, column-room (col .options .required) (layout col) n c (drop at s) (p .0), length-drop at s) },
       rw past-column at (p .1),
     )
 

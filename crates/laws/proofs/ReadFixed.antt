@@ -8,18 +8,18 @@ use native.Mathlib.Omega.{arith}
 use lib.Dec.{T, ltb, eqb}
 use lib.ListN.{length, take, drop, replicate, take-append-drop, length-append, length-replicate}
 use lib.Seq.{length-take-le, take-at, drop-at}
-use borrow.Author.Tests.{le-ltb, eq-eqb, ltb-false, eqb-true}
+use borrow.Author.Tests.{le-ltb, ltb-false, eqb-true}
 use Rattle.format.specs.Field.{directed, fixedField, nullByte}
 use Rattle.format.specs.Fits.{SlotFits}
 use Rattle.format.specs.Key.{allowed, key, unkey}
 use Rattle.format.specs.Kinds.{Fixed, bool, float, integer, number, parts, plain, fixed, Slot, width}
 use Rattle.format.specs.Lists.{Bytes}
-use Rattle.format.specs.Read.{Parsed, got, fault, allZero, fromBad, readBytes, readFixed, readKey, readNull}
+use Rattle.format.specs.Read.{Parsed, got, fault, allZero, fromBad, nullLead, readBytes, readFixed, readKey, readNull}
 use Rattle.format.specs.declared.RowFault.the-variants.{Lead, NullRest}
 use Rattle.format.specs.declared.SortOptions.{SortOptions}
 use Rattle.basics.proofs.Bytes.{bytes-key, bytes-take}
 use Rattle.laws.proofs.Directed.{bytes-directed, directed-twice, length-directed}
-use Rattle.laws.proofs.Fields.{not-null}
+use Rattle.laws.proofs.Fields.{not-null, null-led, led-null}
 use Rattle.laws.proofs.Parsed.{fault-got, not-fault, yes-got, zeros-zero, zero-zeros}
 use Rattle.laws.proofs.Unkey.{unkey-key, key-unkey, length-key, bytes-unkey, length-unkey}
 
@@ -46,9 +46,9 @@ allowed-unkey (parts ns) f h = tt
 
 module _ (limit : ℕ) (k : Fixed) (o : SortOptions) where
   -- the field of a slot is read back, and what follows it is left
-  pub fixed-read : (s : Slot) (t : List ℕ) → SlotFits limit (fixed k) s → readFixed k o (fixedField k o s ++ t) ≡ got s t
+  pub fixed-read : (s : Slot) (t : List ℕ) → SlotFits limit (fixed k) o s → readFixed k o (fixedField k o s ++ t) ≡ got s t
   fixed-read none t h =
-      rw (eq-eqb (nullByte o) (nullByte o) refl) (rw (le-ltb (length (zs ++ t)) (width k) (omega (arith, length-append zs t, long)))
+      rw (null-led o h) (rw (le-ltb (length (zs ++ t)) (width k) (omega (arith, length-append zs t, long)))
       (rw (take-at zs t (width k) long) (rw (zeros-zero (width k)) (rw (drop-at zs t (width k) long)))))
     where
       zs : List ℕ
@@ -71,11 +71,11 @@ module _ (limit : ℕ) (k : Fixed) (o : SortOptions) where
 
   -- b and f are the field of slot s, and then r; and s fits
   abbrev Spells : ℕ → List ℕ → List ℕ → Slot → Type 0
-  Spells b f r s = (b ∷ f ≡ fixedField k o s ++ r) × SlotFits limit (fixed k) s
+  Spells b f r s = (b ∷ f ≡ fixedField k o s ++ r) × SlotFits limit (fixed k) o s
 
   -- after the null byte
-  read-null : (f r : List ℕ) (s : Slot) → readNull (width k) f ≡ got s r → Spells (nullByte o) f r s
-  read-null f r s h =
+  read-null : (f r : List ℕ) (s : Slot) → o .required ≡ false → readNull (width k) f ≡ got s r → Spells (nullByte o) f r s
+  read-null f r s free h =
       let a : (ltb (length f) w ≡ false) × (nothing ≡ got s r) = not-fault (ltb (length f) w) _ _ h in
       let z : (allZero (take w f) ≡ true) × (got none (drop w f) ≡ got s r) = yes-got (allZero (take w f)) _ _ (a .1) in
       let e : none ≡ s = cc (z .1) in
@@ -84,7 +84,7 @@ module _ (limit : ℕ) (k : Fixed) (o : SortOptions) where
       subst (Spells (nullByte o) f r) e (
         ap (λ (x : List ℕ). nullByte o ∷ x)
             (sym (take-append-drop w f) ∙ ap₂ (λ (x y : List ℕ). x ++ y) (zero-zeros (take w f) (z .0) ∙ ap (λ (n : ℕ). replicate n 0) l) i),
-        tt,
+        free,
       )
     where
       w : ℕ
@@ -120,12 +120,12 @@ module _ (limit : ℕ) (k : Fixed) (o : SortOptions) where
       v = directed d (take w f)
 
   -- only the field of a slot that fits is read
-  pub read-fixed : (f : List ℕ) (s : Slot) (r : List ℕ) → Bytes f → readFixed k o f ≡ got s r → (f ≡ fixedField k o s ++ r) × SlotFits limit (fixed k) s
+  pub read-fixed : (f : List ℕ) (s : Slot) (r : List ℕ) → Bytes f → readFixed k o f ≡ got s r → (f ≡ fixedField k o s ++ r) × SlotFits limit (fixed k) o s
   read-fixed [] s r bf h = absurd (fault-got h)
-  read-fixed (b ∷ f) s r bf h = go (eqb b (nullByte o)) refl h
+  read-fixed (b ∷ f) s r bf h = go (nullLead o b) refl h
     where
-      go : (c : Bool) → eqb b (nullByte o) ≡ c → cond c (readNull (width k) f) (cond (eqb b 1) (readBytes k (o .descending) f) (fault Lead (suc (length f)))) ≡ got s r → Spells b f r s
-      go true q h = rw (eqb-true b (nullByte o) q) (read-null f r s h)
+      go : (c : Bool) → nullLead o b ≡ c → cond c (readNull (width k) f) (cond (eqb b 1) (readBytes k (o .descending) f) (fault Lead (suc (length f)))) ≡ got s r → Spells b f r s
+      go true q h = let n = led-null o b q in rw (n .1) (read-null f r s (n .0) h)
       go false q h =
           let a : (eqb b 1 ≡ true) × (readBytes k (o .descending) f ≡ got s r) = yes-got (eqb b 1) _ _ h in
           rw (eqb-true b 1 (a .0)) (read-bytes f r s (bf .1) (a .1))

@@ -28,7 +28,7 @@ passed-row r c (col ∷ cols) f b h = go (readField (columnShape col) (col .opti
         → (row (col ∷ cols) (slotRead p ∷ rowSlots cols (leftAfter p)) ≡ f) × RowFits (col ∷ cols) (slotRead p ∷ rowSlots cols (leftAfter p))
     go (fault e l) q h ih = absurd (refuse-pass h)
     go (got s g) q h ih =
-        let e : (f ≡ field (columnShape col) (col .options) s ++ g) × SlotFits maxSlot (columnShape col) s
+        let e : (f ≡ field (columnShape col) (col .options) s ++ g) × SlotFits maxSlot (columnShape col) (col .options) s
         = read-field (columnShape col) (col .options) f s g b q in
         let t : (row cols (rowSlots cols g) ≡ g) × RowFits cols (rowSlots cols g)
         = ih g (bytes-right (field (columnShape col) (col .options) s) g (subst Bytes (e .0) b)) h in

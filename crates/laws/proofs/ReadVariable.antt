@@ -8,17 +8,17 @@ use mathlib.Core.List.{List, [], _∷_, _++_}
 use native.Mathlib.Omega.{arith}
 use lib.Dec.{eqb}
 use lib.ListN.{length, length-append}
-use borrow.Author.Tests.{lt-ltb, le-ltb, eq-eqb, eqb-true}
-use Rattle.format.specs.Field.{blockSize, directed, nullByte, variableBytes, variableField}
+use borrow.Author.Tests.{lt-ltb, le-ltb, eqb-true}
+use Rattle.format.specs.Field.{blockSize, directed, variableBytes, variableField}
 use Rattle.format.specs.Fits.{SlotFits}
 use Rattle.format.specs.Kinds.{variable, Slot}
 use Rattle.format.specs.Lists.{Bytes}
-use Rattle.format.specs.Read.{Parsed, got, fault, readBlocks, readValue, readVariable, valueSlot}
+use Rattle.format.specs.Read.{Parsed, got, fault, nullLead, readBlocks, readValue, readVariable, valueSlot}
 use Rattle.format.specs.declared.RowFault.the-variants.{Lead}
 use Rattle.format.specs.declared.SortOptions.{SortOptions}
 use Rattle.basics.proofs.Compare.{choose}
 use Rattle.laws.proofs.Directed.{bytes-directed, directed-append, directed-back, directed-twice}
-use Rattle.laws.proofs.Fields.{bytes-value, bytes-variable, Led, led-variable, not-null}
+use Rattle.laws.proofs.Fields.{bytes-value, bytes-variable, Led, led-variable, not-null, null-led, led-null}
 use Rattle.laws.proofs.Parsed.{fault-got, yes-got}
 use Rattle.laws.proofs.ReadBlocks.{stream-read, read-stream, Spelled}
 use Rattle.laws.proofs.Stream.{stream, variable-stream, blockSize-room, blockSize-small}
@@ -78,8 +78,8 @@ module _ (limit : ℕ) where
   past-null o b s h l = rw (not-null o b h l)
 
   -- the field of a slot is read back, and what follows it is left
-  pub variable-read : (o : SortOptions) (s : Slot) (t : List ℕ) → SlotFits limit variable s → Bytes t → readVariable limit o (variableField o s ++ t) ≡ got s t
-  variable-read o none t h bt = rw (eq-eqb (nullByte o) (nullByte o) refl)
+  pub variable-read : (o : SortOptions) (s : Slot) (t : List ℕ) → SlotFits limit variable o s → Bytes t → readVariable limit o (variableField o s ++ t) ≡ got s t
+  variable-read o none t h bt = rw (null-led o h)
   variable-read o (some x) t h bt =
       ap (λ (z : List ℕ). readVariable limit o (z ++ t)) (l .splits)
       ∙ past-null o (l .lead) (l .rest ++ t) (l .above) (l .below)
@@ -102,9 +102,9 @@ module _ (limit : ℕ) where
 
   -- only the field of a slot within the limit is read
   pub read-variable : (o : SortOptions) (f : List ℕ) (s : Slot) (r : List ℕ) → Bytes f → readVariable limit o f ≡ got s r
-      → (f ≡ variableField o s ++ r) × SlotFits limit variable s
+      → (f ≡ variableField o s ++ r) × SlotFits limit variable o s
   read-variable o [] s r bf h = absurd (fault-got h)
-  read-variable o (b ∷ f) s r bf h = go (eqb b (nullByte o)) refl h
+  read-variable o (b ∷ f) s r bf h = go (nullLead o b) refl h
     where
       d : Bool
       d = o .descending
@@ -113,13 +113,14 @@ module _ (limit : ℕ) where
       m = readValue limit (directed d (b ∷ f))
 
       Goal : Slot → Type 0
-      Goal s = (b ∷ f ≡ variableField o s ++ r) × SlotFits limit variable s
+      Goal s = (b ∷ f ≡ variableField o s ++ r) × SlotFits limit variable o s
 
-      go : (c : Bool) → eqb b (nullByte o) ≡ c → cond c (got none f) (valueSlot d m) ≡ got s r → Goal s
+      go : (c : Bool) → nullLead o b ≡ c → cond c (got none f) (valueSlot d m) ≡ got s r → Goal s
       go true q h =
           let e : none ≡ s = cc in
           let i : f ≡ r = cc in
-          subst Goal e (ap₂ {C = List ℕ} (λ a z. a ∷ z) (eqb-true b (nullByte o) q) i, tt)
+          let n = led-null o b q in
+          subst Goal e (ap₂ {C = List ℕ} (λ a z. a ∷ z) (n .1) i, n .0)
       go false q h =
           let k : (v : List ℕ) × (r′ : List ℕ) × (m ≡ got v r′) × (some v ≡ s) × (directed d r′ ≡ r) = slot-got d m s r h in
           let e : (directed d (b ∷ f) ≡ variableBytes (k .0) ++ k .1) × (length (k .0) ≤ limit) = read-value (directed d (b ∷ f)) (k .0) (k .1) (k .2) in

@@ -5,6 +5,7 @@ use mathlib.Core.Option.{none, some}
 use mathlib.Core.List.{List, [], _∷_, map, tail}
 use native.Mathlib.Omega.{arith}
 use lib.ListN.{length, length-append, length-map, length-replicate}
+use Rattle.format.specs.declared.SortOptions.{SortOptions}
 use Rattle.format.specs.declared.Column.{Column}
 use Rattle.format.specs.Lists.{endsFrom, joined, lowBytes, sum}
 use Rattle.format.specs.Kinds.{Fixed, bool, plain, number, integer, float, parts, Shape, fixed, variable, Slot, width, columnShape}
@@ -22,14 +23,15 @@ none-added (x ∷ xs) = omega (arith, none-added xs)
 -- ---- the values of a column
 
 -- of w bytes each
-all-wide : (k : Fixed) (ss : List Slot) → AllSlots (fixed k) ss → Every (λ x. length x ≡ width k) (map (fixedSlot (width k)) ss)
-all-wide k [] h = tt
-all-wide k (none ∷ ss) h = (length-replicate (width k) 0, all-wide k ss (h .1))
-all-wide k (some v ∷ ss) h = (h .0 .1, all-wide k ss (h .1))
+all-wide : (k : Fixed) (o : SortOptions) (ss : List Slot) → AllSlots (fixed k) o ss → Every (λ x. length x ≡ width k) (map (fixedSlot (width k)) ss)
+all-wide k o [] h = tt
+all-wide k o (none ∷ ss) h = (length-replicate (width k) 0, all-wide k o ss (h .1))
+all-wide k o (some v ∷ ss) h = (h .0 .1, all-wide k o ss (h .1))
 
-wide-length : (k : Fixed) (n : ℕ) (ss : List Slot) → length ss ≡ n → AllSlots (fixed k) ss → length (clearedValues (wide (width k)) n ss) ≡ n * width k
-wide-length k n ss e h =
-    length-joined (width k) (map (fixedSlot (width k)) ss) (all-wide k ss h)
+wide-length : (k : Fixed) (o : SortOptions) (n : ℕ) (ss : List Slot) → length ss ≡ n → AllSlots (fixed k) o ss
+    → length (clearedValues (wide (width k)) n ss) ≡ n * width k
+wide-length k o n ss e h =
+    length-joined (width k) (map (fixedSlot (width k)) ss) (all-wide k o ss h)
     ∙ ap (λ (m : ℕ). m * width k) (length-map ss (fixedSlot (width k)) ∙ e)
 
 -- variable bytes: the ends, and the bytes between them
@@ -60,15 +62,15 @@ ended-length n ss e =
     )
 
 -- ---- a column: its frame, and what each slot adds
-module _ (n : ℕ) (ss : List Slot) (e : length ss ≡ n) where
+module _ (o : SortOptions) (n : ℕ) (ss : List Slot) (e : length ss ≡ n) where
   long : (ly : Layout) (m : ℕ) → length (clearedValues ly n ss) ≡ m → length (clearedColumn ly n ss) ≡ packed n + m
   long ly m h = omega (arith, length-append (pack (packed n) (map valid ss)) (clearedValues ly n ss), length-pack (packed n) (map valid ss), h)
 
-  wide-long : (k : Fixed) → AllSlots (fixed k) ss
+  wide-long : (k : Fixed) → AllSlots (fixed k) o ss
       → length (clearedColumn (wide (width k)) n ss) ≡ frame (wide (width k)) n + sum (map (added (wide (width k))) ss)
-  wide-long k h = long (wide (width k)) (n * width k) (wide-length k n ss e h) ∙ omega (arith, none-added ss)
+  wide-long k h = long (wide (width k)) (n * width k) (wide-length k o n ss e h) ∙ omega (arith, none-added ss)
 
-  column-length : (sh : Shape) → AllSlots sh ss → length (clearedColumn (layoutFor sh) n ss) ≡ frame (layoutFor sh) n + sum (map (added (layoutFor sh)) ss)
+  column-length : (sh : Shape) → AllSlots sh o ss → length (clearedColumn (layoutFor sh) n ss) ≡ frame (layoutFor sh) n + sum (map (added (layoutFor sh)) ss)
   column-length (fixed bool) h = long bits (packed n) (length-pack (packed n) (map isTrue ss)) ∙ omega (arith, none-added ss)
   column-length (fixed (plain w)) h = wide-long (plain w) h
   column-length (fixed (number w)) h = wide-long (number w) h
@@ -97,7 +99,7 @@ cleared-length n (col ∷ cols) yss e h =
     ∙ omega (
       arith,
       length-append (clearedColumn (layout col) n ss) t,
-      column-length n ss (length-map yss _ ∙ e) (columnShape col) (first-fits col cols yss h),
+      column-length (col .options) n ss (length-map yss _ ∙ e) (columnShape col) (first-fits col cols yss h),
       cleared-length n cols (map tail yss) (length-map yss tail ∙ e) (tails-fit col cols yss h),
       rows-added col cols yss h,
     )

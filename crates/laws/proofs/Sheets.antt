@@ -1,27 +1,30 @@
 -- A sheet that passes: its columns have their bytes, and its slots fit. Assumes nothing.
 use Prim.Native.Nat.{ℕ, zero, suc, _+_, _-_, _*_, _<_, _≤_}
-use mathlib.Core.Path.{_≡_, refl, ap, subst}
-use mathlib.Core.Bool.{Bool, true, false}
+use mathlib.Core.Path.{_≡_, refl, ap, sym, subst, _∙_}
+use mathlib.Core.Bool.{Bool, true, false, true≢false}
 use mathlib.Core.List.{List, [], _∷_}
 use mathlib.Core.Logic.{_⊎_, inl, inr}
 use native.Mathlib.Omega.{arith}
-use lib.Dec.{T}
+use lib.Dec.{T, ltb}
 use lib.ListN.{length, take, drop, length-take, length-drop}
 use lib.Seq.{length-take-le}
+use borrow.Author.Tests.{ltb-false}
 use Rattle.format.specs.declared.Check.the-variants.{Pass}
+use Rattle.format.specs.declared.SortOptions.{SortOptions}
 use Rattle.format.specs.declared.Column.{Column}
 use Rattle.format.specs.Limits.{maxSlot}
 use Rattle.format.specs.Lists.{Bytes, each}
 use Rattle.format.specs.Kinds.{Fixed, bool, plain, number, integer, float, parts, Shape, fixed, variable, Slot, width, columnShape}
 use Rattle.format.specs.Key.{allowed}
 use Rattle.format.specs.Fits.{Fits, SlotFits, AllSlots, SheetFits}
-use Rattle.format.specs.Sheet.{Layout, bits, ended, wide, layoutFor, layout, packed, bit, bitsFault, end, endsFault, variableFault, valuesFault, valuesBytes, boolByte, valueAt, slotIf, columnFault, columnBytes, slotAt, columnSlots, sheetFaultFrom, sheetFault, sheetSlots}
+use Rattle.format.specs.Sheet.{Layout, bits, ended, wide, layoutFor, layout, packed, bit, bitsFault, firstClear, requiredFault, end, endsFault, variableFault, valuesFault, valuesBytes, boolByte, valueAt, slotIf, columnFault, columnBytes, slotAt, columnSlots, sheetFaultFrom, sheetFault, sheetSlots}
 use Rattle.format.specs.Passed.{Passes, Step, Ended}
+use Rattle.bits.proofs.Clear.{all-set}
 use Rattle.bits.proofs.Nulls.{bits-passed}
 use Rattle.basics.proofs.Compare.{choose}
 use Rattle.basics.proofs.Bytes.{bytes-take, bytes-drop}
 use Rattle.basics.proofs.Lists.{length-each}
-use Rattle.basics.proofs.Checks.{enough, both-pass}
+use Rattle.basics.proofs.Checks.{enough, both-pass, pass-both}
 
 -- ---- the ends of a column of variable bytes
 
@@ -58,18 +61,32 @@ values-room bits n c s e = bits-passed n c s e .0
 values-room (wide w) n c s e = enough (length s) (n * w) _ _ e .0
 values-room ended n c s e = variable-passed n c s e .room
 
--- a column that passes: its validity, then its values
-pub column-passed : (ly : Layout) (n c : ℕ) (s : List ℕ) → columnFault ly n c s ≡ Pass
-    → (bitsFault n c s ≡ Pass) × (valuesFault ly n c (drop (packed n) s) ≡ Pass)
-column-passed ly n c s e = both-pass (bitsFault n c s) _ e
+-- a column that passes: its validity, its values, and that it has no null where it is required
+pub column-passed : (q : Bool) (ly : Layout) (n c : ℕ) (s : List ℕ) → columnFault q ly n c s ≡ Pass
+    → (bitsFault n c s ≡ Pass) × (valuesFault ly n c (drop (packed n) s) ≡ Pass) × (requiredFault q n c s ≡ Pass)
+column-passed q ly n c s e =
+    let p = both-pass (bitsFault n c s) _ e in
+    let r = both-pass (requiredFault q n c s) _ (p .1) in
+    (p .0, r .1, r .0)
+
+-- and it passes as one that is not required
+pub not-asked : (q : Bool) (ly : Layout) (n c : ℕ) (s : List ℕ) → columnFault q ly n c s ≡ Pass → columnFault false ly n c s ≡ Pass
+not-asked q ly n c s e = let p = column-passed q ly n c s e in pass-both (bitsFault n c s) _ (p .0) (p .1)
+
+-- every row of a required column that passes is valid
+no-null : (q : Bool) (n c : ℕ) (s : List ℕ) → requiredFault q n c s ≡ Pass → (r : ℕ) → r < n → bit s r ≡ false → q ≡ false
+no-null false n c s e r l z = refl
+no-null true n c s e r l z =
+    let none = ltb-false (firstClear s 0 n) n (failIf-pass (ltb (firstClear s 0 n) n) _ _ e .0) in
+    absurd (true≢false (sym (all-set s 0 n (omega arith) r (omega arith) (omega arith)) ∙ z))
 
 -- its validity bytes are there
-pub valid-bytes : (ly : Layout) (n : ℕ) (s : List ℕ) → Passes (λ c. columnFault ly n c s) → packed n ≤ length s
-valid-bytes ly n s h = bits-passed n (h .c) s (column-passed ly n (h .c) s (h .pass) .0) .0
+pub valid-bytes : (q : Bool) (ly : Layout) (n : ℕ) (s : List ℕ) → Passes (λ c. columnFault q ly n c s) → packed n ≤ length s
+valid-bytes q ly n s h = bits-passed n (h .c) s (column-passed q ly n (h .c) s (h .pass) .0) .0
 
-pub column-room : (ly : Layout) (n c : ℕ) (s : List ℕ) → columnFault ly n c s ≡ Pass → columnBytes ly n s ≤ length s
-column-room ly n c s e =
-    let p = column-passed ly n c s e in
+pub column-room : (q : Bool) (ly : Layout) (n c : ℕ) (s : List ℕ) → columnFault q ly n c s ≡ Pass → columnBytes ly n s ≤ length s
+column-room q ly n c s e =
+    let p = column-passed q ly n c s e in
     omega (arith, bits-passed n c s (p .0) .0, values-room ly n c (drop (packed n) s) (p .1), length-drop (packed n) s)
 
 -- ---- the slots of a column fit
@@ -107,31 +124,33 @@ value-fits variable n c s b e i l =
       omega (arith, length-take (end s (suc i) - end s i) t, variable-passed n c s e .step i l .short),
     )
 
-if-fits : (sh : Shape) (b : Bool) (v : List ℕ) → Fits maxSlot sh v → SlotFits maxSlot sh (slotIf b v)
-if-fits sh true v h = h
-if-fits sh false v h = tt
+if-fits : (sh : Shape) (o : SortOptions) (b : Bool) (v : List ℕ) → Fits maxSlot sh v → (b ≡ false → o .required ≡ false) → SlotFits maxSlot sh o (slotIf b v)
+if-fits sh o true v h free = h
+if-fits sh o false v h free = free refl
 
 -- slot r of a column that passes
-pub slot-fits : (sh : Shape) (n c : ℕ) (s : List ℕ) → Bytes s → columnFault (layoutFor sh) n c s ≡ Pass → (r : ℕ) → r < n
-    → SlotFits maxSlot sh (slotAt (layoutFor sh) n s r)
-slot-fits sh n c s b e r l =
-    if-fits sh (bit s r) _ (value-fits sh n c (drop (packed n) s) (bytes-drop (packed n) s b) (column-passed (layoutFor sh) n c s e .1) r l)
+pub slot-fits : (sh : Shape) (o : SortOptions) (n c : ℕ) (s : List ℕ) → Bytes s → columnFault (o .required) (layoutFor sh) n c s ≡ Pass → (r : ℕ) → r < n
+    → SlotFits maxSlot sh o (slotAt (layoutFor sh) n s r)
+slot-fits sh o n c s b e r l =
+    let p = column-passed (o .required) (layoutFor sh) n c s e in
+    if-fits sh o (bit s r) _ (value-fits sh n c (drop (packed n) s) (bytes-drop (packed n) s b) (p .1) r l) (no-null (o .required) n c s (p .2) r l)
 
-slots-fit : (sh : Shape) (i k : ℕ) (f : ℕ → Slot) → ((j : ℕ) → i ≤ j → j < i + k → SlotFits maxSlot sh (f j)) → AllSlots sh (each i k f)
-slots-fit sh i zero f h = tt
-slots-fit sh i (suc k) f h = (h i (omega arith) (omega arith), slots-fit sh (suc i) k f (λ j a b. h j (omega arith) (omega arith)))
+slots-fit : (sh : Shape) (o : SortOptions) (i k : ℕ) (f : ℕ → Slot) → ((j : ℕ) → i ≤ j → j < i + k → SlotFits maxSlot sh o (f j)) → AllSlots sh o (each i k f)
+slots-fit sh o i zero f h = tt
+slots-fit sh o i (suc k) f h = (h i (omega arith) (omega arith), slots-fit sh o (suc i) k f (λ j a b. h j (omega arith) (omega arith)))
 
-column-fits : (sh : Shape) (n c : ℕ) (s : List ℕ) → Bytes s → columnFault (layoutFor sh) n c s ≡ Pass → AllSlots sh (columnSlots (layoutFor sh) n s)
-column-fits sh n c s b e = slots-fit sh 0 n (slotAt (layoutFor sh) n s) (λ j l m. slot-fits sh n c s b e j (omega arith))
+column-fits : (sh : Shape) (o : SortOptions) (n c : ℕ) (s : List ℕ) → Bytes s → columnFault (o .required) (layoutFor sh) n c s ≡ Pass
+    → AllSlots sh o (columnSlots (layoutFor sh) n s)
+column-fits sh o n c s b e = slots-fit sh o 0 n (slotAt (layoutFor sh) n s) (λ j l m. slot-fits sh o n c s b e j (omega arith))
 
 -- ---- and those of a sheet
 columns-fit : (n c at : ℕ) (cols : List Column) (s : List ℕ) → Bytes s → sheetFaultFrom n c at cols s ≡ Pass → SheetFits n cols (sheetSlots n cols s)
 columns-fit n c at [] s b e = tt
 columns-fit n c at (col ∷ cols) s b e =
     let k : ℕ = columnBytes (layout col) n s in
-    let p = both-pass (columnFault (layout col) n c s) _ e in (
+    let p = both-pass (columnFault (col .options .required) (layout col) n c s) _ e in (
       length-each 0 n (slotAt (layout col) n s),
-      column-fits (columnShape col) n c s b (p .0),
+      column-fits (columnShape col) (col .options) n c s b (p .0),
       columns-fit n (suc c) (at + k) cols (drop k s) (bytes-drop k s b) (p .1),
     )
 

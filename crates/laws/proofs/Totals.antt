@@ -4,11 +4,13 @@ use mathlib.Core.Path.{_≡_, refl, ap, ap₂, sym, subst, _∙_}
 use mathlib.Core.Bool.{Bool, true, false, cond}
 use mathlib.Core.Option.{none, some}
 use mathlib.Core.List.{List, [], _∷_, _++_, map}
+use native.Mathlib.Nat.{zero-add}
 use native.Mathlib.Omega.{arith}
 use lib.Dec.{leb}
 use borrow.Author.Tests.{leb-true}
 use lib.ListN.{length, getD, drop, length-append}
 use Rattle.format.specs.declared.Check.the-variants.{Pass}
+use Rattle.format.specs.declared.SortOptions.{SortOptions}
 use Rattle.format.specs.declared.Column.{Column}
 use Rattle.format.specs.Limits.{maxWidth, maxSlot}
 use Rattle.format.specs.Lists.{Bytes, each, joined, sum}
@@ -16,6 +18,7 @@ use Rattle.format.specs.Kinds.{Shape, fixed, variable, Slot, shapeBytes, valueB
 use Rattle.format.specs.Field.{field, paddedLength, fieldLength, maxField}
 use Rattle.format.specs.Fits.{SlotFits, AllSlots, SheetFits}
 use Rattle.format.specs.Row.{row}
+use Rattle.format.specs.Schemas.{noColumn}
 use Rattle.format.specs.Sheet.{layout, columnFault, columnBytes, slotAt, columnSlots, sheetFault, sheetSlots, placeFrom, place, slotsIn}
 use Rattle.format.specs.Entries.{sheetTotal, columnTotal}
 use Rattle.laws.proofs.Fields.{length-field}
@@ -25,12 +28,12 @@ use Rattle.laws.proofs.Turned.{slot-in}
 use Rattle.basics.proofs.Lists.{each-at, each-next, each-same, sum-most}
 
 -- k rows from row i on: the fields of the first column, and the rows of the others
-module _ (col : Column) (cols : List Column) (ss : List Slot) (sss : List (List Slot)) (h : AllSlots (columnShape col) ss) where
-  one-more : (i k : ℕ)
+module _ (col : Column) (cols : List Column) (ss : List Slot) (sss : List (List Slot)) (h : AllSlots (columnShape col) (col .options) ss) where
+  one-more : (i k : ℕ) → i + k ≡ length ss
       → length (joined (map (row (col ∷ cols)) (each i k (slotsIn (ss ∷ sss)))))
       ≡ sum (each i k (λ r. fieldLength (columnShape col) (getD ss r none))) + length (joined (map (row cols) (each i k (slotsIn sss))))
-  one-more i zero = refl
-  one-more i (suc k) =
+  one-more i zero e = refl
+  one-more i (suc k) e =
       let f : List ℕ = field (columnShape col) (col .options) (getD ss i none) in
       let r : List ℕ = row cols (slotsIn sss i) in
       omega (
@@ -38,8 +41,8 @@ module _ (col : Column) (cols : List Column) (ss : List Slot) (sss : List (List 
         length-append (f ++ r) (joined (map (row (col ∷ cols)) (each (suc i) k (slotsIn (ss ∷ sss))))),
         length-append f r,
         length-append r (joined (map (row cols) (each (suc i) k (slotsIn sss)))),
-        length-field (columnShape col) (col .options) (getD ss i none) (slot-in (columnShape col) ss i h),
-        one-more (suc i) k,
+        length-field (columnShape col) (col .options) (getD ss i none) (slot-in (columnShape col) (col .options) ss i (omega arith) h),
+        one-more (suc i) k (omega arith),
       )
 
 no-columns : (i k : ℕ) (f : ℕ → List Slot) → length (joined (map (row []) (each i k f))) ≡ 0
@@ -51,6 +54,7 @@ total-from : (n at : ℕ) (cols : List Column) (s : List ℕ) (d : Column) → S
 total-from n at [] s d h = no-columns 0 n (slotsIn [])
 total-from n at (col ∷ cols) s d h =
     one-more col cols (columnSlots (layout col) n (drop at s)) (sheetSlots n cols (drop (columnBytes (layout col) n (drop at s)) (drop at s))) (h .1) 0 n
+    (zero-add n ∙ sym (h .0))
     ∙ ap₂ _+_ first
     (ap (sheetTotal n cols) (past-column (layout col) n at s)
     ∙ total-from n (at + columnBytes (layout col) n (drop at s)) cols s d
@@ -73,12 +77,12 @@ padded-most n l = go (leb n 32) refl
     go true e = omega (arith, leb-true n 32 e)
     go false e = omega arith
 
-field-most : (sh : Shape) (s : Slot) → shapeBytes sh ≤ maxWidth → SlotFits maxSlot sh s → fieldLength sh s ≤ maxField
-field-most (fixed k) s w h = omega arith
-field-most variable none w h = omega arith
-field-most variable (some v) w h = padded-most (length v) (h .1)
+field-most : (sh : Shape) (o : SortOptions) (s : Slot) → shapeBytes sh ≤ maxWidth → SlotFits maxSlot sh o s → fieldLength sh s ≤ maxField
+field-most (fixed k) o s w h = omega arith
+field-most variable o none w h = omega arith
+field-most variable o (some v) w h = padded-most (length v) (h .1)
 
-pub total-most : (col : Column) (n c : ℕ) (s : List ℕ) → Bytes s → columnFault (layout col) n c s ≡ Pass → valueBytes (col .kind) ≤ maxWidth
+pub total-most : (col : Column) (n c : ℕ) (s : List ℕ) → Bytes s → columnFault false (layout col) n c s ≡ Pass → valueBytes (col .kind) ≤ maxWidth
     → columnTotal col n s ≤ n * maxField
 total-most col n c s b e w = sum-most (λ r. fieldLength (columnShape col) (slotAt (layout col) n s r)) maxField 0 n (λ r x y.
-    field-most (columnShape col) (slotAt (layout col) n s r) w (slot-fits (columnShape col) n c s b e r (omega arith)))
+    field-most (columnShape col) (noColumn .options) (slotAt (layout col) n s r) w (slot-fits (columnShape col) (noColumn .options) n c s b e r (omega arith)))

@@ -1,9 +1,11 @@
 -- Slots column by column and row by row: how many rows, and the first column. Assumes nothing.
-use Prim.Native.Nat.{ℕ, zero, suc}
+use Prim.Native.Nat.{ℕ, zero, suc, _<_}
 use mathlib.Core.Path.{_≡_, refl, ap, _∙_}
 use mathlib.Core.Option.{none}
 use mathlib.Core.List.{List, [], _∷_, map, tail}
+use native.Mathlib.Omega.{arith}
 use lib.ListN.{length, getD, length-map}
+use Rattle.format.specs.declared.SortOptions.{SortOptions}
 use Rattle.format.specs.declared.Column.{Column}
 use Rattle.format.specs.Limits.{maxSlot}
 use Rattle.format.specs.Kinds.{Shape, Slot, columnShape}
@@ -19,16 +21,17 @@ rows-many n cols sss = length-map (turned n sss) (row cols) ∙ length-each 0 n 
 
 -- ---- rows of columns that fit
 
--- slot i of a column; past the last there is none
-pub slot-in : (sh : Shape) (ss : List Slot) (i : ℕ) → AllSlots sh ss → SlotFits maxSlot sh (getD ss i none)
-slot-in sh [] i h = tt
-slot-in sh (s ∷ ss) zero h = h .0
-slot-in sh (s ∷ ss) (suc i) h = slot-in sh ss i (h .1)
+-- slot i of a column
+pub slot-in : (sh : Shape) (o : SortOptions) (ss : List Slot) (i : ℕ) → i < length ss → AllSlots sh o ss → SlotFits maxSlot sh o (getD ss i none)
+slot-in sh o [] i l h = absurd (omega arith)
+slot-in sh o (s ∷ ss) zero l h = h .0
+slot-in sh o (s ∷ ss) (suc i) l h = slot-in sh o ss i (omega arith) (h .1)
 
 -- ---- columns of rows that fit
 
 -- the first column of rows that fit, and the rows without it
-pub first-fits : (col : Column) (cols : List Column) (yss : List (List Slot)) → Every (RowFits (col ∷ cols)) yss → AllSlots (columnShape col) (slotsIn yss 0)
+pub first-fits : (col : Column) (cols : List Column) (yss : List (List Slot)) → Every (RowFits (col ∷ cols)) yss
+    → AllSlots (columnShape col) (col .options) (slotsIn yss 0)
 first-fits col cols [] h = tt
 first-fits col cols ([] ∷ yss) h = absurd (h .0)
 first-fits col cols ((y ∷ ys) ∷ yss) h = (h .0 .0, first-fits col cols yss (h .1))

@@ -45,13 +45,14 @@ fn kind_of(b: u8, width: usize) -> Kind
     }
 }
 
-// Bit 0 and bit 1 of an options byte.
+// Bits 0 to 2 of an options byte.
 fn options_of(o: u8) -> SortOptions
     ensures { λ r. ⌜ r ≡ optionsOf o ⌝ }
 {
     SortOptions {
         descending: o % 2 == 1,
         nulls_first: o / 2 % 2 == 1,
+        required: o / 4 % 2 == 1,
     }
 }
 
@@ -92,7 +93,7 @@ fn check_description(list: &[u8], at: usize) -> Check
     if list.len() - at < description_bytes(kind) {
         return Check::Refuse(Refusal::ListCut(at));
     }
-    if 3 < list[at + 1] {
+    if 7 < list[at + 1] {
         return Check::Refuse(Refusal::OptionBits(at));
     }
     if format::MAX_WIDTH < width_at(list, at) {

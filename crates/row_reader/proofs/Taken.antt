@@ -6,6 +6,7 @@ use mathlib.Core.List.{List, _∷_}
 use native.Mathlib.Omega.{arith}
 use lib.ListN.{length, take, drop, length-append, length-drop}
 use lib.Seq.{drop-at, take-all}
+use Rattle.format.specs.declared.SortOptions.{SortOptions}
 use Rattle.format.specs.declared.Column.{Column}
 use Rattle.format.specs.declared.FieldRead.{FieldRead}
 use Rattle.format.specs.declared.FieldRead.the-variants.{Null, Value, Fault}
@@ -24,7 +25,7 @@ use Rattle.laws.proofs.ReadField.{read-field}
 pub record Took (col : Column) (s : List ℕ) (x : Slot) (len : ℕ) : Type 0 where
   pub is : readField (columnShape col) (col .options) s ≡ got x (drop len s)
   pub inside : len ≤ length s
-  pub fits : SlotFits maxSlot (columnShape col) x
+  pub fits : SlotFits maxSlot (columnShape col) (col .options) x
 
 -- what each answer says
 abbrev pub Says : Column → List ℕ → FieldRead → Type 0
@@ -68,15 +69,15 @@ module _ (col : Column) (s : List ℕ) (x : Slot) (len : ℕ) (t : Took col s x 
   past-added = ap (rowAdded (col ∷ cols)) past-slots
 
 -- a slot adds no more than the ceiling
-pub added-small : (sh : Shape) (x : Slot) → SlotFits maxSlot sh x → added (layoutFor sh) x ≤ maxSlot
-added-small (fixed bool) x h = omega arith
-added-small (fixed (plain w)) x h = omega arith
-added-small (fixed (number w)) x h = omega arith
-added-small (fixed (integer w)) x h = omega arith
-added-small (fixed (float w)) x h = omega arith
-added-small (fixed (parts ws)) x h = omega arith
-added-small variable none h = omega arith
-added-small variable (some v) h = h .1
+pub added-small : (sh : Shape) (o : SortOptions) (x : Slot) → SlotFits maxSlot sh o x → added (layoutFor sh) x ≤ maxSlot
+added-small (fixed bool) o x h = omega arith
+added-small (fixed (plain w)) o x h = omega arith
+added-small (fixed (number w)) o x h = omega arith
+added-small (fixed (integer w)) o x h = omega arith
+added-small (fixed (float w)) o x h = omega arith
+added-small (fixed (parts ws)) o x h = omega arith
+added-small variable o none h = omega arith
+added-small variable o (some v) h = h .1
 
 -- a null adds nothing
 pub null-added : (ly : Layout) → added ly none ≡ 0

@@ -60,7 +60,7 @@ module _ {cols : List Column} {row : List ℕ} {r bytes₀ bytes at c : ℕ} (t 
         within = omega (arith, k .inside, length-drop at row);
         says = rw (add-one, ← e) (sym (past-fault col s x len k rest r c) ∙ ap (λ (l : List Column). rowFault r c l s) (sym here) ∙ t .says);
         adds = rw (add-one, ← e) (omega (arith, past-added col s x len k rest, ap (λ (l : List Column). rowData l s) here));
-        small = omega (arith, added-small (columnShape col) x (k .fits));
+        small = omega (arith, added-small (columnShape col) (col .options) x (k .fits));
       }
 
   -- the field was refused: so is the row

@@ -1,6 +1,7 @@
 -- The rows of a checked sheet, field by field, each from the facts of its column. Assumes nothing.
 use Prim.Native.Nat.{ℕ, _+_, _<_}
 use mathlib.Core.Path.{_≡_, refl, ap, ap₂, sym, _∙_}
+use mathlib.Core.Bool.{false}
 use mathlib.Core.Option.{none}
 use mathlib.Core.List.{List, [], _∷_, _++_}
 use native.Mathlib.Omega.{arith}
@@ -18,7 +19,7 @@ use Rattle.laws.proofs.Fields.{length-field}
 use Rattle.basics.proofs.Lists.{each-at, each-next, each-same, map-each}
 use Rattle.format.specs.Passed.{Passes, Stands}
 use Rattle.laws.proofs.Places.{past-column}
-use Rattle.laws.proofs.Sheets.{slot-fits}
+use Rattle.laws.proofs.Sheets.{not-asked, slot-fits}
 use Rattle.sheet_reader.specs.declared.sheet.Facts.{Facts}
 use Rattle.sheet_reader.specs.Sheets.{noFacts, Known}
 
@@ -66,8 +67,10 @@ module _ (n : ℕ) (cols : List Column) (s : List ℕ) (facts : List Facts) (k :
 module _ (n c r at : ℕ) (col : Column) (s : List ℕ) (g : Stands col n c at s) where
   -- it is as long as the table says
   pub field-long : Bytes s → r < n → length (fieldIn n s r col at) ≡ fieldLength (columnShape col) (slotIn n s r col at)
-  field-long b l = length-field (columnShape col) (col .options) (slotIn n s r col at) (slot-fits (columnShape col) n c (drop at s) (bytes-drop at s b) (g .passes) r l)
+  field-long b l =
+      length-field (columnShape col) (col .options) (slotIn n s r col at)
+      (slot-fits (columnShape col) (col .options) n c (drop at s) (bytes-drop at s b) (g .passes) r l)
 
   -- and the column passes there
-  pub stands-passes : Passes (λ c. columnFault (layout col) n c (drop at s))
-  stands-passes = record { c = c; pass = g .passes }
+  pub stands-passes : Passes (λ c. columnFault false (layout col) n c (drop at s))
+  stands-passes = record { c = c; pass = not-asked (col .options .required) (layout col) n c (drop at s) (g .passes) }

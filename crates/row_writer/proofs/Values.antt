@@ -99,8 +99,8 @@ module _ {kind : Kind} (n r : ℕ) (s : List ℕ) (l : r < n) (h : Passes (λ c.
 -- ---- the slot of row r
 
 -- the values after the validity bytes pass
-pub values-pass : (ly : Layout) (n : ℕ) (s : List ℕ) → Passes (λ c. columnFault ly n c s) → Passes (λ c. valuesFault ly n c (drop (packed n) s))
-values-pass ly n s h = record { c = h .c; pass = column-passed ly n (h .c) s (h .pass) .1 }
+pub values-pass : (ly : Layout) (n : ℕ) (s : List ℕ) → Passes (λ c. columnFault false ly n c s) → Passes (λ c. valuesFault ly n c (drop (packed n) s))
+values-pass ly n s h = record { c = h .c; pass = column-passed false ly n (h .c) s (h .pass) .1 }
 
 -- what the validity bit says
 pub slot-valid : (ly : Layout) (n : ℕ) (s : List ℕ) (r : ℕ) → bit s r ≡ true → slotAt ly n s r ≡ some (valueAt ly n (drop (packed n) s) r)

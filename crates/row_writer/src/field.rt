@@ -1,4 +1,5 @@
 // The field of one slot of a checked column, from a place of the row buffer on. Each writer returns the place after the field.
+ghost use mathlib.Core.Bool.{false};
 ghost use mathlib.Core.Option.{none, some};
 ghost use Prim.Native.Nat.{_+_, _<_, _≤_};
 ghost use lib.ListN.{length};
@@ -76,7 +77,7 @@ pub fn put_field(
     at: usize,
 ) -> usize
     requires { ⌜ (n ≤ maxRows) × (r < n) ⌝ }
-    requires { ⌜ Passes (λ c. columnFault (layout column) n c (now part)) ⌝ }
+    requires { ⌜ Passes (λ c. columnFault false (layout column) n c (now part)) ⌝ }
     requires { ⌜ at + fieldLength (columnShape column) (slotAt (layout column) n (now part) r) ≤ length (now rows) ⌝ }
     ensures { λ x. ⌜ Wrote (field (columnShape column) (column .options) (slotAt (layout column) n (now (part .entry)) r)) at
         (now (rows .entry)) (now (rows .exit)) x ⌝ }

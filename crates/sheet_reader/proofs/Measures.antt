@@ -33,9 +33,9 @@ value-long n s r g l =
     length-take-le (end s (suc r) - end s r) (drop (end s r) (drop (4 * suc n) s))
     (omega (arith, g .room, last-end n s g (n - suc r) (suc r) (omega arith), length-drop (end s r) (drop (4 * suc n) s), length-drop (4 * suc n) s))
 
-module _ (n : ℕ) (s : List ℕ) (p : Passes (λ c. columnFault ended n c s)) where
+module _ (n : ℕ) (s : List ℕ) (p : Passes (λ c. columnFault false ended n c s)) where
   pub ends : Ended n (drop (packed n) s)
-  ends = variable-passed n (p .c) (drop (packed n) s) (column-passed ended n (p .c) s (p .pass) .1)
+  ends = variable-passed n (p .c) (drop (packed n) s) (column-passed false ended n (p .c) s (p .pass) .1)
 
   -- the ends of all rows are there
   pub ends-room : 4 * suc n ≤ length (drop (packed n) s)
@@ -59,7 +59,7 @@ module _ (n : ℕ) (s : List ℕ) (p : Passes (λ c. columnFault ended n c s)) w
         (omega arith, omega arith)
 
 -- the fields of n rows fit
-pub variable-most : (n : ℕ) (s : List ℕ) → Bytes s → Passes (λ c. columnFault ended n c s) → variableTotal n s ≤ n * maxField
+pub variable-most : (n : ℕ) (s : List ℕ) → Bytes s → Passes (λ c. columnFault false ended n c s) → variableTotal n s ≤ n * maxField
 variable-most n s b p = total-most (record { kind = Variable; options = noColumn .options }) n (p .c) s b (p .pass) (omega arith)
 
 -- ---- fields of one length

@@ -1,5 +1,6 @@
 // The measuring walk: the total row bytes of a checked sheet, column by column.
 ghost use mathlib.Core.Path.{_≡_};
+ghost use mathlib.Core.Bool.{false};
 ghost use Prim.Native.Nat.{_*_, _<_, _≤_};
 ghost use Rattle.format.specs.declared.Check.the-variants.{Pass};
 ghost use Rattle.format.specs.Limits.{maxRows, maxWidth};
@@ -25,7 +26,7 @@ const NULL_LENGTH: u64 = 1;
 // The length of the field of a row in the column of variable bytes in front of the part: 1 for a null, and that of its value.
 fn variable_length(part: &[u8], n: usize, row: usize) -> u64
     requires { ⌜ (n ≤ maxRows) × (row < n) ⌝ }
-    requires { ⌜ Passes (λ c. columnFault ended n c (now part)) ⌝ }
+    requires { ⌜ Passes (λ c. columnFault false ended n c (now part)) ⌝ }
     ensures { λ r. ⌜ r ≡ variableLength n (now (part .entry)) row ⌝ }
 {
     if bits::bit(part, row) {
@@ -39,7 +40,7 @@ fn variable_length(part: &[u8], n: usize, row: usize) -> u64
 // The fields of n rows in the column of variable bytes in front of the part.
 fn measure_variable(part: &[u8], n: usize) -> u64
     requires { ⌜ n ≤ maxRows ⌝ }
-    requires { ⌜ Passes (λ c. columnFault ended n c (now part)) ⌝ }
+    requires { ⌜ Passes (λ c. columnFault false ended n c (now part)) ⌝ }
     ensures { λ r. ⌜ r ≡ variableTotal n (now (part .entry)) ⌝ }
     ensures { λ r. ⌜ r ≤ maxRows * maxField ⌝ }
 {
@@ -56,7 +57,7 @@ fn measure_variable(part: &[u8], n: usize) -> u64
 fn measure_column(column: Column, part: &[u8], n: usize) -> u64
     requires { ⌜ n ≤ maxRows ⌝ }
     requires { ⌜ valueBytes (column .kind) ≤ maxWidth ⌝ }
-    requires { ⌜ Passes (λ c. columnFault (layout column) n c (now part)) ⌝ }
+    requires { ⌜ Passes (λ c. columnFault false (layout column) n c (now part)) ⌝ }
     ensures { λ r. ⌜ r ≡ columnTotal column n (now (part .entry)) ⌝ }
     ensures { λ r. ⌜ r ≤ maxRows * maxField ⌝ }
 {

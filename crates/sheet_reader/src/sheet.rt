@@ -6,7 +6,8 @@ ghost use Prim.Native.Nat.{suc, _+_, _*_, _<_, _≤_};
 ghost use lib.ListN.{length, take};
 ghost use Rattle.format.specs.Limits.{maxRows, maxWidth};
 ghost use Rattle.format.specs.Kinds.{valueBytes, shape};
-ghost use Rattle.format.specs.Sheet.{Layout, layoutFor, packed as packedFor, spareSet, bitsFault, end, endsFault, variableFault, valuesFault, valuesBytes, columnFault, columnBytes, columnSlots, nullsIn};
+ghost use Rattle.format.specs.Sheet.{Layout, layoutFor, packed as packedFor, spareSet, bitsFault, requiredFault, end, endsFault, variableFault, valuesFault, valuesBytes, layout, columnFault, columnBytes, columnSlots, nullsIn};
+ghost use Rattle.format.specs.Check.{both};
 ghost use Rattle.format.specs.Schemas.{colsOf, Limited};
 ghost use Rattle.sheet_reader.specs.Sheets.{SheetedAs};
 use bits::packed;
@@ -42,6 +43,31 @@ fn check_bits(part: &[u8], n: usize, c: usize) -> Check
         return Check::Refuse(Refusal::SpareBit(c));
     }
     Check::Pass
+}
+
+// The validity bits of a required column, which are there: 27 at the first null row.
+fn check_required(required: bool, part: &[u8], n: usize, c: usize) -> Check
+    requires { ⌜ packedFor n ≤ length (now part) ⌝ }
+    ensures { λ r. ⌜ r ≡ requiredFault required n c (now (part .entry)) ⌝ }
+{
+    if !required {
+        return Check::Pass;
+    }
+    let row = bits::first_clear(part, n);
+    if row < n {
+        return Check::Refuse(Refusal::Missing(c, row));
+    }
+    Check::Pass
+}
+
+// The first fault of two checks.
+fn first_fault(first: Check, second: Check) -> Check
+    ensures { λ r. ⌜ r ≡ both first second ⌝ }
+{
+    if let Check::Refuse(r) = first {
+        return Check::Refuse(r);
+    }
+    second
 }
 
 // End i of variable bytes: four bytes, low byte first.
@@ -110,18 +136,22 @@ fn check_values(kind: Kind, part: &[u8], n: usize, c: usize) -> Check
     }
 }
 
-// Column c in front of the part: validity 7, 8, then its values.
-fn check_column(kind: Kind, part: &[u8], n: usize, c: usize) -> Check
+// Column c in front of the part: validity 7, 8, of a required column then 27, then its values.
+fn check_column(column: Column, part: &[u8], n: usize, c: usize) -> Check
     requires { ⌜ n ≤ maxRows ⌝ }
-    requires { ⌜ valueBytes kind ≤ maxWidth ⌝ }
-    ensures { λ r. ⌜ r ≡ columnFault (layoutFor (shape kind)) n c (now (part .entry)) ⌝ }
+    requires { ⌜ valueBytes (column .kind) ≤ maxWidth ⌝ }
+    ensures { λ r. ⌜ r ≡ columnFault (column .options .required) (layout column) n c (now (part .entry)) ⌝ }
 {
     let check = check_bits(part, n, c);
     if let Check::Refuse(r) = check {
         return Check::Refuse(r);
     }
+    let required = column.options.required;
+    let kind = column.kind;
     let valid = packed(n);
-    check_values(kind, &part[valid..], n, c)
+    let missing = check_required(required, part, n, c);
+    let values = check_values(kind, &part[valid..], n, c);
+    first_fault(missing, values)
 }
 
 // The bytes of a column's values, which are there.
@@ -191,7 +221,7 @@ pub fn check_sheet(schema: Schema, n: usize, sheet: &[u8]) -> Sheeted
         let column = columns[c];
         let kind = column.kind;
         let part = &sheet[at..];
-        let check = check_column(kind, part, n, c);
+        let check = check_column(column, part, n, c);
         if let Check::Refuse(r) = check {
             return found(Check::Refuse(r), facts, 0);
         }

@@ -6,20 +6,18 @@ use mathlib.Core.Bool.{Bool, not}
 use mathlib.Core.Option.{none, some}
 use mathlib.Core.List.{List, [], _∷_, _++_}
 use native.Mathlib.Omega.{arith}
-use lib.Dec.{eqb}
 use lib.ListN.{length, getD, take, drop, length-append, length-take, length-drop, length-replicate}
 use lib.Seq.{getD-take, getD-drop}
-use borrow.Author.Tests.{eq-eqb}
 use Rattle.format.specs.declared.SortOptions.{SortOptions}
 use Rattle.format.specs.declared.Column.{Column}
 use Rattle.format.specs.Limits.{maxSlot}
 use Rattle.format.specs.Lists.{Bytes}
 use Rattle.format.specs.Kinds.{Fixed, bool, Shape, fixed, variable, Slot, width, shapeBytes, columnShape}
-use Rattle.format.specs.Field.{directed, field, nullByte, variableBytes}
+use Rattle.format.specs.Field.{directed, field, variableBytes}
 use Rattle.format.specs.Fits.{SlotFits}
 use Rattle.format.specs.Cleared.{valid, isTrue, fixedSlot, variableSlot}
-use Rattle.format.specs.Read.{Parsed, got, fault, Good, slotRead, leftAfter, readField, readFixed}
-use Rattle.laws.proofs.Fields.{Led, led-variable, not-null, length-field}
+use Rattle.format.specs.Read.{Parsed, got, fault, Good, nullLead, slotRead, leftAfter, readField, readFixed}
+use Rattle.laws.proofs.Fields.{Led, led-variable, not-null, null-led, length-field}
 use Rattle.laws.proofs.ReadField.{read-field}
 use Rattle.sheet_writer.specs.declared.flags.Flag.{Flag}
 use Rattle.sheet_writer.specs.declared.flags.Flag.the-variants.{Valid, True}
@@ -31,7 +29,7 @@ record Opens (sh : Shape) (o : SortOptions) (s : List ℕ) : Type 0 where
   pub rest : List ℕ
   pub reads : readField sh o s ≡ got slot rest
   pub is : s ≡ field sh o slot ++ rest
-  pub fits : SlotFits maxSlot sh slot
+  pub fits : SlotFits maxSlot sh o slot
 
 -- what can be read is such a field
 opens : (sh : Shape) (o : SortOptions) (s : List ℕ) → Bytes s → Good (readField sh o s) → Opens sh o s
@@ -43,15 +41,15 @@ opens sh o s b g = go (readField sh o s) refl g
 
 -- ---- the lead byte
 
--- the first byte of a field is the null byte exactly when its slot is null
-lead-is : (sh : Shape) (o : SortOptions) (x : Slot) (t : List ℕ) → valid x ≡ not (eqb (getD (field sh o x ++ t) 0 0) (nullByte o))
-lead-is (fixed k) o none t = sym (ap not (eq-eqb (nullByte o) (nullByte o) refl))
-lead-is variable o none t = sym (ap not (eq-eqb (nullByte o) (nullByte o) refl))
-lead-is (fixed k) o (some v) t = sym (ap not (not-null o 1 (omega arith) (omega arith)))
-lead-is variable o (some v) t =
+-- the first byte of a field is a null's exactly when its slot is null
+lead-is : (sh : Shape) (o : SortOptions) (x : Slot) (t : List ℕ) → SlotFits maxSlot sh o x → valid x ≡ not (nullLead o (getD (field sh o x ++ t) 0 0))
+lead-is (fixed k) o none t h = sym (ap not (null-led o h))
+lead-is variable o none t h = sym (ap not (null-led o h))
+lead-is (fixed k) o (some v) t h = sym (ap not (not-null o 1 (omega arith) (omega arith)))
+lead-is variable o (some v) t h =
     let l : Led (directed (o .descending) (variableBytes v)) = led-variable (o .descending) v in
     sym (ap not (
-    ap (λ (f : List ℕ). eqb (getD (f ++ t) 0 0) (nullByte o)) (l .splits) ∙ not-null o (l .lead) (l .above) (l .below)
+    ap (λ (f : List ℕ). nullLead o (getD (f ++ t) 0 0)) (l .splits) ∙ not-null o (l .lead) (l .above) (l .below)
     ))
 
 -- there is one
@@ -71,14 +69,14 @@ readable-part col rows cursors a m h r l =
     subst (λ (p : ℕ). Good (cursorField col rows p)) (sym (getD-take m (drop a cursors) r 0 (omega arith) ∙ getD-drop a cursors r 0))
     (h (a + r) (omega (arith, length-drop a cursors)))
 
--- a field is null exactly when its lead byte is the null byte
+-- a field is null exactly when its lead byte is a null's
 pub valid-lead : (sh : Shape) (o : SortOptions) (s : List ℕ) → Bytes s → Good (readField sh o s)
-    → valid (slotRead (readField sh o s)) ≡ not (eqb (getD s 0 0) (nullByte o))
+    → valid (slotRead (readField sh o s)) ≡ not (nullLead o (getD s 0 0))
 valid-lead sh o s b g =
     let t = opens sh o s b g in
     ap (λ (p : Parsed Slot). valid (slotRead p)) (t .reads)
-    ∙ lead-is sh o (t .slot) (t .rest)
-    ∙ ap (λ (z : List ℕ). not (eqb (getD z 0 0) (nullByte o))) (sym (t .is))
+    ∙ lead-is sh o (t .slot) (t .rest) (t .fits)
+    ∙ ap (λ (z : List ℕ). not (nullLead o (getD z 0 0))) (sym (t .is))
 
 -- ---- the flags of a field, as they are read
 
@@ -87,7 +85,7 @@ module _ (which : Flag) (col : Column) (s : List ℕ) (g : Good (readField (colu
   flag = flagOf which (slotRead (readField (columnShape col) (col .options) s))
 
   -- validity, by the lead byte
-  pub valid-flag : Bytes s → which ≡ Valid → not (eqb (getD s 0 0) (nullByte (col .options))) ≡ flag
+  pub valid-flag : Bytes s → which ≡ Valid → not (nullLead (col .options) (getD s 0 0)) ≡ flag
   valid-flag b e =
       sym (valid-lead (columnShape col) (col .options) s b g)
       ∙ sym (ap (λ (w : Flag). flagOf w (slotRead (readField (columnShape col) (col .options) s))) e)
@@ -108,9 +106,9 @@ module _ (which : Flag) (col : Column) (s : List ℕ) (g : Good (readField (colu
 -- ---- lengths
 
 -- what a slot takes up in a column of values of one length
-slot-long : (k : Fixed) (x : Slot) → SlotFits maxSlot (fixed k) x → length (fixedSlot (width k) x) ≡ width k
-slot-long k none h = length-replicate (width k) 0
-slot-long k (some v) h = h .1
+slot-long : (k : Fixed) (o : SortOptions) (x : Slot) → SlotFits maxSlot (fixed k) o x → length (fixedSlot (width k) x) ≡ width k
+slot-long k o none h = length-replicate (width k) 0
+slot-long k o (some v) h = h .1
 
 -- of a fixed kind: the field is a byte longer than a value, is there whole, and its slot is as long as every other
 pub record Whole (sh : Shape) (o : SortOptions) (s : List ℕ) : Type 0 where
@@ -127,20 +125,20 @@ whole-fixed k o s b g =
     record {
       field-long = omega arith;
       there = omega arith;
-      slot-is = ap (λ (p : Parsed Slot). length (fixedSlot (width k) (slotRead p))) (t .reads) ∙ slot-long k (t .slot) (t .fits);
+      slot-is = ap (λ (p : Parsed Slot). length (fixedSlot (width k) (slotRead p))) (t .reads) ∙ slot-long k o (t .slot) (t .fits);
     }
 
 pub whole : (sh : Shape) (k : Fixed) (o : SortOptions) (s : List ℕ) → sh ≡ fixed k → Bytes s → Good (readField sh o s) → Whole sh o s
 whole sh k o s e b = subst (λ (z : Shape). Good (readField z o s) → Whole z o s) (sym e) (whole-fixed k o s b)
 
 -- no value of variable bytes is over the limit
-slot-short : (x : Slot) → SlotFits maxSlot variable x → length (variableSlot x) ≤ maxSlot
-slot-short none h = omega arith
-slot-short (some v) h = h .1
+slot-short : (o : SortOptions) (x : Slot) → SlotFits maxSlot variable o x → length (variableSlot x) ≤ maxSlot
+slot-short o none h = omega arith
+slot-short o (some v) h = h .1
 
 pub variable-short : (o : SortOptions) (s : List ℕ) → Bytes s → length (variableSlot (slotRead (readField variable o s))) ≤ maxSlot
 variable-short o s b = go (readField variable o s) refl
   where
     go : (p : Parsed Slot) → readField variable o s ≡ p → length (variableSlot (slotRead p)) ≤ maxSlot
-    go (got x r) e = slot-short x (read-field variable o s x r b e .1)
+    go (got x r) e = slot-short o x (read-field variable o s x r b e .1)
     go (fault f l) e = omega arith

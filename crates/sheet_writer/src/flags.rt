@@ -20,7 +20,7 @@ pub enum Flag {
     True,
 }
 
-// The flag of the field in front of a row. A field is null exactly when its lead byte is the null byte.
+// The flag of the field in front of a row. A field is null exactly when its lead byte is a null's.
 fn read_flag(row: &[u8], column: Column, which: Flag) -> bool
     requires { ⌜ Good (readField (columnShape column) (column .options) (now row)) ⌝ }
     requires { ⌜ Flagged which column ⌝ }

@@ -3,6 +3,7 @@
 use borrow.Author.Needs.{needs}
 use Prim.Native.Nat.{_≤_}
 use mathlib.Core.Path.{_≡_, sym, _∙_}
+use mathlib.Core.Bool.{false}
 use mathlib.Core.Option.{none, some}
 use native.Mathlib.Omega.{arith}
 use lib.ListN.{length, drop}
@@ -16,7 +17,7 @@ use Rattle.row_writer.proofs.field.put_field.Tie as tie
 
 -- the validity bytes are there
 there : (s : tie.Start) → packed (s .args .n) ≤ length (s .args .part .now)
-there s = valid-bytes (layout (s .args .column)) (s .args .n) (s .args .part .now) (s .pre .1 .0)
+there s = valid-bytes false (layout (s .args .column)) (s .args .n) (s .args .part .now) (s .pre .1 .0)
 
 -- what was known at the entry
 abbrev entry : tie.After-bit → tie.Start

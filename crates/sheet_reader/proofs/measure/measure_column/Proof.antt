@@ -3,6 +3,7 @@
 use borrow.Author.Needs.{needs}
 use Prim.Native.Nat.{ℕ, _+_, _*_, _≤_}
 use mathlib.Core.Path.{_≡_, sym, ap, _∙_}
+use mathlib.Core.Bool.{false}
 use mathlib.Core.List.{List}
 use native.Mathlib.Nat.{mul-le-mul, lt-of-le-of-lt}
 use native.Mathlib.Omega.{arith}
@@ -26,7 +27,7 @@ use Rattle.sheet_reader.proofs.measure.measure_column.Tie as tie
 
 -- ---- variable bytes
 module _ (col : Column) (n : ℕ) (s : List ℕ) (e : col .kind ≡ Variable) where
-  asked : Passes (λ c. columnFault (layout col) n c s) → Passes (λ c. columnFault ended n c s)
+  asked : Passes (λ c. columnFault false (layout col) n c s) → Passes (λ c. columnFault false ended n c s)
   asked p = rw e at p
 
   added : variableTotal n s ≡ columnTotal col n s

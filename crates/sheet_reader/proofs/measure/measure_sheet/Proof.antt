@@ -14,12 +14,13 @@ use Rattle.format.specs.Lists.{each, sum}
 use Rattle.format.specs.Kinds.{valueBytes}
 use Rattle.format.specs.Field.{maxField}
 use Rattle.format.specs.Schemas.{Limited, colsOf, noColumn}
-use Rattle.format.specs.Sheet.{sheetFault}
+use Rattle.format.specs.Sheet.{layout, sheetFault}
 use Rattle.format.specs.Entries.{columnTotal}
 use Rattle.basics.proofs.Bytes.{bytes-of}
 use Rattle.basics.proofs.Lists.{Adding, adding-begin, adding-more, adding-end}
 use Rattle.laws.proofs.InUse.{in-use}
 use Rattle.laws.proofs.Parts.{part-rest}
+use Rattle.laws.proofs.Sheets.{not-asked}
 use Rattle.sheet_reader.specs.declared.sheet.Facts.{Facts}
 use Rattle.sheet_reader.specs.Sheets.{FactsOf, Known, noFacts}
 use Rattle.sheet_reader.proofs.Measures.{factsTotal, known-total}
@@ -95,7 +96,9 @@ module _ (c : tie.In-loop Inv-loop μ-loop) where
 measure-column-requires : tie.Need-measure-column-requires Inv-loop μ-loop
 measure-column-requires c κs =
     let t = c .before .before .before in
-    (s t .pre .0, (narrow t, rw (rest t) (record { c = index t; pass = known-here t .stands .passes })))
+    let col = facts t .column in
+    let pass = not-asked (col .options .required) (layout col) (n (s t)) (index t) (part t) (known-here t .stands .passes) in
+    (s t .pre .0, (narrow t, rw (rest t) (record { c = index t; pass = pass })))
 
 -- ---- the column is measured
 

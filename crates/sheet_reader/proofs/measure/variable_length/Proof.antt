@@ -3,6 +3,7 @@
 use borrow.Author.Needs.{needs}
 use Prim.Native.Nat.{ℕ, _+_, _-_, _≤_}
 use mathlib.Core.Path.{_≡_, sym, ap, _∙_}
+use mathlib.Core.Bool.{false}
 use mathlib.Core.List.{List}
 use native.Mathlib.Omega.{arith}
 use lib.ListN.{length, take, drop}
@@ -16,7 +17,7 @@ use Rattle.sheet_reader.proofs.measure.variable_length.Tie as tie
 
 -- the validity bytes are there
 valid : (y : tie.Start) → packed (y .args .n) ≤ length (y .args .part .now)
-valid y = valid-bytes ended (y .args .n) (y .args .part .now) (y .pre .1)
+valid y = valid-bytes false ended (y .args .n) (y .args .part .now) (y .pre .1)
 
 bit-requires : tie.Need-bit-requires
 bit-requires c κs = omega (arith, valid (c .before), c .before .pre .0)

@@ -93,13 +93,13 @@ module _ (c : tie.In-loop Inv-loop μ-loop) where
 
   -- what is wrong with the column, and the bytes that it takes
   abbrev fault : Check
-  fault = columnFault (layout column) (n s) index part
+  fault = columnFault (column .options .required) (layout column) (n s) index part
 
   abbrev bytes : ℕ
   bytes = columnBytes (layout column) (n s) part
 
   room : fault ≡ Pass → bytes ≤ length part
-  room = column-room (layout column) (n s) index part
+  room = column-room (column .options .required) (layout column) (n s) index part
 
 check-column-requires : tie.Need-check-column-requires Inv-loop μ-loop
 check-column-requires c κs =
@@ -153,7 +153,7 @@ null-rows-requires : tie.Need-null-rows-requires Inv-loop μ-loop
 null-rows-requires c κs =
     let passed = c .before in
     let t = passed-turn passed in
-    let valid = column-passed (layout (column t)) (n (s t)) (index t) (part t) (passes passed) .0 in
+    let valid = column-passed (column t .options .required) (layout (column t)) (n (s t)) (index t) (part t) (passes passed) .0 in
     rw (rest t) (few (s t), bits-passed (n (s t)) (index t) (part t) valid)
 
 -- ---- the end of a turn
