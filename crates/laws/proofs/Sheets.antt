@@ -24,7 +24,7 @@ use Rattle.bits.proofs.Nulls.{bits-passed}
 use Rattle.basics.proofs.Compare.{choose}
 use Rattle.basics.proofs.Bytes.{bytes-take, bytes-drop}
 use Rattle.basics.proofs.Lists.{length-each}
-use Rattle.basics.proofs.Checks.{enough, both-pass, pass-both}
+use Rattle.basics.proofs.Checks.{failIf-pass, enough, both-pass, pass-both}
 
 -- ---- the ends of a column of variable bytes
 
