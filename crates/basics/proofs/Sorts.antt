@@ -1,11 +1,11 @@
--- The three sorts of kinds: bool, values of one width, and variable bytes; that every number with a sign has a byte for it; and
--- the last arm of a match on a kind, which takes those that no arm before it names. Assumes nothing.
-use Prim.Native.Nat.{ℕ, _<_}
+-- The three sorts of kinds: bool, values of one width, and variable bytes; that every number with a sign has a byte for it, and every
+-- float a width that folds; and the last arm of a match on a kind, which takes those that no arm before it names. Assumes nothing.
+use Prim.Native.Nat.{ℕ, _^_, _<_}
 use mathlib.Core.Path.{_≡_, refl, sym, ap, subst, _∙_}
 use mathlib.Core.Bool.{Bool as Truth, true, false, not}
 use mathlib.Core.List.{List, [], _∷_, _++_}
 use native.Mathlib.Omega.{arith}
-use lib.Dec.{T}
+use lib.Dec.{T, lit<}
 use mir.Val.{hasKey}
 use types.Run.{OneOf, miss}
 use denote.Enum.Declared.{tagOf}
@@ -14,6 +14,8 @@ use Rattle.format.specs.declared.Kind.{Kind}
 use Rattle.format.specs.declared.Kind.the-variants.{Bool, I8, I16, I32, I64, U8, U16, U32, U64, F16, F32, F64, DayTime, MonthDayNano, FixedBinary, Variable, I128, I256}
 use Rattle.format.specs.Lists.{each}
 use Rattle.format.specs.Kinds.{Fixed, bool, plain, number, integer, float, parts, Shape, fixed, variable, shape, shapeBytes, width, valueBytes}
+use Rattle.format.specs.Value.{half}
+use Rattle.format.specs.Fold.{infinity, oneNaN}
 use Rattle.format.specs.Sheet.{layoutFor, wide}
 use Rattle.basics.specs.Wide.{WideKind, WideShape}
 
@@ -35,10 +37,29 @@ abbrev pub ShapeSigns : Shape → Type 0
 ShapeSigns (fixed k) = Signs k
 ShapeSigns variable = Unit {0}
 
+-- what folding a float of n bytes rests on: the one NaN is above infinity and below the sign, which n bytes hold
+pub record Foldable (n : ℕ) : Type 0 where
+  pub above : infinity n < oneNaN n
+  pub below : oneNaN n < half n
+  pub holds : half n < 256 ^ n
+
+-- every float has such a width
+abbrev pub Folding : Fixed → Type 0
+Folding bool = Unit {0}
+Folding (plain n) = Unit {0}
+Folding (number n) = Unit {0}
+Folding (integer n) = Unit {0}
+Folding (float n) = Foldable n
+Folding (parts ns) = Unit {0}
+
+abbrev pub ShapeFolding : Shape → Type 0
+ShapeFolding (fixed k) = Folding k
+ShapeFolding variable = Unit {0}
+
 -- a kind is one of the three
 data Sort (kind : Kind) : Type 0 where
   bools : kind ≡ Bool → Sort kind
-  wides : (w : WideKind kind) → Signs (w .k) → Sort kind
+  wides : (w : WideKind kind) → Signs (w .k) → Folding (w .k) → Sort kind
   variables : kind ≡ Variable → Sort kind
 
 -- whether fixed values are bools, which alone are packed bits
@@ -51,29 +72,29 @@ isBool (float w) = false
 isBool (parts ws) = false
 
 -- the second sort
-of-width : {kind : Kind} (k : Fixed) → shape kind ≡ fixed k → isBool k ≡ false → Signs k → Sort kind
-of-width k e h s = wides (record { k = k; says = e; other = λ q. let z : _≡_ {A = ℕ} 0 1 = cc (ap isBool q) in omega arith }) s
+of-width : {kind : Kind} (k : Fixed) → shape kind ≡ fixed k → isBool k ≡ false → Signs k → Folding k → Sort kind
+of-width k e h s f = wides (record { k = k; says = e; other = λ q. let z : _≡_ {A = ℕ} 0 1 = cc (ap isBool q) in omega arith }) s f
 
 -- the table of kinds, by sort: what is proved of every kind is proved from here
 sort : (kind : Kind) → Sort kind
 sort Bool = bools refl
-sort I8 = of-width (integer 1) refl refl (omega arith)
-sort I16 = of-width (integer 2) refl refl (omega arith)
-sort I32 = of-width (integer 4) refl refl (omega arith)
-sort I64 = of-width (integer 8) refl refl (omega arith)
-sort U8 = of-width (number 1) refl refl tt
-sort U16 = of-width (number 2) refl refl tt
-sort U32 = of-width (number 4) refl refl tt
-sort U64 = of-width (number 8) refl refl tt
-sort F16 = of-width (float 2) refl refl (omega arith)
-sort F32 = of-width (float 4) refl refl (omega arith)
-sort F64 = of-width (float 8) refl refl (omega arith)
-sort DayTime = of-width (parts (4 ∷ 4 ∷ [])) refl refl (omega arith)
-sort MonthDayNano = of-width (parts (4 ∷ 4 ∷ 8 ∷ [])) refl refl (omega arith)
-sort (FixedBinary w) = of-width (plain w) refl refl tt
+sort I8 = of-width (integer 1) refl refl (omega arith) tt
+sort I16 = of-width (integer 2) refl refl (omega arith) tt
+sort I32 = of-width (integer 4) refl refl (omega arith) tt
+sort I64 = of-width (integer 8) refl refl (omega arith) tt
+sort U8 = of-width (number 1) refl refl tt tt
+sort U16 = of-width (number 2) refl refl tt tt
+sort U32 = of-width (number 4) refl refl tt tt
+sort U64 = of-width (number 8) refl refl tt tt
+sort F16 = of-width (float 2) refl refl (omega arith) (record { above = lit< tt; below = lit< tt; holds = lit< tt })
+sort F32 = of-width (float 4) refl refl (omega arith) (record { above = lit< tt; below = lit< tt; holds = lit< tt })
+sort F64 = of-width (float 8) refl refl (omega arith) (record { above = lit< tt; below = lit< tt; holds = lit< tt })
+sort DayTime = of-width (parts (4 ∷ 4 ∷ [])) refl refl (omega arith) tt
+sort MonthDayNano = of-width (parts (4 ∷ 4 ∷ 8 ∷ [])) refl refl (omega arith) tt
+sort (FixedBinary w) = of-width (plain w) refl refl tt tt
 sort Variable = variables refl
-sort I128 = of-width (integer 16) refl refl (omega arith)
-sort I256 = of-width (integer 32) refl refl (omega arith)
+sort I128 = of-width (integer 16) refl refl (omega arith) tt
+sort I256 = of-width (integer 32) refl refl (omega arith) tt
 
 -- in every kind
 pub signs : (kind : Kind) → ShapeSigns (shape kind)
@@ -81,7 +102,15 @@ signs kind = go (sort kind)
   where
     go : Sort kind → ShapeSigns (shape kind)
     go (bools e) = rw e tt
-    go (wides w s) = rw (w .says) s
+    go (wides w s f) = rw (w .says) s
+    go (variables e) = rw e tt
+
+pub foldable : (kind : Kind) → ShapeFolding (shape kind)
+foldable kind = go (sort kind)
+  where
+    go : Sort kind → ShapeFolding (shape kind)
+    go (bools e) = rw e tt
+    go (wides w s f) = rw (w .says) f
     go (variables e) = rw e tt
 
 -- ---- values of one width
@@ -133,7 +162,7 @@ neither kind b v = go (sort kind)
   where
     go : Sort kind → WideKind kind
     go (bools e) = absurd (b e)
-    go (wides w s) = w
+    go (wides w s f) = w
     go (variables e) = absurd (v e)
 
 -- the places after that of variable bytes
@@ -164,5 +193,5 @@ fixed-arm P kind b w h = go (sort kind)
   where
     go : Sort kind → P kind
     go (bools e) = subst P (sym e) b
-    go (wides k s) = w k
+    go (wides k s f) = w k
     go (variables e) = absurd (elsewhere fixedKeys kind Variable h tt e)

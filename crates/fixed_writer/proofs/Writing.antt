@@ -12,7 +12,8 @@ use Rattle.format.specs.Field.{directed}
 use Rattle.basics.specs.Wrote.{Wrote}
 use Rattle.number.specs.declared.Coding.{Coding}
 use Rattle.number.specs.Codings.{codingKey}
-use Rattle.number.proofs.Words.{length-lowBytes, read-back}
+use Rattle.basics.proofs.LowBytes.{length-lowBytes}
+use Rattle.number.proofs.Words.{read-back}
 
 -- what is written, said another way
 pub wrote-as : {f g : List ℕ} {at : ℕ} {out last : List ℕ} {next : ℕ} → Wrote f at out last next → f ≡ g → Wrote g at out last next
