@@ -5,7 +5,7 @@ use mathlib.Core.Bool.{cond}
 use mathlib.Core.List.{List, [], _∷_}
 use lib.Dec.{eqb}
 use lib.ListN.{getD}
-use Rattle.format.specs.declared.RowFault.the-variants.{Cut, Lead, NullRest, BoolByte, EndByte, Padding, Extra, TooLong}
+use Rattle.format.specs.declared.RowFault.the-variants.{Cut, Lead, NullRest, BoolByte, EndByte, Padding, Extra, TooLong, Unfolded}
 use Rattle.format.specs.declared.Refusal.{Refusal}
 use Rattle.format.specs.declared.Refusal.the-variants.{ListCut, UnknownKind, OptionBits, Width, ManyColumns, ManyRows, ColumnCut, SpareBit, Ends, LongSlot, BytesAfter, ManyBytes, RowRoom, OffsetRoom, Offsets, Row, SheetRoom, Input, Missing}
 use Rattle.format.specs.declared.Answer.{Answer}
@@ -21,7 +21,7 @@ refusals =
     ∷ (λ a b. BytesAfter a) ∷ (λ a b. ManyBytes a) ∷ (λ a b. RowRoom a) ∷ (λ a b. OffsetRoom a) ∷ (λ a b. Offsets a)
     ∷ (λ a b. Row Cut a b) ∷ (λ a b. Row Lead a b) ∷ (λ a b. Row NullRest a b) ∷ (λ a b. Row BoolByte a b)
     ∷ (λ a b. Row EndByte a b) ∷ (λ a b. Row Padding a b) ∷ (λ a b. Row Extra a b) ∷ (λ a b. Row TooLong a b)
-    ∷ (λ a b. SheetRoom a) ∷ (λ a b. Input) ∷ (λ a b. Input) ∷ (λ a b. Missing a b) ∷ []
+    ∷ (λ a b. SheetRoom a) ∷ (λ a b. Input) ∷ (λ a b. Input) ∷ (λ a b. Missing a b) ∷ (λ a b. Row Unfolded a b) ∷ []
 
 -- the answer of three numbers
 abbrev answerOf : Returned → Answer
@@ -52,6 +52,7 @@ numbers-back (Refused (Row EndByte r c)) = refl
 numbers-back (Refused (Row Padding r c)) = refl
 numbers-back (Refused (Row Extra r c)) = refl
 numbers-back (Refused (Row TooLong r c)) = refl
+numbers-back (Refused (Row Unfolded r c)) = refl
 numbers-back (Refused (SheetRoom bytes)) = refl
 numbers-back (Refused Input) = refl
 numbers-back (Refused (Missing c r)) = refl
