@@ -35,10 +35,11 @@
  * sheet    The columns in list order, each of:
  *            validity   ceil(n/8) bytes; row i is bit i mod 8 of byte i div 8, least bit first, 1 for valid
  *            values     bool: ceil(n/8) bytes packed alike; fixed kinds: n values, numbers low byte first;
- *                       variable: n+1 ends of four bytes each, low byte first, the first 0 and none falling,
- *                       then the bytes, value i between ends i and i+1
+ *                       variable: n+1 ends of four bytes each, low byte first, none falling, then as many
+ *                       bytes as the last end says, value i between ends i and i+1; bytes before the first
+ *                       end mean nothing
  *          Spare bits are zero. A null slot may hold anything. Decode writes the cleared sheet: zeros, and
- *          length 0, in null slots.
+ *          length 0, in null slots, and first ends of 0.
  *
  * rows     The rows, joined. Together at most 16,777,216 bytes.
  *
@@ -57,7 +58,7 @@
  *            6   over 4,096 rows                            n, 0
  *            7   column cut                                 column, 0
  *            8   spare bit set                              column, 0
- *            9   first end not 0, or ends fall              column, row
+ *            9   ends fall                                  column, row
  *            10  slot over 65,535                           column, row
  *            11  bytes after the last column                place, 0
  *            12  rows over 16,777,216 bytes                 total, 0

@@ -36,13 +36,13 @@ fn kind(column: Column) -> Kind {
 
 /// The columns as the crate takes them.
 pub fn columns(table: &Table) -> Vec<driver::Column> {
-    let columns = table.columns.iter().zip(&table.slots);
+    let columns = table.columns.iter().zip(&table.slots).zip(&table.before);
     columns
-        .map(|(column, slots)| {
+        .map(|((column, slots), before)| {
             let slots = slots.iter().map(|slot| (slot.valid, slot.bytes.as_slice()));
             let slots: Vec<SheetSlot<'_>> = slots.collect();
             driver::Column {
-                array: Array::from_slots(kind(*column), &slots),
+                array: Array::from_slots(kind(*column), before, &slots),
                 options: sort_options(*column),
             }
         })

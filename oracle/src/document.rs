@@ -84,11 +84,8 @@ pub fn one_slot_each(column: Column, values: &[Option<&[u8]>]) -> Table {
         valid: value.is_some(),
         bytes: value.map_or(vec![0; column.width], <[u8]>::to_vec),
     };
-    Table {
-        rows: values.len(),
-        columns: vec![column],
-        slots: vec![values.iter().map(slot).collect()],
-    }
+    let slots = values.iter().map(slot).collect();
+    Table::new(values.len(), vec![column], vec![slots])
 }
 
 /// All of them.

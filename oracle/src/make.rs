@@ -18,6 +18,8 @@ pub const LONG_LENGTHS: [usize; 15] = [
 ];
 /// Widths of fixed binary.
 pub const WIDTHS: [usize; 6] = [0, 1, 2, 16, 1023, 1024];
+/// Bytes before the first end of a sliced column; what a slot may hold is no limit to them.
+pub const FIRST_ENDS: [usize; 7] = [1, 7, 8, 33, 255, 256, 65_537];
 /// Descending and nulls first, in all four ways.
 pub const OPTIONS: std::ops::Range<u8> = 0..4;
 
@@ -81,11 +83,19 @@ pub fn table_with(
 ) -> Table {
     let slots = columns.iter();
     let slots = slots.map(|column| slots_of(rng, *column, rows, nulls, lengths));
-    Table {
-        rows,
-        slots: slots.collect(),
-        columns,
+    let slots = slots.collect();
+    Table::new(rows, columns, slots)
+}
+
+/// The same table as a slice of a longer one: so many bytes stand before the first end of each
+/// variable column.
+pub fn sliced(rng: &mut Rng, mut table: Table, first_end: usize) -> Table {
+    for (before, column) in table.before.iter_mut().zip(&table.columns) {
+        if column.kind == VARIABLE {
+            *before = bytes(rng, first_end);
+        }
     }
+    table
 }
 
 /// The slots of a column; a null slot holds a value like any other. Variable bytes have one of the
@@ -202,7 +212,8 @@ pub fn small_table(rng: &mut Rng) -> Table {
     table_of(rng, rows, columns)
 }
 
-/// A table whose columns each have their own pattern of nulls and their own lengths.
+/// A table whose columns each have their own pattern of nulls and their own lengths; one in four is
+/// a slice.
 pub fn table_of(rng: &mut Rng, rows: usize, columns: Vec<Column>) -> Table {
     let slots = columns.iter().map(|column| {
         let nulls = rng.pick(&NULLS);
@@ -213,9 +224,13 @@ pub fn table_of(rng: &mut Rng, rows: usize, columns: Vec<Column>) -> Table {
         }
         slots_of(rng, *column, rows, nulls, &lengths)
     });
-    Table {
-        rows,
-        slots: slots.collect(),
-        columns,
+    let slots = slots.collect();
+    let table = Table::new(rows, columns, slots);
+    match rng.once_in(4) {
+        true => {
+            let first_end = rng.below(40) + 1;
+            sliced(rng, table, first_end)
+        }
+        false => table,
     }
 }

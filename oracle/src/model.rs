@@ -94,14 +94,14 @@ fn take_bits<'a>(rest: &mut &'a [u8], n: usize, c: u64) -> Checked<&'a [u8]> {
     Ok(bits)
 }
 
-/// The values of a variable column: ends cut 7, first end 9, row by row 9, 10, then bytes 7.
+/// The values of a variable column: ends cut 7, row by row 9, 10, then bytes 7. The bytes before the
+/// first end are the column's too, and mean nothing.
 fn take_variable<'a>(rest: &mut &'a [u8], n: usize, c: u64) -> Checked<Vec<&'a [u8]>> {
     let ends = take(rest, 4 * (n + 1), c)?;
     let end = |i: usize| {
         let bytes = ends[4 * i..4 * i + 4].try_into().expect("four bytes");
         u32::from_le_bytes(bytes) as usize
     };
-    refuse_if(end(0) != 0, [9, c, 0])?;
     for i in 0..n {
         refuse_if(end(i + 1) < end(i), [9, c, i as u64])?;
         refuse_if(end(i + 1) - end(i) > MAX_SLOT, [10, c, i as u64])?;
@@ -493,11 +493,7 @@ pub fn decode(
             });
         }
     }
-    let table = Table {
-        rows: n,
-        columns,
-        slots,
-    };
+    let table = Table::new(n, columns, slots);
     let sheet = table.sheet();
     refuse_if(sheet_room < sheet.len(), [24, sheet.len() as u64, 0])?;
     Ok(Decoded {
@@ -541,7 +537,7 @@ mod tests {
         assert_eq!(names(4097, &[]), [6, 4097, 0]);
         assert_eq!(names(1, &[1, 0, 0, 0, 0, 1, 0, 0]), [7, 0, 0]);
         assert_eq!(names(1, &[2]), [8, 0, 0]);
-        assert_eq!(names(1, &[1, 1, 0, 0, 0, 1, 0, 0, 0]), [9, 0, 0]);
+        assert_eq!(names(1, &[1, 1, 0, 0, 0, 0, 0, 0, 0]), [9, 0, 0]);
         assert_eq!(
             names(2, &[1, 0, 0, 0, 0, 1, 0, 0, 0, 0, 0, 0, 0]),
             [9, 0, 1]
@@ -549,6 +545,17 @@ mod tests {
         assert_eq!(names(1, &[1, 0, 0, 0, 0, 0, 0, 1, 0]), [10, 0, 0]);
         assert_eq!(names(1, &[1, 0, 0, 0, 0, 1, 0, 0, 0]), [7, 0, 0]);
         assert_eq!(names(1, &[1, 0, 0, 0, 0, 0, 0, 0, 0, 0]), [11, 9, 0]);
+    }
+
+    #[test]
+    fn a_column_may_be_a_slice() {
+        let slots = |n, sheet: &'static [u8]| measure(&[16, 0], n, sheet).map(|m| m.slots);
+        let names: &[u8] = &[1, 2, 0, 0, 0, 3, 0, 0, 0, 9, 9, b'a'];
+        assert_eq!(slots(1, names), Ok(vec![vec![Some(&b"a"[..])]]));
+        assert_eq!(slots(1, &names[..11]), Err([7, 0, 0]));
+        assert_eq!(slots(0, &[2, 0, 0, 0, 9, 9]), Ok(vec![vec![]]));
+        assert_eq!(slots(0, &[2, 0, 0, 0, 9]), Err([7, 0, 0]));
+        assert_eq!(slots(0, &[2, 0, 0, 0, 9, 9, 9]), Err([11, 6, 0]));
     }
 
     #[test]

@@ -109,11 +109,7 @@ fn decoded_by_crate(table: &Table) -> Decoded {
         };
         slots.into_iter().map(slot).collect()
     });
-    let read = Table {
-        rows: table.rows,
-        columns: table.columns.clone(),
-        slots: slots.collect(),
-    };
+    let read = Table::new(table.rows, table.columns.clone(), slots.collect());
     Decoded {
         sheet: read.sheet(),
         nulls: read.nulls(),

@@ -98,7 +98,7 @@ pub fn long_values(judge: &mut Judge) {
 }
 
 /// Every byte of a short sheet set to every value, every cut of it, and a byte after it: one column
-/// of each kind, on both sides of a byte boundary.
+/// of each kind, on both sides of a byte boundary, and a slice of variable bytes.
 pub fn sheets(judge: &mut Judge, rng: &mut Rng) {
     for column in make::every_column(2) {
         for rows in [0, 1, 3, 8] {
@@ -106,6 +106,10 @@ pub fn sheets(judge: &mut Judge, rng: &mut Rng) {
             if column.width <= 16 {
                 let table = make::one_column(rng, column, rows, Nulls::Random, &[0, 1, 9]);
                 every_change_to_sheet(judge, &Good::of(&table));
+                if column.kind == VARIABLE {
+                    let slice = make::sliced(rng, table, 2);
+                    every_change_to_sheet(judge, &Good::of(&slice));
+                }
             }
         }
     }

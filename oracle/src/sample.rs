@@ -34,7 +34,7 @@ pub fn cases(rng: &mut Rng) -> Vec<Case> {
 }
 
 /// Every kind and option, with nulls and without; every boundary length and option; every pattern of
-/// nulls at every small row count; the widest fixed binary; one to sixteen columns.
+/// nulls at every small row count; slices; the widest fixed binary; one to sixteen columns.
 fn tables(rng: &mut Rng) -> Vec<Table> {
     let mut tables = Vec::new();
     for options in make::OPTIONS {
@@ -62,6 +62,13 @@ fn tables(rng: &mut Rng) -> Vec<Table> {
                 let column = Column::new(kind, rows as u8 % 4);
                 tables.push(make::one_column(rng, column, rows, nulls, &[0, 1]));
             }
+        }
+    }
+    for first_end in make::FIRST_ENDS.into_iter().filter(|end| *end < 300) {
+        for rows in [0, 1, 3] {
+            let columns = vec![Column::new(VARIABLE, rows as u8); 2];
+            let table = make::table_with(rng, rows, columns, Nulls::Random, &[0, 1, 9]);
+            tables.push(make::sliced(rng, table, first_end));
         }
     }
     for nulls in [Nulls::None, Nulls::All] {

@@ -56,7 +56,7 @@ fn parts(len: usize) -> Vec<Range<usize>> {
     parts
 }
 
-/// Fewer columns, fewer rows, then shorter and simpler values.
+/// Fewer columns, fewer rows, fewer bytes before a first end, then shorter and simpler values.
 fn table_steps(table: &Table) -> Vec<Step<Table>> {
     let mut steps: Vec<Step<Table>> = Vec::new();
     for part in parts(table.columns.len()) {
@@ -64,6 +64,7 @@ fn table_steps(table: &Table) -> Vec<Step<Table>> {
             steps.push(Box::new(move |table| {
                 table.columns.drain(part.clone());
                 table.slots.drain(part.clone());
+                table.before.drain(part.clone());
             }));
         }
     }
@@ -74,6 +75,13 @@ fn table_steps(table: &Table) -> Vec<Step<Table>> {
                 slots.drain(part.clone());
             }
         }));
+    }
+    for (c, before) in table.before.iter().enumerate() {
+        for part in parts(before.len()) {
+            steps.push(Box::new(move |table| {
+                table.before[c].drain(part.clone());
+            }));
+        }
     }
     if table.rows * table.columns.len() <= 64 {
         steps.extend(slot_steps(table));

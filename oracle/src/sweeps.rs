@@ -41,6 +41,25 @@ pub fn lengths(judge: &mut Judge, rng: &mut Rng) {
     }
 }
 
+/// Sliced columns: bytes of every count before the first end, every option and pattern of nulls, no
+/// rows too; alone and with a column on each side.
+pub fn slices(judge: &mut Judge, rng: &mut Rng) {
+    for options in make::OPTIONS {
+        judge.progress("slices", options as usize, 4);
+        for first_end in make::FIRST_ENDS {
+            for nulls in make::NULLS {
+                for rows in make::ROW_COUNTS {
+                    let names = Column::new(VARIABLE, options);
+                    for columns in [vec![names], vec![Column::new(6, options), names, names]] {
+                        let table = make::table_with(rng, rows, columns, nulls, &[0, 1, 8, 9, 33]);
+                        judge.table(&make::sliced(rng, table, first_end));
+                    }
+                }
+            }
+        }
+    }
+}
+
 /// Tables of the first one to sixteen kinds together, then random ones.
 pub fn tables(judge: &mut Judge, rng: &mut Rng, count: usize) {
     for last in 1..=16 {
@@ -98,5 +117,6 @@ fn over_ceiling(rng: &mut Rng) -> Table {
     let names = one_slot_each(Column::new(VARIABLE, 2), &names);
     table.columns.extend(names.columns);
     table.slots.extend(names.slots);
+    table.before.extend(names.before);
     table
 }

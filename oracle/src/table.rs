@@ -24,9 +24,22 @@ pub struct Table {
     pub rows: usize,
     pub columns: Vec<Column>,
     pub slots: Vec<Vec<Slot>>,
+    /// What stands in front of each column's values: in variable bytes the bytes before the first
+    /// end, which mean nothing, and nothing in other kinds.
+    pub before: Vec<Vec<u8>>,
 }
 
 impl Table {
+    /// A table whose columns are no slices: the first end of each is 0.
+    pub fn new(rows: usize, columns: Vec<Column>, slots: Vec<Vec<Slot>>) -> Table {
+        Table {
+            rows,
+            before: vec![Vec::new(); columns.len()],
+            columns,
+            slots,
+        }
+    }
+
     pub fn list(&self) -> Vec<u8> {
         list_of(&self.columns)
     }
@@ -40,16 +53,17 @@ impl Table {
     /// The sheet: the columns in list order.
     pub fn sheet(&self) -> Vec<u8> {
         let mut sheet = Vec::new();
-        for (column, slots) in self.columns.iter().zip(&self.slots) {
+        for (c, (column, slots)) in self.columns.iter().zip(&self.slots).enumerate() {
             push_bits(&mut sheet, slots, |slot| slot.valid);
-            push_values(&mut sheet, *column, slots);
+            push_values(&mut sheet, *column, &self.before[c], slots);
         }
         sheet
     }
 
-    /// The same table with zeros, and length 0, in its null slots.
+    /// The same table with zeros, and length 0, in its null slots, and nothing before a first end.
     pub fn cleared(&self) -> Table {
         let mut table = self.clone();
+        table.before.iter_mut().for_each(Vec::clear);
         for (column, slots) in table.columns.iter().zip(&mut table.slots) {
             for slot in slots.iter_mut().filter(|slot| !slot.valid) {
                 slot.bytes = vec![0; column.width];
@@ -73,17 +87,18 @@ fn push_bits(sheet: &mut Vec<u8>, slots: &[Slot], bit: impl Fn(&Slot) -> bool) {
     }
 }
 
-fn push_values(sheet: &mut Vec<u8>, column: Column, slots: &[Slot]) {
+fn push_values(sheet: &mut Vec<u8>, column: Column, before: &[u8], slots: &[Slot]) {
     if column.kind == BOOL {
         return push_bits(sheet, slots, |slot| slot.bytes == [1]);
     }
     if column.kind == VARIABLE {
-        let mut end = 0u32;
+        let mut end = before.len() as u32;
         sheet.extend(end.to_le_bytes());
         for slot in slots {
             end += slot.bytes.len() as u32;
             sheet.extend(end.to_le_bytes());
         }
+        sheet.extend(before);
     }
     slots.iter().for_each(|slot| sheet.extend(&slot.bytes));
 }

@@ -26,7 +26,7 @@ REASONS = {
     6: Reason("{second} rows, over 4,096", "rows"),
     7: Reason("column {second} of the sheet is cut", "column"),
     8: Reason("a spare bit is set in column {second}", "column"),
-    9: Reason("the ends of column {second} do not start at 0, or fall, at row {third}", "column", "row"),
+    9: Reason("the ends of column {second} fall at row {third}", "column", "row"),
     10: Reason("a slot over 65,535 bytes in column {second}, row {third}", "column", "row"),
     11: Reason("bytes after the last column, from byte {second} of the sheet on", "byte"),
     12: Reason("{second} row bytes, over 16,777,216", "bytes"),

@@ -65,6 +65,7 @@ class Given(unittest.TestCase):
         column = station.ByteColumn.of([b"abc", None, b"d"])
         self.assertEqual(encoded("bytes", column), [b"abc", None, b"d"])
         self.assertEqual(encoded("bytes", column[np.array([2, 0])]), [b"d", b"abc"])
+        self.assertEqual(encoded("bytes", station.ByteColumn(np.frombuffer(b"abcde", np.uint8), [2, 3, 5])), [b"c", b"de"])
         self.assertEqual(column.to_numpy().tolist(), [b"abc", None, b"d"])
 
     def test_columns_together(self):

@@ -195,6 +195,19 @@ pub fn measure(list: &[u8], n: u64, sheet: &[u8]) -> Answer {
 /// assert_eq!(offsets, [0, 10, 11, 7]);
 /// # Ok::<(), station::Refusal>(())
 /// ```
+///
+/// Variable bytes may be a slice of a longer column: what stands before the first end means nothing.
+///
+/// ```
+/// // Ends 3 and 4: "a" after three bytes of another value.
+/// let slice = [0b1, 3, 0, 0, 0, 4, 0, 0, 0, b'x', b'y', b'z', b'a'];
+/// let rows = station::encode_to_vec(&[16, 2], 1, &slice)?;
+/// assert_eq!(rows.row(0), [2, b'a', 0, 0, 0, 0, 0, 0, 0, 1]);
+///
+/// let back = station::decode_to_vec(&[16, 2], 1, &rows.bytes, &rows.offsets)?;
+/// assert_eq!(back, [0b1, 0, 0, 0, 0, 1, 0, 0, 0, b'a']);
+/// # Ok::<(), station::Refusal>(())
+/// ```
 pub fn encode(list: &[u8], n: u64, sheet: &[u8], rows: &mut [u8], offsets: &mut [u64]) -> Answer {
     // SAFETY: as in `check_list`; the offsets are lent as the eight bytes of each, which on this
     // machine lie low byte first, and any bytes make a u64.
@@ -215,7 +228,8 @@ pub fn encode(list: &[u8], n: u64, sheet: &[u8], rows: &mut [u8], offsets: &mut 
     })
 }
 
-/// Writes the cleared sheet of rows to the front of `sheet`: zeros, and length 0, in null slots.
+/// Writes the cleared sheet of rows to the front of `sheet`: zeros, and length 0, in null slots, and
+/// first ends of 0.
 ///
 /// ```
 /// let mut sheet = [0; 3];

@@ -49,10 +49,7 @@ impl fmt::Display for Refusal {
             6 => write!(f, "{a} rows, over 4,096"),
             7 => write!(f, "column {a} of the sheet is cut"),
             8 => write!(f, "a spare bit is set in column {a}"),
-            9 => write!(
-                f,
-                "the ends of column {a} do not start at 0, or fall, at row {b}"
-            ),
+            9 => write!(f, "the ends of column {a} fall at row {b}"),
             10 => write!(f, "a slot over 65,535 bytes in column {a}, row {b}"),
             11 => write!(
                 f,

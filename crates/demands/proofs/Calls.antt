@@ -25,10 +25,12 @@ use Rattle.laws.proofs.Numbers.{numbers-injective}
 use Rattle.demands.specs.declared.order.Ordered.{Ordered}
 use Rattle.demands.specs.declared.order.Ordered.the-variants.{Refused as NotEncoded, NoRow, Is}
 use Rattle.demands.specs.RoundTrip.{CameBack, CameAgain}
+use Rattle.demands.specs.Slices.{EncodedAlike}
 use Rattle.demands.specs.Order.{Batch, batch, batchFault, rowIn, ordered, orderIn, There, OrderedAs}
 use Rattle.demands.proofs.Demand2.{refused-back, encoded-back, refused-again, decoded-again}
 use Rattle.demands.proofs.Demand3.{Written, written-order, written-begins, written-begun}
 use Rattle.demands.proofs.Accept.{answer-refused}
+use Rattle.demands.proofs.NullSlots.{sliced-alike}
 
 -- ---- after a call of encode
 module _ {list : List ℕ} {n : ℕ} {sheet rows offsets : List ℕ} {r : Answer} {rows′ offsets′ : List ℕ}
@@ -57,6 +59,24 @@ module _ {list : List ℕ} {n : ℕ} {sheet rows offsets : List ℕ} {r : Answer
         writes = d .bytes ∙ ap₂ (λ (x y : List ℕ). decodeSheet list n x y back) (h .row-bytes) (h .row-ends) ∙ t .writes;
         same-slots = t .same-slots;
       }
+
+-- ---- two calls of encode, on sheets that differ only before a first end
+pub both-alike : {list : List ℕ} {n : ℕ} {sheet rows offsets other others ends : List ℕ} {r q : Answer} {rows′ offsets′ others′ ends′ : List ℕ}
+    → Bytes sheet → Encoded list n sheet rows offsets r rows′ offsets′ → Encoded list n other others ends q others′ ends′
+    → EncodedAlike list n sheet rows offsets other others ends (record { first = r; second = q }) rows′ offsets′ others′ ends′
+both-alike {list} {n} {sheet} {rows} {offsets} {other} {others} {ends} b f g e d same-rows same-ends =
+    let alike = sliced-alike list n sheet other rows offsets b e d .1 in
+    record {
+      answers =
+          f .answers
+          ∙ ap numbersOf (alike .answers)
+          ∙ ap₂ (λ (x y : List ℕ). numbersOf (encodeAnswer list n other (length x) (length y))) same-rows same-ends
+          ∙ sym (g .answers);
+      row-bytes =
+          f .row-bytes ∙ alike .row-bytes ∙ ap₂ (λ (x y : List ℕ). encodeRows list n other x (length y)) same-rows same-ends ∙ sym (g .row-bytes);
+      row-ends =
+          f .row-ends ∙ alike .row-ends ∙ ap₂ (λ (x y : List ℕ). encodeOffsets list n other (length x) y) same-rows same-ends ∙ sym (g .row-ends);
+    }
 
 -- ---- after a call of decode
 module _ {list : List ℕ} {n : ℕ} {rows offsets sheet : List ℕ} {r : Answer} {sheet′ : List ℕ} (h : Decoded list n rows offsets sheet r sheet′) where

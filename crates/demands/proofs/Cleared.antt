@@ -1,4 +1,4 @@
--- The cleared sheet of slots that fit is a sheet of raw slots: it passes, and it has these slots. Assumes nothing.
+-- The cleared sheet of slots that fit is a sheet of raw columns: it passes, and it has these slots. Assumes nothing.
 use Prim.Native.Nat.{ℕ, _≤_}
 use mathlib.Core.Path.{_≡_, refl, ap, ap₂, sym, subst, _∙_}
 use mathlib.Core.Bool.{true, false}
@@ -6,7 +6,7 @@ use mathlib.Core.Option.{none, some}
 use mathlib.Core.List.{List, [], _∷_, _++_, map, append-nil, map-map}
 use native.Mathlib.Omega.{arith}
 use lib.Dec.{eqb}
-use lib.ListN.{getD, replicate, length-replicate, length-map}
+use lib.ListN.{length, getD, replicate, length-replicate, length-map}
 use Rattle.format.specs.declared.Check.the-variants.{Pass}
 use Rattle.format.specs.declared.SortOptions.{SortOptions}
 use Rattle.format.specs.declared.Column.{Column}
@@ -17,18 +17,22 @@ use Rattle.format.specs.Fits.{Fits, AllSlots, SheetFits}
 use Rattle.format.specs.Sheet.{Layout, bits, ended, wide, layoutFor, layout, packed, sheetFault, sheetSlots}
 use Rattle.format.specs.Cleared.{pack, valid, isTrue, fixedSlot, variableSlot, clearedValues, clearedColumn, clearedSheet}
 use Rattle.basics.proofs.Bytes.{bytes-zeros}
-use Rattle.demands.specs.Raw.{Raw, slotOf, standing, rawColumn, rawSheet, cleared, AllRaw, RawFits}
-use Rattle.demands.proofs.Raw.{raw-passes, raw-slots}
+use Rattle.demands.specs.Raw.{Raw, RawColumn, slotOf, slotsOf, standing, rawColumn, rawSheet, cleared, AllRaw, EndFits, RawFits}
+use Rattle.demands.proofs.Raw.{raw-fits, data-short, raw-passes, raw-slots}
 
 -- a slot as it stands in the cleared sheet
 abbrev pub clearedRaw : Layout → Slot → Raw
 clearedRaw ly none = record { valid = false; bytes = cleared ly }
 clearedRaw ly (some v) = record { valid = true; bytes = v }
 
-abbrev pub clearedRaws : List Column → List (List Slot) → List (List Raw)
+-- its columns, which start at 0
+abbrev clearedSlots : Layout → List Slot → RawColumn
+clearedSlots ly ss = record { before = []; slots = map (clearedRaw ly) ss }
+
+abbrev pub clearedRaws : List Column → List (List Slot) → List RawColumn
 clearedRaws [] sss = []
 clearedRaws (col ∷ cols) [] = []
-clearedRaws (col ∷ cols) (ss ∷ sss) = map (clearedRaw (layout col)) ss ∷ clearedRaws cols sss
+clearedRaws (col ∷ cols) (ss ∷ sss) = clearedSlots (layout col) ss ∷ clearedRaws cols sss
 
 -- ---- the cleared sheet is theirs
 
@@ -54,7 +58,7 @@ variables : (s : Slot) → variableSlot s ≡ clearedRaw ended s .bytes
 variables none = refl
 variables (some v) = refl
 
-values-raw : (ly : Layout) (n : ℕ) (ss : List Slot) → clearedValues ly n ss ≡ standing ly n (map (λ r. r .bytes) (map (clearedRaw ly) ss))
+values-raw : (ly : Layout) (n : ℕ) (ss : List Slot) → clearedValues ly n ss ≡ standing ly n [] (map (λ r. r .bytes) (map (clearedRaw ly) ss))
 values-raw bits n ss =
     ap (pack (packed n))
     (raws-map isTrue (λ r. eqb (getD (r .bytes) 0 0) 1) bits bools ss
@@ -64,7 +68,7 @@ values-raw ended n ss =
     ap (λ (xs : List (List ℕ)). joined (map (lowBytes 4) (endsFrom 0 xs)) ++ joined xs)
     (raws-map variableSlot (λ r. r .bytes) ended variables ss)
 
-column-raw : (ly : Layout) (n : ℕ) (ss : List Slot) → clearedColumn ly n ss ≡ rawColumn ly n (map (clearedRaw ly) ss)
+column-raw : (ly : Layout) (n : ℕ) (ss : List Slot) → clearedColumn ly n ss ≡ rawColumn ly n (clearedSlots ly ss)
 column-raw ly n ss = ap₂ (λ (x y : List ℕ). x ++ y) (ap (pack (packed n)) (raws-map valid (λ r. r .valid) ly (valids ly) ss)) (values-raw ly n ss)
 
 pub cleared-raw : (n : ℕ) (cols : List Column) (sss : List (List Slot)) → clearedSheet n cols sss ≡ rawSheet n cols (clearedRaws cols sss)
@@ -72,7 +76,13 @@ cleared-raw n [] sss = refl
 cleared-raw n (col ∷ cols) [] = refl
 cleared-raw n (col ∷ cols) (ss ∷ sss) = ap₂ (λ (x y : List ℕ). x ++ y) (column-raw (layout col) n ss) (cleared-raw n cols sss)
 
--- ---- they fit
+-- ---- they are the slots
+slots-back : (ly : Layout) (ss : List Slot) → map slotOf (map (clearedRaw ly) ss) ≡ ss
+slots-back ly [] = refl
+slots-back ly (none ∷ ss) = ap (λ (l : List Slot). none ∷ l) (slots-back ly ss)
+slots-back ly (some v ∷ ss) = ap (λ (l : List Slot). some v ∷ l) (slots-back ly ss)
+
+-- ---- and they fit
 
 zeros-fit : (w : ℕ) → Bytes (replicate w 0)
 zeros-fit w = subst Bytes (append-nil (replicate w 0)) (bytes-zeros w [] tt)
@@ -86,28 +96,41 @@ cleared-fits (fixed (float w)) = (zeros-fit w, length-replicate w 0, tt)
 cleared-fits (fixed (parts ws)) = (zeros-fit (width (parts ws)), length-replicate (width (parts ws)) 0, tt)
 cleared-fits variable = (tt, omega arith)
 
-all-fit : (sh : Shape) (o : SortOptions) (ss : List Slot) → AllSlots sh o ss → AllRaw sh o (map (clearedRaw (layoutFor sh)) ss)
+all-fit : (sh : Shape) (o : SortOptions) (ss : List Slot) → AllSlots sh o ss → AllRaw sh (map (clearedRaw (layoutFor sh)) ss)
 all-fit sh o [] h = tt
-all-fit sh o (none ∷ ss) h = (cleared-fits sh, h .0, all-fit sh o ss (h .1))
-all-fit sh o (some v ∷ ss) h = (h .0, h .0, all-fit sh o ss (h .1))
+all-fit sh o (none ∷ ss) h = (cleared-fits sh, all-fit sh o ss (h .1))
+all-fit sh o (some v ∷ ss) h = (h .0, all-fit sh o ss (h .1))
 
-pub raws-fit : (n : ℕ) (cols : List Column) (sss : List (List Slot)) → SheetFits n cols sss → RawFits n cols (clearedRaws cols sss)
-raws-fit n [] [] h = tt
-raws-fit n [] (ss ∷ sss) h = absurd h
-raws-fit n (col ∷ cols) [] h = absurd h
-raws-fit n (col ∷ cols) (ss ∷ sss) h = (
-  length-map ss (clearedRaw (layout col)) ∙ h .0,
-  all-fit (columnShape col) (col .options) ss (h .1),
-  raws-fit n cols sss (h .2),
-)
+-- and so does the last end
+end-fits : (sh : Shape) (n : ℕ) (rs : List Raw) → n ≤ maxRows → length rs ≡ n → AllRaw sh rs → EndFits (layoutFor sh) [] (map (λ r. r .bytes) rs)
+end-fits (fixed bool) n rs few e h = tt
+end-fits (fixed (plain w)) n rs few e h = tt
+end-fits (fixed (number w)) n rs few e h = tt
+end-fits (fixed (integer w)) n rs few e h = tt
+end-fits (fixed (float w)) n rs few e h = tt
+end-fits (fixed (parts ws)) n rs few e h = tt
+end-fits variable n rs few e h =
+    let xs : List (List ℕ) = map (λ r. r .bytes) rs in
+    omega (arith, data-short xs (raw-fits variable rs h), length-map rs (λ (r : Raw). r .bytes), e, few)
 
--- and are the slots
-slots-back : (ly : Layout) (ss : List Slot) → map slotOf (map (clearedRaw ly) ss) ≡ ss
-slots-back ly [] = refl
-slots-back ly (none ∷ ss) = ap (λ (l : List Slot). none ∷ l) (slots-back ly ss)
-slots-back ly (some v ∷ ss) = ap (λ (l : List Slot). some v ∷ l) (slots-back ly ss)
+pub raws-fit : (n : ℕ) (cols : List Column) (sss : List (List Slot)) → n ≤ maxRows → SheetFits n cols sss → RawFits n cols (clearedRaws cols sss)
+raws-fit n [] [] few h = tt
+raws-fit n [] (ss ∷ sss) few h = absurd h
+raws-fit n (col ∷ cols) [] few h = absurd h
+raws-fit n (col ∷ cols) (ss ∷ sss) few h =
+    let many = length-map ss (clearedRaw (layout col)) ∙ h .0 in
+    let all = all-fit (columnShape col) (col .options) ss (h .1) in (
+      record {
+        many = many;
+        all = all;
+        fit = subst (AllSlots (columnShape col) (col .options)) (sym (slots-back (layout col) ss)) (h .1);
+        below = tt;
+        end-fits = end-fits (columnShape col) n (map (clearedRaw (layout col)) ss) few many all;
+      },
+      raws-fit n cols sss few (h .2),
+    )
 
-raws-back : (n : ℕ) (cols : List Column) (sss : List (List Slot)) → SheetFits n cols sss → map (map slotOf) (clearedRaws cols sss) ≡ sss
+raws-back : (n : ℕ) (cols : List Column) (sss : List (List Slot)) → SheetFits n cols sss → map slotsOf (clearedRaws cols sss) ≡ sss
 raws-back n [] [] h = refl
 raws-back n [] (ss ∷ sss) h = absurd h
 raws-back n (col ∷ cols) [] h = absurd h
@@ -116,9 +139,9 @@ raws-back n (col ∷ cols) (ss ∷ sss) h = ap₂ {C = List (List Slot)} (λ x y
 -- ---- so the cleared sheet passes, and has the slots
 pub cleared-passes : (n : ℕ) (cols : List Column) (sss : List (List Slot)) → n ≤ maxRows → SheetFits n cols sss
     → sheetFault n cols (clearedSheet n cols sss) ≡ Pass
-cleared-passes n cols sss few h = ap (sheetFault n cols) (cleared-raw n cols sss) ∙ raw-passes n cols (clearedRaws cols sss) few (raws-fit n cols sss h)
+cleared-passes n cols sss few h = ap (sheetFault n cols) (cleared-raw n cols sss) ∙ raw-passes n cols (clearedRaws cols sss) (raws-fit n cols sss few h)
 
 pub cleared-slots : (n : ℕ) (cols : List Column) (sss : List (List Slot)) → n ≤ maxRows → SheetFits n cols sss
     → sheetSlots n cols (clearedSheet n cols sss) ≡ sss
 cleared-slots n cols sss few h =
-    ap (sheetSlots n cols) (cleared-raw n cols sss) ∙ raw-slots n cols (clearedRaws cols sss) few (raws-fit n cols sss h) ∙ raws-back n cols sss h
+    ap (sheetSlots n cols) (cleared-raw n cols sss) ∙ raw-slots n cols (clearedRaws cols sss) (raws-fit n cols sss few h) ∙ raws-back n cols sss h

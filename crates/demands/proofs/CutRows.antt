@@ -30,7 +30,7 @@ cuts-pass n bytes offsets c =
     (pass-enough maxTotal (getD offsets n 0) _ _ (c .small) refl))))
 
 -- ---- rows that were cut out
-module _ (n : ℕ) (bytes offsets : List ℕ) (there : suc n ≤ length offsets) (first : getD offsets 0 0 ≡ 0)
+module _ (n : ℕ) (bytes offsets : List ℕ) (there : suc n ≤ length offsets)
     (rising : (j : ℕ) → j < n → getD offsets j 0 ≤ getD offsets (suc j) 0) (inside : getD offsets n 0 ≤ length bytes) where
   -- no offset is past the last
   below : (d i : ℕ) → i + d ≡ n → getD offsets i 0 ≤ getD offsets n 0
@@ -46,7 +46,8 @@ module _ (n : ℕ) (bytes offsets : List ℕ) (there : suc n ≤ length offsets)
       ∙ sym (take-add (b - a) (e - b) (drop a bytes))
       ∙ ap (λ (i : ℕ). take i (drop a bytes)) k
 
-  joined-from : (i k : ℕ) → i + k ≡ n → joined (each i k (rowBytes bytes offsets)) ≡ take (getD offsets n 0 - getD offsets i 0) (drop (getD offsets i 0) bytes)
+  -- joined, those from row i on are the bytes from its offset to the last
+  pub joined-from : (i k : ℕ) → i + k ≡ n → joined (each i k (rowBytes bytes offsets)) ≡ take (getD offsets n 0 - getD offsets i 0) (drop (getD offsets i 0) bytes)
   joined-from i zero e =
       let z : getD offsets n 0 - getD offsets i 0 ≡ 0 = omega (arith, ap (λ (m : ℕ). getD offsets m 0) (let q : i ≡ n = omega arith in q)) in
       ap (λ (m : ℕ). take m (drop (getD offsets i 0) bytes)) (sym z)
@@ -54,9 +55,9 @@ module _ (n : ℕ) (bytes offsets : List ℕ) (there : suc n ≤ length offsets)
       ap (λ (z : List ℕ). rowBytes bytes offsets i ++ z) (joined-from (suc i) k (omega arith))
       ∙ whole (getD offsets i 0) (getD offsets (suc i) 0) (getD offsets n 0) (rising i (omega arith)) (below k (suc i) (omega arith))
 
-  -- joined they are the bytes up to the last offset
-  pub cut-joined : joined (cutRows n bytes offsets) ≡ take (getD offsets n 0) bytes
-  cut-joined =
+  -- all of them, where the first offset is 0, are the bytes up to the last
+  pub cut-joined : getD offsets 0 0 ≡ 0 → joined (cutRows n bytes offsets) ≡ take (getD offsets n 0) bytes
+  cut-joined first =
       joined-from 0 n (zero-add n)
       ∙ ap (λ (o : ℕ). take (getD offsets n 0 - o) (drop o bytes)) first
       ∙ ap (λ (m : ℕ). take m bytes) (sub-zero (getD offsets n 0))
@@ -69,13 +70,13 @@ module _ (n : ℕ) (bytes offsets : List ℕ) (there : suc n ≤ length offsets)
       let room : getD offsets (suc i) 0 - getD offsets i 0 ≤ length (drop (getD offsets i 0) bytes) = omega (arith, inside) in
       omega (arith, length-take-le (getD offsets (suc i) 0 - getD offsets i 0) (drop (getD offsets i 0) bytes) room)
 
-  ends-from : (i k : ℕ) → i + k ≡ n → endsFrom (getD offsets i 0) (each i k (rowBytes bytes offsets)) ≡ take (suc k) (drop i offsets)
+  -- they end where the offsets say
+  pub ends-from : (i k : ℕ) → i + k ≡ n → endsFrom (getD offsets i 0) (each i k (rowBytes bytes offsets)) ≡ take (suc k) (drop i offsets)
   ends-from i zero e = sym (ap (take 1) (drop-cons offsets i 0 (omega (arith, there))))
   ends-from i (suc k) e =
       ap (λ (z : ℕ). getD offsets i 0 ∷ endsFrom z (each (suc i) k (rowBytes bytes offsets))) (cut-length i (omega arith))
       ∙ ap (λ (z : List ℕ). getD offsets i 0 ∷ z) (ends-from (suc i) k (omega arith))
       ∙ sym (ap (take (suc (suc k))) (drop-cons offsets i 0 (omega (arith, there))))
 
-  -- and they end where the offsets say
-  pub cut-ends : endsFrom 0 (cutRows n bytes offsets) ≡ take (suc n) offsets
-  cut-ends = ap (λ (k : ℕ). endsFrom k (cutRows n bytes offsets)) (sym first) ∙ ends-from 0 n (zero-add n)
+  pub cut-ends : getD offsets 0 0 ≡ 0 → endsFrom 0 (cutRows n bytes offsets) ≡ take (suc n) offsets
+  cut-ends first = ap (λ (k : ℕ). endsFrom k (cutRows n bytes offsets)) (sym first) ∙ ends-from 0 n (zero-add n)

@@ -20,8 +20,8 @@ pub mod RowsBack
 pub mod Exact
 pub mod Demand2
 pub mod Demand3
-pub mod Calls
 pub mod NullSlots
+pub mod Calls
 pub mod Front
 pub mod FaultPlace
 pub mod OutBytes

@@ -1,5 +1,5 @@
--- A null slot may hold anything within the limits: whatever it holds, a sheet of the same values is accepted and encoded alike; and a
--- cleared sheet is its own cleared sheet, so that it comes back byte for byte. Assumes nothing.
+-- A null slot may hold anything within the limits, and so may what is before a first end: whatever they hold, a sheet of the same values is
+-- accepted and encoded alike; and a cleared sheet is its own cleared sheet, so that it comes back byte for byte. Assumes nothing.
 use Prim.Native.Nat.{ℕ, _≤_}
 use mathlib.Core.Path.{_≡_, refl, ap, ap₂, sym, subst, _∙_}
 use mathlib.Core.Bool.{Bool, true, false}
@@ -12,16 +12,17 @@ use Rattle.format.specs.declared.Check.the-variants.{Pass}
 use Rattle.format.specs.declared.Column.{Column}
 use Rattle.format.specs.Limits.{maxTotal}
 use Rattle.format.specs.Lists.{Bytes, joined, over}
-use Rattle.format.specs.Kinds.{Slot}
+use Rattle.format.specs.Kinds.{Slot, columnShape}
+use Rattle.format.specs.Fits.{AllSlots}
 use Rattle.format.specs.Columns.{columns}
 use Rattle.format.specs.Row.{row}
-use Rattle.format.specs.Sheet.{Layout, layout, packed, bit, valueAt, slotIf, columnBytes, slotAt, sheetFault, sheetSlots, nulls, turned}
+use Rattle.format.specs.Sheet.{Layout, bits, ended, wide, layout, packed, bit, valueAt, slotIf, columnBytes, slotAt, sheetFault, sheetSlots, nulls, turned}
 use Rattle.format.specs.Cleared.{clearedSheet}
 use Rattle.format.specs.Numbers.{three, numbersOf}
 use Rattle.format.specs.Entries.{measureCheck, encodeCheck}
 use Rattle.basics.proofs.Lists.{each-same, map-each}
 use Rattle.laws.proofs.Accept.{measured, encoded}
-use Rattle.demands.specs.Raw.{Raw, slotOf, rawSheet, RawFits, rawAt, rawSlots, cleared, IsCleared}
+use Rattle.demands.specs.Raw.{Raw, RawColumn, slotOf, slotsOf, rawSheet, AllRaw, EndFits, ColumnFits, RawFits, rawAt, rawColumns, Resliced, DiffersBefore, cleared, IsCleared}
 use Rattle.demands.specs.RoundTrip.{clearedOf, CameBack, Alike}
 use Rattle.demands.proofs.Raw.{raw-passes, raw-slots}
 use Rattle.demands.proofs.RawBack.{sheet-raw}
@@ -29,31 +30,72 @@ use Rattle.demands.proofs.Cleared.{clearedRaw, clearedRaws, cleared-raw
 use Rattle.demands.proofs.Accept.{measure-pass}
 use Rattle.demands.proofs.Demand2.{same-slots-alike}
 
--- ---- whatever null slots hold
+-- ---- whatever null slots hold, and whatever is before a first end
 
--- the slots of a sheet are those that its raw slots are
-pub raws-slots : (n : ℕ) (cols : List Column) (s : List ℕ) → map (map slotOf) (rawSlots n cols s) ≡ sheetSlots n cols s
+-- the slots of a sheet are those that its raw columns are
+raws-slots : (n : ℕ) (cols : List Column) (s : List ℕ) → map slotsOf (rawColumns n cols s) ≡ sheetSlots n cols s
 raws-slots n [] s = refl
 raws-slots n (col ∷ cols) s =
     ap₂ {C = List (List Slot)} (λ x y. x ∷ y) (map-each slotOf 0 n (rawAt (layout col) n s)) (raws-slots n cols (drop (columnBytes (layout col) n s) s))
 
--- raw slots within the limits that are the slots of an accepted sheet make an accepted sheet, which is encoded alike. Those of the
--- sheet itself make the sheet (`sheet-raw`), so that its null slots may be changed at will
-pub null-slots-free : (list : List ℕ) (n : ℕ) (s rows offsets : List ℕ) (rss : List (List Raw)) → measureCheck list n s ≡ Pass → RawFits n (columns list) rss
-    → map (map slotOf) rss ≡ sheetSlots n (columns list) s
-    → (measureCheck list n (rawSheet n (columns list) rss) ≡ Pass) × Alike list n s (rawSheet n (columns list) rss) rows offsets
-null-slots-free list n s rows offsets rss e fits same =
+-- raw columns within the limits that are the slots of an accepted sheet make an accepted sheet, which is encoded alike. Those of the
+-- sheet itself make the sheet (`sheet-raw`), so that its null slots, and what is before its first ends, may be changed at will
+pub null-slots-free : (list : List ℕ) (n : ℕ) (s rows offsets : List ℕ) (cs : List RawColumn) → measureCheck list n s ≡ Pass → RawFits n (columns list) cs
+    → map slotsOf cs ≡ sheetSlots n (columns list) s
+    → (measureCheck list n (rawSheet n (columns list) cs) ≡ Pass) × Alike list n s (rawSheet n (columns list) cs) rows offsets
+null-slots-free list n s rows offsets cs e fits same =
     let cols : List Column = columns list in
-    let t : List ℕ = rawSheet n cols rss in
+    let t : List ℕ = rawSheet n cols cs in
     let m = measured list n s e in
-    let slots : sheetSlots n cols t ≡ sheetSlots n cols s = raw-slots n cols rss (m .1 .few) fits ∙ same in
+    let slots : sheetSlots n cols t ≡ sheetSlots n cols s = raw-slots n cols cs fits ∙ same in
     let accepted : measureCheck list n t ≡ Pass
     = measure-pass list n t (m .0) (record {
       few = m .1 .few;
-      passes = raw-passes n cols rss (m .1 .few) fits;
+      passes = raw-passes n cols cs fits;
       small = subst (λ (sss : List (List Slot)). length (joined (map (row cols) (turned n sss))) ≤ maxTotal) (sym slots) (m .1 .small);
     }) in
     (accepted, same-slots-alike list n s t rows offsets e accepted (sym slots))
+
+-- what stands before a first end may be anything of that length
+end-kept : (ly : Layout) (a b : List ℕ) (xs : List (List ℕ)) → length b ≡ length a → EndFits ly a xs → EndFits ly b xs
+end-kept bits a b xs e h = tt
+end-kept (wide w) a b xs e h = tt
+end-kept ended a b xs e h = omega (arith, e, h)
+
+resliced-fits : (n : ℕ) (cols : List Column) (cs ds : List RawColumn) → Resliced cs ds → RawFits n cols cs → RawFits n cols ds
+resliced-fits n [] [] [] r h = tt
+resliced-fits n [] (c ∷ cs) ds r h = absurd h
+resliced-fits n [] [] (d ∷ ds) r h = absurd r
+resliced-fits n (col ∷ cols) [] ds r h = absurd h
+resliced-fits n (col ∷ cols) (c ∷ cs) [] r h = absurd r
+resliced-fits n (col ∷ cols) (c ∷ cs) (d ∷ ds) r h = (column-kept (r .0) (r .1) (r .2) (h .0), resliced-fits n cols cs ds (r .3) (h .1))
+  where
+    column-kept : d .slots ≡ c .slots → length (d .before) ≡ length (c .before) → Bytes (d .before) → ColumnFits n col c → ColumnFits n col d
+    column-kept same long b f = record {
+      many = ap length same ∙ f .many;
+      all = subst (AllRaw (columnShape col)) (sym same) (f .all);
+      fit = subst (λ (rs : List Raw). AllSlots (columnShape col) (col .options) (map slotOf rs)) (sym same) (f .fit);
+      below = b;
+      end-fits = subst (λ (rs : List Raw). EndFits (layout col) (d .before) (map (λ r. r .bytes) rs)) (sym same)
+          (end-kept (layout col) (c .before) (d .before) (map (λ r. r .bytes) (c .slots)) long (f .end-fits));
+    }
+
+resliced-slots : (cs ds : List RawColumn) → Resliced cs ds → map slotsOf ds ≡ map slotsOf cs
+resliced-slots [] [] r = refl
+resliced-slots [] (d ∷ ds) r = absurd r
+resliced-slots (c ∷ cs) [] r = absurd r
+resliced-slots (c ∷ cs) (d ∷ ds) r = ap₂ {C = List (List Slot)} (λ x y. x ∷ y) (ap (map slotOf) (r .0)) (resliced-slots cs ds (r .3))
+
+-- so a sheet that differs from an accepted one only in bytes before a first end is accepted, and encoded alike
+pub sliced-alike : (list : List ℕ) (n : ℕ) (s t rows offsets : List ℕ) → Bytes s → measureCheck list n s ≡ Pass → DiffersBefore n (columns list) s t
+    → (measureCheck list n t ≡ Pass) × Alike list n s t rows offsets
+sliced-alike list n s t rows offsets b e d =
+    let cols : List Column = columns list in
+    let m = measured list n s e in
+    let fits = resliced-fits n cols (rawColumns n cols s) (d .others) (d .resliced) (sheet-raw n cols s b (m .1 .passes) .1) in
+    let same = resliced-slots (rawColumns n cols s) (d .others) (d .resliced) ∙ raws-slots n cols s in
+    subst (λ (z : List ℕ). (measureCheck list n z ≡ Pass) × Alike list n s z rows offsets) (sym (d .is))
+    (null-slots-free list n s rows offsets (d .others) e fits same)
 
 -- ---- a cleared sheet
 
@@ -62,13 +104,14 @@ clear-raw : (ly : Layout) (b : Bool) (v : List ℕ) → (b ≡ false → v ≡ c
 clear-raw ly true v h = refl
 clear-raw ly false v h = ap (λ (x : List ℕ). record { valid = false; bytes = x }) (sym (h refl))
 
-clear-raws : (n : ℕ) (cols : List Column) (s : List ℕ) → IsCleared n cols s → clearedRaws cols (sheetSlots n cols s) ≡ rawSlots n cols s
+clear-raws : (n : ℕ) (cols : List Column) (s : List ℕ) → IsCleared n cols s → clearedRaws cols (sheetSlots n cols s) ≡ rawColumns n cols s
 clear-raws n [] s h = refl
 clear-raws n (col ∷ cols) s h =
     let ly : Layout = layout col in
-    ap₂ {C = List (List Raw)} (λ x y. x ∷ y)
+    ap₂ {C = List RawColumn} (λ x y. x ∷ y)
+    (ap₂ {C = RawColumn} (λ (a : List ℕ) (rs : List Raw). record { before = a; slots = rs }) (sym (h .0 .starts))
     (map-each (clearedRaw ly) 0 n (slotAt ly n s)
-    ∙ each-same 0 n _ _ (λ i x y. clear-raw ly (bit s i) (valueAt ly n (drop (packed n) s) i) (h .0 i (omega arith))))
+    ∙ each-same 0 n _ _ (λ i x y. clear-raw ly (bit s i) (valueAt ly n (drop (packed n) s) i) (h .0 .slots-clear i (omega arith)))))
     (clear-raws n cols (drop (columnBytes ly n s) s) (h .1))
 
 -- a cleared sheet that passes is the cleared sheet of its slots

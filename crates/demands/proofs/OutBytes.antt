@@ -2,16 +2,15 @@
 use Prim.Native.Nat.{ℕ, zero, suc, _/_, _<_, _≤_}
 use mathlib.Core.Path.{_≡_, refl, sym, subst}
 use mathlib.Core.Bool.{Bool}
-use mathlib.Core.List.{List, [], _∷_, map}
+use mathlib.Core.List.{List, [], _∷_, _++_, map}
 use native.Mathlib.Nat.{mod-lt, pow-le-pow-right}
 use native.Mathlib.Omega.{arith}
 use lib.Dec.{eqb, lit<}
 use lib.ListN.{length, getD, take, drop, length-take}
 use Rattle.format.specs.declared.Check.{Check}
 use Rattle.format.specs.declared.Check.the-variants.{Pass, Refuse}
-use Rattle.format.specs.declared.SortOptions.{SortOptions}
 use Rattle.format.specs.declared.Column.{Column}
-use Rattle.format.specs.Limits.{maxSlot}
+use Rattle.format.specs.Limits.{maxRows, maxSlot}
 use Rattle.format.specs.Lists.{Bytes, endsFrom, joined, lowBytes}
 use Rattle.format.specs.Kinds.{Shape, fixed, variable, Slot, columnShape}
 use Rattle.format.specs.Fits.{Fits, RowFits, SheetFits}
@@ -25,7 +24,7 @@ use Rattle.basics.proofs.Bytes.{bytes-append, bytes-drop}
 use Rattle.laws.proofs.Fields.{bytes-row}
 use Rattle.laws.proofs.Sheets.{sheet-fits}
 use Rattle.laws.proofs.Accept.{encoded}
-use Rattle.demands.specs.Raw.{Raw, standing, rawColumn, rawSheet, AllRaw, RawFits}
+use Rattle.demands.specs.Raw.{Raw, RawColumn, standing, rawColumn, rawSheet, AllRaw, RawFits}
 use Rattle.demands.proofs.Cleared.{clearedRaws, cleared-raw, raws-fit}
 use Rattle.demands.proofs.Turning.{rows-fit}
 use Rattle.demands.proofs.Accept.{decoded}
@@ -36,7 +35,7 @@ bytes-joined : (xs : List (List ℕ)) → Every Bytes xs → Bytes (joined xs)
 bytes-joined [] h = tt
 bytes-joined (x ∷ xs) h = bytes-append x (joined xs) (h .0) (bytes-joined xs (h .1))
 
--- ---- the sheet of raw slots, and so the cleared sheet
+-- ---- the sheet of raw columns, and so the cleared sheet
 eight-flags : (fs : List Bool) → byteOf (take 8 fs) < 256
 eight-flags fs =
     let few : length (take 8 fs) ≤ 8 = omega (arith, length-take 8 fs) in
@@ -55,34 +54,36 @@ all-low [] = tt
 all-low (e ∷ es) = (bytes-low 4 e, all-low es)
 
 -- whatever its slots hold
-standing-bytes : (ly : Layout) (n : ℕ) (xs : List (List ℕ)) → Every Bytes xs → Bytes (standing ly n xs)
-standing-bytes bits n xs h = bytes-pack (packed n) (map (λ x. eqb (getD x 0 0) 1) xs)
-standing-bytes (wide w) n xs h = bytes-joined xs h
-standing-bytes ended n xs h =
-    bytes-append (joined (map (lowBytes 4) (endsFrom 0 xs))) (joined xs)
-    (bytes-joined (map (lowBytes 4) (endsFrom 0 xs)) (all-low (endsFrom 0 xs))) (bytes-joined xs h)
+standing-bytes : (ly : Layout) (n : ℕ) (a : List ℕ) (xs : List (List ℕ)) → Bytes a → Every Bytes xs → Bytes (standing ly n a xs)
+standing-bytes bits n a xs b h = bytes-pack (packed n) (map (λ x. eqb (getD x 0 0) 1) xs)
+standing-bytes (wide w) n a xs b h = bytes-joined xs h
+standing-bytes ended n a xs b h =
+    bytes-append (joined (map (lowBytes 4) (endsFrom (length a) xs))) (a ++ joined xs)
+    (bytes-joined (map (lowBytes 4) (endsFrom (length a) xs)) (all-low (endsFrom (length a) xs)))
+    (bytes-append a (joined xs) b (bytes-joined xs h))
 
 fits-bytes : (sh : Shape) (x : List ℕ) → Fits maxSlot sh x → Bytes x
 fits-bytes (fixed k) x h = h .0
 fits-bytes variable x h = h .0
 
-all-bytes : (sh : Shape) (o : SortOptions) (rs : List Raw) → AllRaw sh o rs → Every Bytes (map (λ r. r .bytes) rs)
-all-bytes sh o [] h = tt
-all-bytes sh o (r ∷ rs) h = (fits-bytes sh (r .bytes) (h .0), all-bytes sh o rs (h .2))
+all-bytes : (sh : Shape) (rs : List Raw) → AllRaw sh rs → Every Bytes (map (λ r. r .bytes) rs)
+all-bytes sh [] h = tt
+all-bytes sh (r ∷ rs) h = (fits-bytes sh (r .bytes) (h .0), all-bytes sh rs (h .1))
 
-raw-bytes : (n : ℕ) (cols : List Column) (rss : List (List Raw)) → RawFits n cols rss → Bytes (rawSheet n cols rss)
+raw-bytes : (n : ℕ) (cols : List Column) (cs : List RawColumn) → RawFits n cols cs → Bytes (rawSheet n cols cs)
 raw-bytes n [] [] h = tt
-raw-bytes n [] (rs ∷ rss) h = absurd h
+raw-bytes n [] (c ∷ cs) h = absurd h
 raw-bytes n (col ∷ cols) [] h = absurd h
-raw-bytes n (col ∷ cols) (rs ∷ rss) h =
-    bytes-append (rawColumn (layout col) n rs) (rawSheet n cols rss)
-    (bytes-append (pack (packed n) (map (λ r. r .valid) rs)) (standing (layout col) n (map (λ r. r .bytes) rs))
-    (bytes-pack (packed n) (map (λ r. r .valid) rs))
-    (standing-bytes (layout col) n (map (λ r. r .bytes) rs) (all-bytes (columnShape col) (col .options) rs (h .1))))
-    (raw-bytes n cols rss (h .2))
+raw-bytes n (col ∷ cols) (c ∷ cs) h =
+    let flags : List Bool = map (λ r. r .valid) (c .slots) in
+    let xs : List (List ℕ) = map (λ r. r .bytes) (c .slots) in
+    bytes-append (rawColumn (layout col) n c) (rawSheet n cols cs)
+    (bytes-append (pack (packed n) flags) (standing (layout col) n (c .before) xs) (bytes-pack (packed n) flags)
+    (standing-bytes (layout col) n (c .before) xs (h .0 .below) (all-bytes (columnShape col) (c .slots) (h .0 .all))))
+    (raw-bytes n cols cs (h .1))
 
-cleared-bytes : (n : ℕ) (cols : List Column) (sss : List (List Slot)) → SheetFits n cols sss → Bytes (clearedSheet n cols sss)
-cleared-bytes n cols sss h = subst Bytes (sym (cleared-raw n cols sss)) (raw-bytes n cols (clearedRaws cols sss) (raws-fit n cols sss h))
+cleared-bytes : (n : ℕ) (cols : List Column) (sss : List (List Slot)) → n ≤ maxRows → SheetFits n cols sss → Bytes (clearedSheet n cols sss)
+cleared-bytes n cols sss few h = subst Bytes (sym (cleared-raw n cols sss)) (raw-bytes n cols (clearedRaws cols sss) (raws-fit n cols sss few h))
 
 -- ---- the lent buffers at exit
 written-bytes : (m : Check) (new old : List ℕ) → (m ≡ Pass → Bytes new) → Bytes old → Bytes (written m new old)
@@ -114,4 +115,5 @@ decode-bytes list n bytes offsets sheet b old =
     new : decodeCheck list n bytes offsets (length sheet) ≡ Pass → Bytes (decodedSheet n (columns list) (cutRows n bytes offsets))
     new e =
         cleared-bytes n (columns list) (rowsSlots (columns list) (cutRows n bytes offsets))
+        (decoded list n bytes offsets (length sheet) e .1 .few)
         (read-fits (columns list) n bytes offsets b (decoded list n bytes offsets (length sheet) e .1))

@@ -1,45 +1,44 @@
--- The sheet of raw slots within the limits passes and has the slots that they are, whatever its null slots hold. Assumes nothing.
+-- The sheet of raw columns within the limits passes and has the slots that they are, whatever its null slots hold and whatever is
+-- before its first ends. Assumes nothing.
 use Prim.Native.Nat.{ℕ, zero, suc, _+_, _-_, _*_, _/_, _%_, _^_, _<_, _≤_}
 use mathlib.Core.Path.{_≡_, refl, ap, ap₂, sym, _∙_}
-use mathlib.Core.Bool.{Bool, true, false, true≢false}
+use mathlib.Core.Bool.{Bool, false, true, true≢false}
 use mathlib.Core.List.{List, [], _∷_, _++_, map, append-assoc}
 use native.Mathlib.Nat.{pow-suc, zero-add}
 use native.Mathlib.Omega.{arith}
 use lib.Dec.{eqb, ltb→lt}
 use lib.ListN.{length, getD, take, drop, length-append, length-map, List·getD-map}
 use lib.Seq.{drop-at}
-use borrow.Author.Tests.{eq-eqb}
 use Rattle.format.specs.declared.Check.the-variants.{Pass}
 use Rattle.format.specs.declared.SortOptions.{SortOptions}
 use Rattle.format.specs.declared.Column.{Column}
 use Rattle.format.specs.Limits.{maxRows, maxSlot}
 use Rattle.format.specs.Lists.{endsFrom, joined, low, lowBytes}
 use Rattle.format.specs.Kinds.{Fixed, bool, plain, number, integer, float, parts, Shape, fixed, variable, Slot, width, columnShape}
-use Rattle.format.specs.Fits.{Fits, SlotFits}
-use Rattle.format.specs.Sheet.{Layout, bits, ended, wide, layoutFor, layout, packed, bitsFault, requiredFault, firstClear, end, endsFault}
-use Rattle.format.specs.Sheet.{valuesFault, valuesBytes, boolByte, valueAt, slotIf, columnFault, columnBytes, slotAt, columnSlots}
-use Rattle.format.specs.Sheet.{sheetFaultFrom, sheetFault, sheetSlots}
+use Rattle.format.specs.Fits.{Fits, SlotFits, AllSlots}
+use Rattle.format.specs.Sheet.{Layout, bits, ended, wide, layoutFor, layout, packed, end, endsFault, valuesFault, valuesBytes, boolByte}
+use Rattle.format.specs.Sheet.{valueAt, slotIf, columnFault, columnBytes, slotAt, columnSlots, sheetFaultFrom, sheetFault, sheetSlots, bitsFault, requiredFault, firstClear}
 use Rattle.format.specs.Passed.{Step}
 use Rattle.format.specs.Cleared.{pack}
 use Rattle.bits.proofs.Bits.{length-pack, bit-before, bits-pass}
 use Rattle.bits.proofs.Clear.{Set, clear-none}
-use Rattle.basics.proofs.Lists.{Every, every-at, each-is, length-joined, long-at, endAt, length-ends, end-first, end-next, end-last, end-most, cut-at}
+use Rattle.basics.proofs.Lists.{Every, every-at, each-is, length-joined, long-at, endAt, length-ends, end-next, end-last, end-most, cut-at}
 use Rattle.basics.proofs.Checks.{pass-enough, pass-both}
 use Rattle.laws.proofs.Room.{all-four}
-use Rattle.demands.specs.Raw.{Raw, slotOf, standing, rawColumn, rawSheet, AllRaw, RawFits}
+use Rattle.demands.specs.Raw.{Raw, RawColumn, slotOf, slotsOf, standing, rawColumn, rawSheet, AllRaw, EndFits, ColumnFits, RawFits}
 
 -- ---- the values of a column
 
 -- the bytes of its raw slots fit
-raw-fits : (sh : Shape) (o : SortOptions) (rs : List Raw) → AllRaw sh o rs → Every (Fits maxSlot sh) (map (λ r. r .bytes) rs)
-raw-fits sh o [] h = tt
-raw-fits sh o (r ∷ rs) h = (h .0, raw-fits sh o rs (h .2))
+pub raw-fits : (sh : Shape) (rs : List Raw) → AllRaw sh rs → Every (Fits maxSlot sh) (map (λ r. r .bytes) rs)
+raw-fits sh [] h = tt
+raw-fits sh (r ∷ rs) h = (h .0, raw-fits sh rs (h .1))
 
 -- values before t: nothing is refused, they take their bytes, and each is read back
-record Reads (ly : Layout) (n c : ℕ) (xs : List (List ℕ)) (t : List ℕ) : Type 0 where
-  pub passes : valuesFault ly n c (standing ly n xs ++ t) ≡ Pass
-  pub bytes : valuesBytes ly n (standing ly n xs ++ t) ≡ length (standing ly n xs)
-  pub back : (i : ℕ) → i < n → valueAt ly n (standing ly n xs ++ t) i ≡ getD xs i []
+record Reads (ly : Layout) (n c : ℕ) (a : List ℕ) (xs : List (List ℕ)) (t : List ℕ) : Type 0 where
+  pub passes : valuesFault ly n c (standing ly n a xs ++ t) ≡ Pass
+  pub bytes : valuesBytes ly n (standing ly n a xs ++ t) ≡ length (standing ly n a xs)
+  pub back : (i : ℕ) → i < n → valueAt ly n (standing ly n a xs ++ t) i ≡ getD xs i []
 
 -- a bool
 abbrev isSet : List ℕ → Bool
@@ -55,8 +54,8 @@ bool-back (b ∷ x) h = go b x (ltb→lt b 2 (h .2)) (h .1)
     go (suc (suc b)) [] l e = absurd (omega arith)
     go b (y ∷ x) l e = absurd (omega arith)
 
-bools-read : (n c : ℕ) (xs : List (List ℕ)) (t : List ℕ) → length xs ≡ n → Every (Fits maxSlot (fixed bool)) xs → Reads bits n c xs t
-bools-read n c xs t e h = record {
+bools-read : (n c : ℕ) (a : List ℕ) (xs : List (List ℕ)) (t : List ℕ) → length xs ≡ n → Every (Fits maxSlot (fixed bool)) xs → Reads bits n c a xs t
+bools-read n c a xs t e h = record {
   passes = bits-pass n c (map isSet xs) t (length-map xs isSet ∙ e);
   bytes = sym (length-pack (packed n) (map isSet xs));
   back = λ i l.
@@ -69,8 +68,9 @@ all-long : (k : Fixed) (xs : List (List ℕ)) → Every (Fits maxSlot (fixed k))
 all-long k [] h = tt
 all-long k (x ∷ xs) h = (h .0 .1, all-long k xs (h .1))
 
-wide-read : (k : Fixed) (n c : ℕ) (xs : List (List ℕ)) (t : List ℕ) → length xs ≡ n → Every (Fits maxSlot (fixed k)) xs → Reads (wide (width k)) n c xs t
-wide-read k n c xs t e h =
+wide-read : (k : Fixed) (n c : ℕ) (a : List ℕ) (xs : List (List ℕ)) (t : List ℕ) → length xs ≡ n → Every (Fits maxSlot (fixed k)) xs
+    → Reads (wide (width k)) n c a xs t
+wide-read k n c a xs t e h =
     let len : length (joined xs) ≡ n * width k = length-joined (width k) xs (all-long k xs h) ∙ ap (λ (m : ℕ). m * width k) e in
     record {
       passes = pass-enough (length (joined xs ++ t)) (n * width k) _ _ (omega (arith, length-append (joined xs) t)) refl;
@@ -83,7 +83,8 @@ low-lowBytes : (n x : ℕ) → x < 256 ^ n → low (lowBytes n x) ≡ x
 low-lowBytes zero x h = omega arith
 low-lowBytes (suc n) x h = ap (λ (y : ℕ). x % 256 + 256 * y) (low-lowBytes n (x / 256) (omega (arith, pow-suc 256 n))) ∙ omega arith
 
-data-short : (xs : List (List ℕ)) → Every (Fits maxSlot variable) xs → length (joined xs) ≤ length xs * maxSlot
+-- what n slots within the limit come to
+pub data-short : (xs : List (List ℕ)) → Every (Fits maxSlot variable) xs → length (joined xs) ≤ length xs * maxSlot
 data-short [] h = omega arith
 data-short (x ∷ xs) h = omega (arith, length-append x (joined xs), data-short xs (h .1), h .0 .1)
 
@@ -94,80 +95,91 @@ ends-pass c s i (suc k) h =
     pass-enough (end s (suc i)) (end s i) _ _ (now .rises)
     (pass-enough maxSlot (end s (suc i) - end s i) _ _ (now .short) (ends-pass c s (suc i) k (λ j l m. h j (omega arith) (omega arith))))
 
-module _ (n c : ℕ) (xs : List (List ℕ)) (t : List ℕ) (many : length xs ≡ n) (few : n ≤ maxRows) (h : Every (Fits maxSlot variable) xs) where
+module _ (n c : ℕ) (a : List ℕ) (xs : List (List ℕ)) (t : List ℕ) (many : length xs ≡ n) (fits : length a + length (joined xs) < 256 ^ 4)
+    (h : Every (Fits maxSlot variable) xs) where
+  abbrev from : ℕ
+  from = length a
+
   abbrev ends : List (List ℕ)
-  ends = map (lowBytes 4) (endsFrom 0 xs)
+  ends = map (lowBytes 4) (endsFrom from xs)
+
+  abbrev past : List ℕ
+  past = a ++ joined xs
 
   abbrev s : List ℕ
-  s = joined ends ++ joined xs ++ t
+  s = joined ends ++ past ++ t
 
   count : length ends ≡ suc n
-  count = length-map (endsFrom 0 xs) (lowBytes 4) ∙ length-ends 0 xs ∙ ap suc many
+  count = length-map (endsFrom from xs) (lowBytes 4) ∙ length-ends from xs ∙ ap suc many
 
   front : length (joined ends) ≡ 4 * suc n
-  front = length-joined 4 ends (all-four (endsFrom 0 xs)) ∙ omega (arith, count)
+  front = length-joined 4 ends (all-four (endsFrom from xs)) ∙ omega (arith, count)
 
-  end-is : (i : ℕ) → i ≤ n → end s i ≡ endAt 0 xs i
+  end-is : (i : ℕ) → i ≤ n → end s i ≡ endAt from xs i
   end-is i l =
       let p : 4 * i ≡ i * 4 = omega arith in
-      let m : endAt 0 xs i < 256 ^ 4 = omega (arith, end-most 0 xs i (omega (arith, many)), data-short xs h) in
-      ap₂ {C = ℕ} (λ (j : ℕ) (z : List ℕ). low (take 4 (drop j z))) p (append-assoc (joined ends) (joined xs) t)
-      ∙ ap low (long-at 4 ends (joined xs ++ t) i (lowBytes 4 0) (all-four (endsFrom 0 xs)) (omega (arith, count))
-      ∙ List·getD-map (lowBytes 4) (endsFrom 0 xs) i 0)
-      ∙ low-lowBytes 4 (endAt 0 xs i) m
+      let m : endAt from xs i < 256 ^ 4 = omega (arith, end-most from xs i (omega (arith, many)), fits) in
+      ap₂ {C = ℕ} (λ (j : ℕ) (z : List ℕ). low (take 4 (drop j z))) p (append-assoc (joined ends) past t)
+      ∙ ap low (long-at 4 ends (past ++ t) i (lowBytes 4 0) (all-four (endsFrom from xs)) (omega (arith, count))
+      ∙ List·getD-map (lowBytes 4) (endsFrom from xs) i 0)
+      ∙ low-lowBytes 4 (endAt from xs i) m
 
   step-is : (i : ℕ) → i < n → Step s i
   step-is i l =
-      let fits = every-at (Fits maxSlot variable) xs [] i h (omega arith) in
-      let short = fits .1 in
-      let d = end-next 0 xs i (omega arith) in
+      let short = every-at (Fits maxSlot variable) xs [] i h (omega arith) .1 in
+      let d = end-next from xs i (omega arith) in
       let a = end-is i (omega arith) in
       let b = end-is (suc i) l in
       record { rises = omega arith; short = omega arith }
 
-  after : drop (4 * suc n) s ≡ joined xs ++ t
-  after = ap (drop (4 * suc n)) (append-assoc (joined ends) (joined xs) t) ∙ drop-at (joined ends) (joined xs ++ t) (4 * suc n) front
+  after : drop (4 * suc n) s ≡ past ++ t
+  after = ap (drop (4 * suc n)) (append-assoc (joined ends) past t) ∙ drop-at (joined ends) (past ++ t) (4 * suc n) front
 
-  last : end s n ≡ length (joined xs)
-  last = end-is n (omega arith) ∙ ap (endAt 0 xs) (sym many) ∙ end-last 0 xs ∙ zero-add (length (joined xs))
+  last : end s n ≡ length past
+  last = end-is n (omega arith) ∙ ap (endAt from xs) (sym many) ∙ end-last from xs ∙ sym (length-append a (joined xs))
 
-  total : length s ≡ 4 * suc n + length (joined xs) + length t
-  total = omega (arith, length-append (joined ends ++ joined xs) t, length-append (joined ends) (joined xs), front)
+  total : length s ≡ 4 * suc n + length past + length t
+  total = omega (arith, length-append (joined ends ++ past) t, length-append (joined ends) past, front)
 
-  ended-read : Reads ended n c xs t
+  -- what is before the first end is cut off as one more value in front would be
+  cut-past : (i : ℕ) → i < n → take (endAt from xs (suc i) - endAt from xs i) (drop (endAt from xs i) (past ++ t)) ≡ getD xs i []
+  cut-past i l =
+      ap (λ (k : ℕ). take (endAt k xs (suc i) - endAt k xs i) (drop (endAt k xs i) (past ++ t))) (sym (zero-add from))
+      ∙ cut-at (a ∷ xs) t (suc i) (omega arith)
+
+  ended-read : Reads ended n c a xs t
   ended-read = record {
     passes =
         pass-enough (length s) (4 * suc n) _ _ (omega (arith, total))
-        (rw (eq-eqb (end s 0) 0 (end-is 0 (omega arith) ∙ end-first 0 xs))
         (pass-both (endsFault c s 0 n) _ (ends-pass c s 0 n (λ j a b. step-is j (omega arith)))
-        (pass-enough (length s) (4 * suc n + end s n) _ _ (omega (arith, total, last)) refl)));
-    bytes = omega (arith, last, front, length-append (joined ends) (joined xs));
+        (pass-enough (length s) (4 * suc n + end s n) _ _ (omega (arith, total, last)) refl));
+    bytes = omega (arith, last, front, length-append (joined ends) past);
     back = λ i l.
         ap (λ (z : List ℕ). take (end s (suc i) - end s i) (drop (end s i) z)) after
-        ∙ ap₂ {C = List ℕ} (λ (a b : ℕ). take (a - b) (drop b (joined xs ++ t))) (end-is (suc i) l) (end-is i (omega arith))
-        ∙ cut-at xs t i (omega arith);
+        ∙ ap₂ {C = List ℕ} (λ (a b : ℕ). take (a - b) (drop b (past ++ t))) (end-is (suc i) l) (end-is i (omega arith))
+        ∙ cut-past i l;
   }
 
-values-read : (sh : Shape) (n c : ℕ) (xs : List (List ℕ)) (t : List ℕ) → n ≤ maxRows → length xs ≡ n → Every (Fits maxSlot sh) xs
-    → Reads (layoutFor sh) n c xs t
-values-read (fixed bool) n c xs t few e h = bools-read n c xs t e h
-values-read (fixed (plain w)) n c xs t few e h = wide-read (plain w) n c xs t e h
-values-read (fixed (number w)) n c xs t few e h = wide-read (number w) n c xs t e h
-values-read (fixed (integer w)) n c xs t few e h = wide-read (integer w) n c xs t e h
-values-read (fixed (float w)) n c xs t few e h = wide-read (float w) n c xs t e h
-values-read (fixed (parts ws)) n c xs t few e h = wide-read (parts ws) n c xs t e h
-values-read variable n c xs t few e h = ended-read n c xs t e few h
+values-read : (sh : Shape) (n c : ℕ) (a : List ℕ) (xs : List (List ℕ)) (t : List ℕ) → length xs ≡ n → Every (Fits maxSlot sh) xs
+    → EndFits (layoutFor sh) a xs → Reads (layoutFor sh) n c a xs t
+values-read (fixed bool) n c a xs t e h fits = bools-read n c a xs t e h
+values-read (fixed (plain w)) n c a xs t e h fits = wide-read (plain w) n c a xs t e h
+values-read (fixed (number w)) n c a xs t e h fits = wide-read (number w) n c a xs t e h
+values-read (fixed (integer w)) n c a xs t e h fits = wide-read (integer w) n c a xs t e h
+values-read (fixed (float w)) n c a xs t e h fits = wide-read (float w) n c a xs t e h
+values-read (fixed (parts ws)) n c a xs t e h fits = wide-read (parts ws) n c a xs t e h
+values-read variable n c a xs t e h fits = ended-read n c a xs t e fits h
 
--- ---- the validity of a required column: every raw slot that fits is valid
+-- ---- the validity of a required column: every slot that fits is valid
 valid-asked : (sh : Shape) (o : SortOptions) (b : Bool) (v : List ℕ) → SlotFits maxSlot sh o (slotIf b v) → o .required ≡ true → b ≡ true
 valid-asked sh o true v h q = refl
 valid-asked sh o false v h q = absurd (true≢false (sym q ∙ h))
 
-all-valid : (sh : Shape) (o : SortOptions) (rs : List Raw) → AllRaw sh o rs → o .required ≡ true → (i : ℕ) → i < length rs
+all-valid : (sh : Shape) (o : SortOptions) (rs : List Raw) → AllSlots sh o (map slotOf rs) → o .required ≡ true → (i : ℕ) → i < length rs
     → getD (map (λ r. r .valid) rs) i false ≡ true
 all-valid sh o [] h q i l = absurd (omega arith)
-all-valid sh o (r ∷ rs) h q zero l = valid-asked sh o (r .valid) (r .bytes) (h .1) q
-all-valid sh o (r ∷ rs) h q (suc i) l = all-valid sh o rs (h .2) q i (omega arith)
+all-valid sh o (r ∷ rs) h q zero l = valid-asked sh o (r .valid) (r .bytes) (h .0) q
+all-valid sh o (r ∷ rs) h q (suc i) l = all-valid sh o rs (h .1) q i (omega arith)
 
 -- and so it is not refused
 none-missing : (q : Bool) (n c : ℕ) (s : List ℕ) → (q ≡ true → Set s 0 n) → requiredFault q n c s ≡ Pass
@@ -175,9 +187,15 @@ none-missing true n c s h = pass-enough (firstClear s 0 n) n _ _ (omega (arith, 
 none-missing false n c s h = refl
 
 -- ---- a column
-module _ (sh : Shape) (o : SortOptions) (n c : ℕ) (rs : List Raw) (t : List ℕ) (few : n ≤ maxRows) (e : length rs ≡ n) (h : AllRaw sh o rs) where
+module _ (col : Column) (n c : ℕ) (raw : RawColumn) (t : List ℕ) (h : ColumnFits n col raw) where
+  abbrev rs : List Raw
+  rs = raw .slots
+
+  e : length (raw .slots) ≡ n
+  e = h .many
+
   abbrev ly : Layout
-  ly = layoutFor sh
+  ly = layout col
 
   abbrev flags : List Bool
   flags = map (λ r. r .valid) rs
@@ -185,36 +203,39 @@ module _ (sh : Shape) (o : SortOptions) (n c : ℕ) (rs : List Raw) (t : List �
   abbrev xs : List (List ℕ)
   xs = map (λ r. r .bytes) rs
 
-  r : Reads (layoutFor sh) n c (map (λ r. r .bytes) rs) t
-  r = values-read sh n c xs t few (length-map rs _ ∙ e) (raw-fits sh o rs h)
+  r : Reads (layout col) n c (raw .before) (map (λ r. r .bytes) (raw .slots)) t
+  r = values-read (columnShape col) n c (raw .before) xs t (length-map rs _ ∙ e) (raw-fits (columnShape col) rs (h .all)) (h .end-fits)
 
   abbrev p : List ℕ
   p = pack (packed n) flags
 
   abbrev q : List ℕ
-  q = standing ly n xs ++ t
+  q = standing ly n (raw .before) xs ++ t
 
-  split : rawColumn ly n rs ++ t ≡ p ++ q
-  split = append-assoc p (standing ly n xs) t
+  split : rawColumn ly n raw ++ t ≡ p ++ q
+  split = append-assoc p (standing ly n (raw .before) xs) t
 
   rest : drop (packed n) (p ++ q) ≡ q
   rest = drop-at p q (packed n) (length-pack (packed n) flags)
 
-  column-bytes : columnBytes ly n (rawColumn ly n rs ++ t) ≡ length (rawColumn ly n rs)
-  column-bytes = rw split (rw rest (omega (arith, r .bytes, length-append p (standing ly n xs), length-pack (packed n) flags)))
+  column-bytes : columnBytes ly n (rawColumn ly n raw ++ t) ≡ length (rawColumn ly n raw)
+  column-bytes = rw split (rw rest (omega (arith, r .bytes, length-append p (standing ly n (raw .before) xs), length-pack (packed n) flags)))
 
-  all-set : o .required ≡ true → Set (p ++ q) 0 n
-  all-set asked i l m = bit-before (packed n) flags q i (omega arith) ∙ all-valid sh o rs h asked i (omega arith)
+  abbrev required : Bool
+  required = col .options .required
 
-  column-passes : columnFault (o .required) ly n c (rawColumn ly n rs ++ t) ≡ Pass
+  all-set : col .options .required ≡ true → Set (p ++ q) 0 n
+  all-set asked i l m = bit-before (packed n) flags q i (omega arith) ∙ all-valid (columnShape col) (col .options) rs (h .fit) asked i (omega (arith, e))
+
+  column-passes : columnFault (col .options .required) ly n c (rawColumn ly n raw ++ t) ≡ Pass
   column-passes =
       rw split
       (pass-both (bitsFault n c (p ++ q)) _ (bits-pass n c flags q (length-map rs _ ∙ e))
-      (pass-both (requiredFault (o .required) n c (p ++ q)) _ (none-missing (o .required) n c (p ++ q) all-set) (rw rest (r .passes))))
+      (pass-both (requiredFault required n c (p ++ q)) _ (none-missing required n c (p ++ q) all-set) (rw rest (r .passes))))
 
   -- past the column
-  column-past : drop (columnBytes ly n (rawColumn ly n rs ++ t)) (rawColumn ly n rs ++ t) ≡ t
-  column-past = drop-at (rawColumn ly n rs) t (columnBytes ly n (rawColumn ly n rs ++ t)) (sym column-bytes)
+  column-past : drop (columnBytes ly n (rawColumn ly n raw ++ t)) (rawColumn ly n raw ++ t) ≡ t
+  column-past = drop-at (rawColumn ly n raw) t (columnBytes ly n (rawColumn ly n raw ++ t)) (sym column-bytes)
 
   slot-is : (i : ℕ) → i < n → slotAt ly n (p ++ q) i ≡ getD (map slotOf rs) i (slotIf false [])
   slot-is i l =
@@ -224,33 +245,29 @@ module _ (sh : Shape) (o : SortOptions) (n c : ℕ) (rs : List Raw) (t : List �
       ∙ ap (slotIf (getD rs i none .valid)) (r .back i l ∙ List·getD-map (λ (r : Raw). r .bytes) rs i none)
       ∙ sym (List·getD-map slotOf rs i none)
 
-  column-slots : columnSlots ly n (rawColumn ly n rs ++ t) ≡ map slotOf rs
+  column-slots : columnSlots ly n (rawColumn ly n raw ++ t) ≡ map slotOf rs
   column-slots = rw split (each-is (map slotOf rs) (slotIf false []) n (slotAt ly n (p ++ q)) (length-map rs slotOf ∙ e) slot-is)
 
 -- ---- the sheet
-passes-from : (n c at : ℕ) (cols : List Column) (rss : List (List Raw)) → n ≤ maxRows → RawFits n cols rss
-    → sheetFaultFrom n c at cols (rawSheet n cols rss) ≡ Pass
-passes-from n c at [] [] few h = refl
-passes-from n c at [] (rs ∷ rss) few h = absurd h
-passes-from n c at (col ∷ cols) [] few h = absurd h
-passes-from n c at (col ∷ cols) (rs ∷ rss) few h =
-    let t : List ℕ = rawSheet n cols rss in
-    let k : ℕ = columnBytes (layout col) n (rawColumn (layout col) n rs ++ t) in
-    pass-both (columnFault (col .options .required) (layout col) n c (rawColumn (layout col) n rs ++ t)) _
-    (column-passes (columnShape col) (col .options) n c rs t few (h .0) (h .1))
-    (ap (sheetFaultFrom n (suc c) (at + k) cols) (column-past (columnShape col) (col .options) n c rs t few (h .0) (h .1))
-    ∙ passes-from n (suc c) (at + k) cols rss few (h .2))
+passes-from : (n c at : ℕ) (cols : List Column) (cs : List RawColumn) → RawFits n cols cs → sheetFaultFrom n c at cols (rawSheet n cols cs) ≡ Pass
+passes-from n c at [] [] h = refl
+passes-from n c at [] (x ∷ cs) h = absurd h
+passes-from n c at (col ∷ cols) [] h = absurd h
+passes-from n c at (col ∷ cols) (x ∷ cs) h =
+    let t : List ℕ = rawSheet n cols cs in
+    let k : ℕ = columnBytes (layout col) n (rawColumn (layout col) n x ++ t) in
+    pass-both (columnFault (col .options .required) (layout col) n c (rawColumn (layout col) n x ++ t)) _ (column-passes col n c x t (h .0))
+    (ap (sheetFaultFrom n (suc c) (at + k) cols) (column-past col n c x t (h .0)) ∙ passes-from n (suc c) (at + k) cols cs (h .1))
 
-pub raw-passes : (n : ℕ) (cols : List Column) (rss : List (List Raw)) → n ≤ maxRows → RawFits n cols rss → sheetFault n cols (rawSheet n cols rss) ≡ Pass
+pub raw-passes : (n : ℕ) (cols : List Column) (cs : List RawColumn) → RawFits n cols cs → sheetFault n cols (rawSheet n cols cs) ≡ Pass
 unfolding sheetFault
-raw-passes n cols rss few h = passes-from n 0 0 cols rss few h
+raw-passes n cols cs h = passes-from n 0 0 cols cs h
 
-pub raw-slots : (n : ℕ) (cols : List Column) (rss : List (List Raw)) → n ≤ maxRows → RawFits n cols rss
-    → sheetSlots n cols (rawSheet n cols rss) ≡ map (map slotOf) rss
-raw-slots n [] [] few h = refl
-raw-slots n [] (rs ∷ rss) few h = absurd h
-raw-slots n (col ∷ cols) [] few h = absurd h
-raw-slots n (col ∷ cols) (rs ∷ rss) few h =
-    let t : List ℕ = rawSheet n cols rss in
-    ap₂ {C = List (List Slot)} (λ x y. x ∷ y) (column-slots (columnShape col) (col .options) n 0 rs t few (h .0) (h .1))
-    (ap (sheetSlots n cols) (column-past (columnShape col) (col .options) n 0 rs t few (h .0) (h .1)) ∙ raw-slots n cols rss few (h .2))
+pub raw-slots : (n : ℕ) (cols : List Column) (cs : List RawColumn) → RawFits n cols cs → sheetSlots n cols (rawSheet n cols cs) ≡ map slotsOf cs
+raw-slots n [] [] h = refl
+raw-slots n [] (x ∷ cs) h = absurd h
+raw-slots n (col ∷ cols) [] h = absurd h
+raw-slots n (col ∷ cols) (x ∷ cs) h =
+    let t : List ℕ = rawSheet n cols cs in
+    ap₂ {C = List (List Slot)} (λ x y. x ∷ y) (column-slots col n 0 x t (h .0))
+    (ap (sheetSlots n cols) (column-past col n 0 x t (h .0)) ∙ raw-slots n cols cs (h .1))

@@ -1,24 +1,23 @@
--- A sheet that passes is the sheet of its raw slots, and they fit: its bytes are those of its validity, its values and its ends, and
--- no others. Assumes nothing.
+-- A sheet that passes is the sheet of its raw columns, and they fit: its bytes are those of its validity, its ends, its values and what
+-- is before its first ends, and no others. Assumes nothing.
 use Prim.Native.Nat.{ℕ, zero, suc, _+_, _-_, _*_, _/_, _%_, _^_, _<_, _≤_}
-use mathlib.Core.Path.{_≡_, refl, ap, ap₂, sym, _∙_}
+use mathlib.Core.Path.{_≡_, refl, ap, ap₂, sym, subst, _∙_}
 use mathlib.Core.Bool.{Bool, false, cond}
 use mathlib.Core.Logic.{_⊎_, inl, inr}
 use mathlib.Core.List.{List, [], _∷_, _++_, map}
-use native.Mathlib.Nat.{mod-lt}
+use native.Mathlib.Nat.{mod-lt, pow-suc, zero-add}
 use native.Mathlib.Omega.{arith}
 use lib.Dec.{eqb, lit<}
-use lib.ListN.{length, getD, take, drop, length-drop, take-append-drop, List·getD-eq-default}
+use lib.ListN.{length, getD, take, drop, length-append, length-take, length-drop, take-append-drop, List·getD-eq-default}
 use lib.Pow.{shr-shr}
 use lib.Seq.{length-take-le, take-add, take-all, drop-drop, ext-getD}
 use Rattle.format.specs.declared.Check.the-variants.{Pass}
-use Rattle.format.specs.declared.SortOptions.{SortOptions}
 use Rattle.format.specs.declared.Column.{Column}
 use Rattle.format.specs.Limits.{maxSlot}
 use Rattle.format.specs.Lists.{Bytes, each, endsFrom, joined, low, lowBytes}
 use Rattle.format.specs.Kinds.{Shape, columnShape}
 use Rattle.format.specs.Sheet.{Layout, bits, ended, wide, layout, packed, bit, anyBit, spareSet, bitsFault, end, variableFault, valuesFault, valuesBytes, valueAt, columnFault, columnBytes, sheetFaultFrom, sheetFault}
-use Rattle.format.specs.Fits.{Fits, SlotFits}
+use Rattle.format.specs.Fits.{Fits, AllSlots}
 use Rattle.format.specs.Cleared.{pack}
 use Rattle.format.specs.Entries.{rowBytes, cutRows}
 use Rattle.format.specs.Passed.{Ended}
@@ -30,9 +29,9 @@ use Rattle.basics.proofs.Checks.{enough, both-pass}
 use Rattle.basics.proofs.Compare.{choose}
 use Rattle.basics.proofs.Lists.{each-at, each-same, length-each, map-each}
 use Rattle.laws.proofs.Parsed.{or-false}
-use Rattle.laws.proofs.Sheets.{variable-passed, column-passed, value-fits, slot-fits}
-use Rattle.demands.specs.Raw.{Raw, slotOf, standing, rawColumn, rawSheet, AllRaw, RawFits, rawAt, rawSlots}
-use Rattle.demands.proofs.CutRows.{cut-joined, cut-ends}
+use Rattle.laws.proofs.Sheets.{last-end, variable-passed, column-passed, value-fits, column-fits}
+use Rattle.demands.specs.Raw.{Raw, slotOf, standing, rawColumn, rawSheet, AllRaw, EndFits, ColumnFits, RawFits, beforeFirst, rawAt, columnOf, rawColumns}
+use Rattle.demands.proofs.CutRows.{joined-from, ends-from}
 use Rattle.demands.proofs.OutBytes.{bytes-pack}
 
 -- ---- packed bits: bytes with the same bits are the same
@@ -131,6 +130,11 @@ low-back (y ∷ x) b =
     let rest : (y + 256 * low x) / 256 ≡ low x = omega (arith, b .0) in
     ap₂ {C = List ℕ} (λ (a z : ℕ). a ∷ lowBytes (length x) z) now rest ∙ ap (λ (z : List ℕ). y ∷ z) (low-back x (b .1))
 
+-- and is one of as many bytes
+low-small : (x : List ℕ) → Bytes x → low x < 256 ^ length x
+low-small [] b = omega arith
+low-small (y ∷ x) b = omega (arith, b .0, low-small x (b .1), pow-suc 256 (length x))
+
 module _ (n c : ℕ) (s : List ℕ) (b : Bytes s) (e : variableFault n c s ≡ Pass) where
   abbrev between : List ℕ
   between = drop (4 * suc n) s
@@ -140,6 +144,9 @@ module _ (n c : ℕ) (s : List ℕ) (b : Bytes s) (e : variableFault n c s ≡ P
 
   abbrev values : List (List ℕ)
   values = each 0 n (valueAt ended n s)
+
+  abbrev before : List ℕ
+  before = beforeFirst ended n s
 
   good : Ended n s
   good = variable-passed n c s e
@@ -160,38 +167,64 @@ module _ (n c : ℕ) (s : List ℕ) (b : Bytes s) (e : variableFault n c s ≡ P
   inside : getD ends n 0 ≤ length between
   inside = omega (arith, end-at n (omega arith), good .room, length-drop (4 * suc n) s)
 
-  data-back : joined values ≡ take (end s n) between
+  -- no end is before the first
+  least : end s 0 ≤ end s n
+  least = last-end n s good n 0 (zero-add n)
+
+  data-back : joined values ≡ take (end s n - end s 0) (drop (end s 0) between)
   data-back =
       ap joined (sym cut-is)
-      ∙ cut-joined n between ends there (end-at 0 (omega arith) ∙ good .first) rising inside
-      ∙ ap (λ (m : ℕ). take m between) (end-at n (omega arith))
+      ∙ joined-from n between ends there rising inside 0 n (zero-add n)
+      ∙ ap₂ {C = List ℕ} (λ (u v : ℕ). take (u - v) (drop v between)) (end-at n (omega arith)) (end-at 0 (omega arith))
+
+  past-back : before ++ joined values ≡ take (end s n) between
+  past-back =
+      let all : end s 0 + (end s n - end s 0) ≡ end s n = omega (arith, least) in
+      ap (λ (z : List ℕ). before ++ z) data-back
+      ∙ sym (take-add (end s 0) (end s n - end s 0) between)
+      ∙ ap (λ (m : ℕ). take m between) all
+
+  before-long : length before ≡ end s 0
+  before-long = length-take-le (end s 0) between (omega (arith, least, good .room, length-drop (4 * suc n) s))
+
+  four : (i : ℕ) → i < suc n → length (take 4 (drop (i * 4) s)) ≡ 4
+  four i l = length-take-le 4 (drop (i * 4) s) (omega (arith, length-drop (i * 4) s, good .room))
 
   four-back : (i : ℕ) → i < suc n → lowBytes 4 (end s i) ≡ take 4 (drop (i * 4) s)
   four-back i l =
       let p : 4 * i ≡ i * 4 = omega arith in
       let x : List ℕ = take 4 (drop (i * 4) s) in
-      let four : length x ≡ 4 = length-take-le 4 (drop (i * 4) s) (omega (arith, length-drop (i * 4) s, good .room)) in
       ap (λ (j : ℕ). lowBytes 4 (low (take 4 (drop j s)))) p
-      ∙ ap (λ (k : ℕ). lowBytes k (low x)) (sym four)
+      ∙ ap (λ (k : ℕ). lowBytes k (low x)) (sym (four i l))
       ∙ low-back x (bytes-take 4 (drop (i * 4) s) (bytes-drop (i * 4) s b))
 
-  ends-back : joined (map (lowBytes 4) (endsFrom 0 values)) ≡ take (4 * suc n) s
+  -- the last end is one of four bytes, and so is what the column holds
+  past-small : length before + length (joined values) < 256 ^ 4
+  past-small =
+      let p : 4 * n ≡ n * 4 = omega arith in
+      let x : List ℕ = take 4 (drop (n * 4) s) in
+      let small : low x < 256 ^ 4 = rw (four n (omega arith)) at (low-small x (bytes-take 4 (drop (n * 4) s) (bytes-drop (n * 4) s b))) in
+      let is : end s n ≡ low x = ap (λ (j : ℕ). low (take 4 (drop j s))) p in
+      let all = ap length past-back in
+      omega (arith, small, is, all, length-append before (joined values), length-take (end s n) between)
+
+  ends-back : joined (map (lowBytes 4) (endsFrom (length before) values)) ≡ take (4 * suc n) s
   ends-back =
       let p : suc n * 4 ≡ 4 * suc n = omega arith in
-      ap (λ (z : List (List ℕ)). joined (map (lowBytes 4) (endsFrom 0 z))) (sym cut-is)
+      ap₂ {C = List ℕ} (λ (k : ℕ) (z : List (List ℕ)). joined (map (lowBytes 4) (endsFrom k z))) (before-long ∙ sym (end-at 0 (omega arith))) (sym cut-is)
       ∙ ap (λ (z : List ℕ). joined (map (lowBytes 4) z))
-      (cut-ends n between ends there (end-at 0 (omega arith) ∙ good .first) rising inside
+      (ends-from n between ends there rising inside 0 n (zero-add n)
       ∙ take-all (suc n) ends (omega (arith, length-each 0 (suc n) (end s))))
       ∙ ap joined (map-each (lowBytes 4) 0 (suc n) (end s) ∙ each-same 0 (suc n) _ _ (λ i x y. four-back i (omega arith)))
       ∙ parts-back 4 (suc n) s
       ∙ ap (λ (m : ℕ). take m s) p
 
-  ended-back : standing ended n values ≡ take (valuesBytes ended n s) s
-  ended-back = ap₂ (λ (x y : List ℕ). x ++ y) ends-back data-back ∙ sym (take-add (4 * suc n) (end s n) s)
+  ended-back : standing ended n before values ≡ take (valuesBytes ended n s) s
+  ended-back = ap₂ (λ (x y : List ℕ). x ++ y) ends-back past-back ∙ sym (take-add (4 * suc n) (end s n) s)
 
 -- ---- a column
 values-back : (ly : Layout) (n c : ℕ) (s : List ℕ) → Bytes s → valuesFault ly n c s ≡ Pass
-    → standing ly n (each 0 n (valueAt ly n s)) ≡ take (valuesBytes ly n s) s
+    → standing ly n (beforeFirst ly n s) (each 0 n (valueAt ly n s)) ≡ take (valuesBytes ly n s) s
 values-back bits n c s b e =
     ap (pack (packed n))
     (map-each (λ (x : List ℕ). eqb (getD x 0 0) 1) 0 n (valueAt bits n s) ∙ each-same 0 n _ _ (λ i x y. flag-eq (bit s i)))
@@ -200,25 +233,32 @@ values-back (wide w) n c s b e = parts-back w n s
 values-back ended n c s b e = ended-back n c s b e
 
 column-back : (q : Bool) (ly : Layout) (n c : ℕ) (s : List ℕ) → Bytes s → columnFault q ly n c s ≡ Pass
-    → rawColumn ly n (each 0 n (rawAt ly n s)) ≡ take (columnBytes ly n s) s
+    → rawColumn ly n (columnOf ly n s) ≡ take (columnBytes ly n s) s
 column-back q ly n c s b e =
     let p = column-passed q ly n c s e in
     let rest : List ℕ = drop (packed n) s in
     ap₂ (λ (x y : List ℕ). x ++ y)
     (ap (pack (packed n)) (map-each (λ (r : Raw). r .valid) 0 n (rawAt ly n s)) ∙ flags-back n c s b (p .0))
-    (ap (standing ly n) (map-each (λ (r : Raw). r .bytes) 0 n (rawAt ly n s)) ∙ values-back ly n c rest (bytes-drop (packed n) s b) (p .1))
+    (ap (standing ly n (beforeFirst ly n rest)) (map-each (λ (r : Raw). r .bytes) 0 n (rawAt ly n s)) ∙ values-back ly n c rest (bytes-drop (packed n) s b) (p .1))
     ∙ sym (take-add (packed n) (valuesBytes ly n rest) s)
 
-raws-fit : (sh : Shape) (o : SortOptions) (i k : ℕ) (f : ℕ → Raw)
-    → ((j : ℕ) → i ≤ j → j < i + k → Fits maxSlot sh (f j .bytes) × SlotFits maxSlot sh o (slotOf (f j))) → AllRaw sh o (each i k f)
-raws-fit sh o i zero f h = tt
-raws-fit sh o i (suc k) f h =
-    let now = h i (omega arith) (omega arith) in
-    (now .0, now .1, raws-fit sh o (suc i) k f (λ j a b. h j (omega arith) (omega arith)))
+raws-fit : (sh : Shape) (i k : ℕ) (f : ℕ → Raw) → ((j : ℕ) → i ≤ j → j < i + k → Fits maxSlot sh (f j .bytes)) → AllRaw sh (each i k f)
+raws-fit sh i zero f h = tt
+raws-fit sh i (suc k) f h = (h i (omega arith) (omega arith), raws-fit sh (suc i) k f (λ j a b. h j (omega arith) (omega arith)))
+
+before-bytes : (ly : Layout) (n : ℕ) (s : List ℕ) → Bytes s → Bytes (beforeFirst ly n s)
+before-bytes bits n s b = tt
+before-bytes (wide w) n s b = tt
+before-bytes ended n s b = bytes-take (end s 0) (drop (4 * suc n) s) (bytes-drop (4 * suc n) s b)
+
+end-fits : (ly : Layout) (n c : ℕ) (s : List ℕ) → Bytes s → valuesFault ly n c s ≡ Pass → EndFits ly (beforeFirst ly n s) (each 0 n (valueAt ly n s))
+end-fits bits n c s b e = tt
+end-fits (wide w) n c s b e = tt
+end-fits ended n c s b e = past-small n c s b e
 
 -- ---- the sheet
 back-from : (n c at : ℕ) (cols : List Column) (s : List ℕ) → Bytes s → sheetFaultFrom n c at cols s ≡ Pass
-    → (rawSheet n cols (rawSlots n cols s) ≡ s) × RawFits n cols (rawSlots n cols s)
+    → (rawSheet n cols (rawColumns n cols s) ≡ s) × RawFits n cols (rawColumns n cols s)
 back-from n c at [] s b e = (empty s (enough 0 (length s) _ _ e .0), tt)
   where
     empty : (s : List ℕ) → length s ≤ 0 → [] ≡ s
@@ -226,22 +266,31 @@ back-from n c at [] s b e = (empty s (enough 0 (length s) _ _ e .0), tt)
     empty (x ∷ s) l = absurd (omega arith)
 back-from n c at (col ∷ cols) s b e =
     let k : ℕ = columnBytes (layout col) n s in
-    let q : Bool = col .options .required in
-    let p = both-pass (columnFault q (layout col) n c s) _ e in
+    let p = both-pass (columnFault (col .options .required) (layout col) n c s) _ e in
     let rest = back-from n (suc c) (at + k) cols (drop k s) (bytes-drop k s b) (p .1) in (
-      ap₂ (λ (x y : List ℕ). x ++ y) (column-back q (layout col) n c s b (p .0)) (rest .0) ∙ take-append-drop k s,
-      (
-        length-each 0 n (rawAt (layout col) n s),
-        raws-fit (columnShape col) (col .options) 0 n (rawAt (layout col) n s) (λ j x y. (
-          value-fits (columnShape col) n c (drop (packed n) s) (bytes-drop (packed n) s b) (column-passed q (layout col) n c s (p .0) .1) j (omega arith),
-          slot-fits (columnShape col) (col .options) n c s b (p .0) j (omega arith),
-        )),
-        rest .1,
-      ),
+      ap₂ (λ (x y : List ℕ). x ++ y) (column-back (col .options .required) (layout col) n c s b (p .0)) (rest .0) ∙ take-append-drop k s,
+      (whole (p .0), rest .1),
     )
+  where
+    v : List ℕ
+    v = drop (packed n) s
 
--- a sheet that passes is that of its raw slots
+    whole : columnFault (col .options .required) (layout col) n c s ≡ Pass → ColumnFits n col (columnOf (layout col) n s)
+    whole q =
+        let passed = column-passed (col .options .required) (layout col) n c s q .1 in
+        let vb = bytes-drop (packed n) s b in
+        record {
+          many = length-each 0 n (rawAt (layout col) n s);
+          all = raws-fit (columnShape col) 0 n (rawAt (layout col) n s) (λ j x y. value-fits (columnShape col) n c v vb passed j (omega arith));
+          fit = subst (AllSlots (columnShape col) (col .options)) (sym (map-each slotOf 0 n (rawAt (layout col) n s)))
+              (column-fits (columnShape col) (col .options) n c s b q);
+          below = before-bytes (layout col) n v vb;
+          end-fits = subst (EndFits (layout col) (beforeFirst (layout col) n v)) (sym (map-each (λ (r : Raw). r .bytes) 0 n (rawAt (layout col) n s)))
+              (end-fits (layout col) n c v vb passed);
+        }
+
+-- a sheet that passes is that of its raw columns
 pub sheet-raw : (n : ℕ) (cols : List Column) (s : List ℕ) → Bytes s → sheetFault n cols s ≡ Pass
-    → (rawSheet n cols (rawSlots n cols s) ≡ s) × RawFits n cols (rawSlots n cols s)
+    → (rawSheet n cols (rawColumns n cols s) ≡ s) × RawFits n cols (rawColumns n cols s)
 unfolding sheetFault
 sheet-raw n cols s b e = back-from n 0 0 cols s b e

@@ -116,14 +116,14 @@ module _ (cols : List Column) (n : ℕ) (bytes offsets : List ℕ) (b : Bytes by
 
   -- joined, the bytes up to the last offset, which is their total
   pub out-joined : joined (sheetRows n cols out) ≡ take (getD offsets n 0) bytes
-  out-joined = ap joined out-rows ∙ cut-joined n bytes offsets (r .cuts .there) (r .cuts .first) (r .cuts .rising) (r .cuts .inside)
+  out-joined = ap joined out-rows ∙ cut-joined n bytes offsets (r .cuts .there) (r .cuts .rising) (r .cuts .inside) (r .cuts .first)
 
   pub out-total : sheetTotal n cols out ≡ getD offsets n 0
   out-total = ap length out-joined ∙ length-take-le (getD offsets n 0) bytes (r .cuts .inside)
 
   -- with the same offsets
   pub out-ends : endsFrom 0 (sheetRows n cols out) ≡ take (suc n) offsets
-  out-ends = ap (endsFrom 0) out-rows ∙ cut-ends n bytes offsets (r .cuts .there) (r .cuts .first) (r .cuts .rising) (r .cuts .inside)
+  out-ends = ap (endsFrom 0) out-rows ∙ cut-ends n bytes offsets (r .cuts .there) (r .cuts .rising) (r .cuts .inside) (r .cuts .first)
 
   -- it is accepted
   pub out-accepted : Accepted cols n out

@@ -2,3 +2,4 @@
 // asks anything of its caller. The theorems behind them, and those that speak of the definitions alone, stand in proofs/.
 pub mod order;
 pub mod round_trip;
+pub mod slices;

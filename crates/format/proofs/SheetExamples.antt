@@ -86,14 +86,22 @@ pub missing-refused : (sheetFault 3 (must Bool ∷ []) (0b1101 ∷ []) ≡ Refus
 unfolding sheetFault
 missing-refused = (refl, refl, refl, refl, refl)
 
--- ends cut 7, the first end 9, then row by row 9 and 10, then bytes 7
+-- ends cut 7, then row by row 9 and 10, then bytes 7
 pub ends-refused : (sheetFault 1 (of Variable ∷ []) (1 ∷ 1 ∷ 0 ∷ 0 ∷ 0 ∷ []) ≡ Refuse (ColumnCut 0))
-    × (sheetFault 1 (of Variable ∷ []) (1 ∷ 1 ∷ 0 ∷ 0 ∷ 0 ∷ 1 ∷ 0 ∷ 0 ∷ 0 ∷ 97 ∷ []) ≡ Refuse (Ends 0 0))
+    × (sheetFault 1 (of Variable ∷ []) (1 ∷ 2 ∷ 0 ∷ 0 ∷ 0 ∷ 1 ∷ 0 ∷ 0 ∷ 0 ∷ 97 ∷ []) ≡ Refuse (Ends 0 0))
     × (sheetFault 2 (of Variable ∷ []) (3 ∷ 0 ∷ 0 ∷ 0 ∷ 0 ∷ 2 ∷ 0 ∷ 0 ∷ 0 ∷ 1 ∷ 0 ∷ 0 ∷ 0 ∷ 97 ∷ 97 ∷ []) ≡ Refuse (Ends 0 1))
     × (sheetFault 2 (of Variable ∷ []) (0 ∷ 0 ∷ 0 ∷ 0 ∷ 0 ∷ 0 ∷ 0 ∷ 1 ∷ 0 ∷ 0 ∷ 0 ∷ 0 ∷ 0 ∷ []) ≡ Refuse (LongSlot 0 0))
     × (sheetFault 1 (of Variable ∷ []) (1 ∷ 0 ∷ 0 ∷ 0 ∷ 0 ∷ 255 ∷ 255 ∷ 0 ∷ 0 ∷ 97 ∷ []) ≡ Refuse (ColumnCut 0))
 unfolding sheetFault
 ends-refused = (refl, refl, refl, refl, refl)
+
+-- a sliced column: its first end is 2, and the two bytes before it mean nothing
+pub sliced : (sheetFault 2 (of Variable ∷ []) (3 ∷ 2 ∷ 0 ∷ 0 ∷ 0 ∷ 3 ∷ 0 ∷ 0 ∷ 0 ∷ 3 ∷ 0 ∷ 0 ∷ 0 ∷ 9 ∷ 9 ∷ 97 ∷ []) ≡ Pass)
+    × (sheetSlots 2 (of Variable ∷ []) (3 ∷ 2 ∷ 0 ∷ 0 ∷ 0 ∷ 3 ∷ 0 ∷ 0 ∷ 0 ∷ 3 ∷ 0 ∷ 0 ∷ 0 ∷ 9 ∷ 9 ∷ 97 ∷ []) ≡ (some (97 ∷ []) ∷ some [] ∷ []) ∷ [])
+    × (sheetFault 0 (of Variable ∷ []) (1 ∷ 0 ∷ 0 ∷ 0 ∷ 9 ∷ []) ≡ Pass)
+    × (sheetFault 0 (of Variable ∷ []) (2 ∷ 0 ∷ 0 ∷ 0 ∷ 9 ∷ []) ≡ Refuse (ColumnCut 0))
+unfolding sheetFault
+sliced = (refl, refl, refl, refl)
 
 -- 11, at its place in the sheet; no rows leave one end
 pub after-refused : (sheetFault 3 cols (sheet ++ 0 ∷ []) ≡ Refuse (BytesAfter 29))

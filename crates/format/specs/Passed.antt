@@ -21,7 +21,6 @@ pub record Step (s : List ℕ) (j : ℕ) : Type 0 where
 
 -- the ends of n values of variable bytes in front of s, and as many bytes as the last says
 pub record Ended (n : ℕ) (s : List ℕ) : Type 0 where
-  pub first : end s 0 ≡ 0
   pub step : (j : ℕ) → j < n → Step s j
   pub room : 4 * suc n + end s n ≤ length s
 

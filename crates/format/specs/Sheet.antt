@@ -1,6 +1,6 @@
 -- The sheet: columns follow one another in list order, each with its validity bytes and then its values, for n rows.
 use Prim.Native.Nat.{ℕ, zero, suc, _+_, _-_, _*_, _/_, _%_, _^_}
-use mathlib.Core.Bool.{Bool, false, cond, not, _&&_, _||_}
+use mathlib.Core.Bool.{Bool, false, cond, _&&_, _||_}
 use mathlib.Core.Option.{none, some}
 use mathlib.Core.List.{List, [], _∷_, map}
 use lib.Dec.{ltb, eqb}
@@ -80,14 +80,13 @@ endsFault c s i (suc k) =
     (failIf (ltb maxSlot (end s (suc i) - end s i)) (LongSlot c i)
     (endsFault c s (suc i) k))
 
--- ends cut 7, the first end 9, then row by row 9, 10, then bytes 7
+-- ends cut 7, then row by row 9, 10, then bytes 7; the first end is any
 abbrev pub variableFault : ℕ → ℕ → List ℕ → Check
 variableFault n c s =
     failIf (ltb (length s) (4 * suc n)) (ColumnCut c)
-    (failIf (not (eqb (end s 0) 0)) (Ends c 0)
     (both (endsFault c s 0 n)
     (failIf (ltb (length s) (4 * suc n + end s n)) (ColumnCut c)
-    Pass)))
+    Pass))
 
 -- 7, 8 for bool, 7 for fixed
 abbrev pub valuesFault : Layout → ℕ → ℕ → List ℕ → Check
@@ -95,7 +94,7 @@ valuesFault bits n c s = bitsFault n c s
 valuesFault (wide w) n c s = failIf (ltb (length s) (n * w)) (ColumnCut c) Pass
 valuesFault ended n c s = variableFault n c s
 
--- n + 1 ends, then as many bytes as the last says
+-- n + 1 ends, then as many bytes as the last says, those before the first end among them
 abbrev pub valuesBytes : Layout → ℕ → List ℕ → ℕ
 valuesBytes bits n s = packed n
 valuesBytes (wide w) n s = n * w
@@ -105,7 +104,7 @@ valuesBytes ended n s = 4 * suc n + end s n
 abbrev pub boolByte : Bool → List ℕ
 boolByte b = cond b 1 0 ∷ []
 
--- value i lies between ends i and i + 1
+-- value i lies between ends i and i + 1, so that bytes before the first end mean nothing
 abbrev pub valueAt : Layout → ℕ → List ℕ → ℕ → List ℕ
 valueAt bits n s i = boolByte (bit s i)
 valueAt (wide w) n s i = take w (drop (i * w) s)

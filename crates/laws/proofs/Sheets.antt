@@ -1,14 +1,14 @@
 -- A sheet that passes: its columns have their bytes, and its slots fit. Assumes nothing.
 use Prim.Native.Nat.{ℕ, zero, suc, _+_, _-_, _*_, _<_, _≤_}
 use mathlib.Core.Path.{_≡_, refl, ap, sym, subst, _∙_}
-use mathlib.Core.Bool.{Bool, true, false, not, true≢false}
+use mathlib.Core.Bool.{Bool, true, false, true≢false}
 use mathlib.Core.List.{List, [], _∷_}
 use mathlib.Core.Logic.{_⊎_, inl, inr}
 use native.Mathlib.Omega.{arith}
-use lib.Dec.{T, eqb, ltb}
+use lib.Dec.{T, ltb}
 use lib.ListN.{length, take, drop, length-take, length-drop}
 use lib.Seq.{length-take-le}
-use borrow.Author.Tests.{eqb-true, ltb-false, not-false}
+use borrow.Author.Tests.{ltb-false}
 use Rattle.format.specs.declared.Check.the-variants.{Pass}
 use Rattle.format.specs.declared.SortOptions.{SortOptions}
 use Rattle.format.specs.declared.Column.{Column}
@@ -48,11 +48,9 @@ last-end n s g (suc k) j e = omega (arith, g .step j (omega arith) .rises, last-
 pub variable-passed : (n c : ℕ) (s : List ℕ) → variableFault n c s ≡ Pass → Ended n s
 variable-passed n c s e =
     let cut = enough (length s) (4 * suc n) _ _ e in
-    let from = failIf-pass (not (eqb (end s 0) 0)) _ _ (cut .1) in
-    let steps = both-pass (endsFault c s 0 n) _ (from .1) in
+    let steps = both-pass (endsFault c s 0 n) _ (cut .1) in
     let all = enough (length s) (4 * suc n + end s n) _ _ (steps .1) in
     record {
-      first = eqb-true (end s 0) 0 (not-false (eqb (end s 0) 0) (from .0));
       step = λ j l. steps-from c s 0 n (steps .0) j (omega arith) (omega arith);
       room = all .0;
     }
@@ -141,7 +139,7 @@ slots-fit : (sh : Shape) (o : SortOptions) (i k : ℕ) (f : ℕ → Slot) → ((
 slots-fit sh o i zero f h = tt
 slots-fit sh o i (suc k) f h = (h i (omega arith) (omega arith), slots-fit sh o (suc i) k f (λ j a b. h j (omega arith) (omega arith)))
 
-column-fits : (sh : Shape) (o : SortOptions) (n c : ℕ) (s : List ℕ) → Bytes s → columnFault (o .required) (layoutFor sh) n c s ≡ Pass
+pub column-fits : (sh : Shape) (o : SortOptions) (n c : ℕ) (s : List ℕ) → Bytes s → columnFault (o .required) (layoutFor sh) n c s ≡ Pass
     → AllSlots sh o (columnSlots (layoutFor sh) n s)
 column-fits sh o n c s b e = slots-fit sh o 0 n (slotAt (layoutFor sh) n s) (λ j l m. slot-fits sh o n c s b e j (omega arith))
 

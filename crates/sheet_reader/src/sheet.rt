@@ -99,7 +99,7 @@ fn check_ends(part: &[u8], n: usize, c: usize) -> Check
     Check::Pass
 }
 
-// Variable bytes: ends cut 7, the first end 9, row by row 9, 10, then bytes 7.
+// Variable bytes: ends cut 7, row by row 9, 10, then bytes 7; the first end is any.
 fn check_variable(part: &[u8], n: usize, c: usize) -> Check
     requires { ⌜ n ≤ maxRows ⌝ }
     ensures { λ r. ⌜ r ≡ variableFault n c (now (part .entry)) ⌝ }
@@ -107,9 +107,6 @@ fn check_variable(part: &[u8], n: usize, c: usize) -> Check
     let ends = 4 * (n + 1);
     if part.len() < ends {
         return Check::Refuse(Refusal::ColumnCut(c));
-    }
-    if end_at(part, 0) != 0 {
-        return Check::Refuse(Refusal::Ends(c, 0));
     }
     let check = check_ends(part, n, c);
     if let Check::Refuse(r) = check {

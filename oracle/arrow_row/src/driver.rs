@@ -83,13 +83,14 @@ macro_rules! define_arrays {
         }
 
         impl Array {
-            /// An array of the slots of a sheet, with what its null slots hold.
-            pub fn from_slots(kind: Kind, slots: &[SheetSlot<'_>]) -> Array {
+            /// An array of the slots of a sheet, with what its null slots hold. The strings of one of
+            /// bytes begin after `before`, as in a slice.
+            pub fn from_slots(kind: Kind, before: &[u8], slots: &[SheetSlot<'_>]) -> Array {
                 match kind {
                     Kind::Boolean => Array::Boolean(boolean_array(slots)),
                     $(Kind::$name => Array::$name(primitive_array(slots)),)*
                     Kind::FixedBinary(size) => Array::FixedBinary(fixed_binary_array(size, slots)),
-                    Kind::Binary => Array::Binary(binary_array(slots)),
+                    Kind::Binary => Array::Binary(binary_array(before, slots)),
                 }
             }
 
@@ -182,14 +183,15 @@ fn fixed_binary_array(size: i32, slots: &[SheetSlot<'_>]) -> FixedSizeBinaryArra
         .expect("slots of this width")
 }
 
-fn binary_array(slots: &[SheetSlot<'_>]) -> GenericBinaryArray<i32> {
-    let mut ends = vec![0];
+fn binary_array(before: &[u8], slots: &[SheetSlot<'_>]) -> GenericBinaryArray<i32> {
+    let mut ends = vec![before.len() as i32];
     for slot in slots {
         ends.push(ends[ends.len() - 1] + slot.1.len() as i32);
     }
     let offsets = OffsetBuffer::new(ends.into());
-    // SAFETY: the last end is the count of the joined bytes.
-    unsafe { GenericBinaryArray::new_unchecked(offsets, joined(slots).into(), null_buffer(slots)) }
+    let bytes = [before, &joined(slots)].concat();
+    // SAFETY: the last end is the count of all bytes.
+    unsafe { GenericBinaryArray::new_unchecked(offsets, bytes.into(), null_buffer(slots)) }
 }
 
 fn valid_slots(

@@ -25,6 +25,7 @@ fn main() -> ExitCode {
     println!("document 01's own cases run; {misread} misreadings of the crate shown");
     sweeps::kinds(&mut judge, &mut rng, !quick);
     sweeps::lengths(&mut judge, &mut rng);
+    sweeps::slices(&mut judge, &mut rng);
     sweeps::tables(&mut judge, &mut rng, sheets);
     sweeps::full(&mut judge, &mut rng);
     sweeps::ceiling(&mut judge, &mut rng);
