@@ -8,6 +8,7 @@ use native.Mathlib.Omega.{arith}
 use lib.Dec.{eqb}
 use lib.ListN.{length, getD, replicate, length-replicate, length-map}
 use Rattle.format.specs.declared.Check.the-variants.{Pass}
+use Rattle.format.specs.declared.SortOptions.{SortOptions}
 use Rattle.format.specs.declared.Column.{Column}
 use Rattle.format.specs.Limits.{maxRows, maxSlot}
 use Rattle.format.specs.Lists.{Bytes, endsFrom, joined, lowBytes}
@@ -75,7 +76,13 @@ cleared-raw n [] sss = refl
 cleared-raw n (col ∷ cols) [] = refl
 cleared-raw n (col ∷ cols) (ss ∷ sss) = ap₂ (λ (x y : List ℕ). x ++ y) (column-raw (layout col) n ss) (cleared-raw n cols sss)
 
--- ---- they fit
+-- ---- they are the slots
+slots-back : (ly : Layout) (ss : List Slot) → map slotOf (map (clearedRaw ly) ss) ≡ ss
+slots-back ly [] = refl
+slots-back ly (none ∷ ss) = ap (λ (l : List Slot). none ∷ l) (slots-back ly ss)
+slots-back ly (some v ∷ ss) = ap (λ (l : List Slot). some v ∷ l) (slots-back ly ss)
+
+-- ---- and they fit
 
 zeros-fit : (w : ℕ) → Bytes (replicate w 0)
 zeros-fit w = subst Bytes (append-nil (replicate w 0)) (bytes-zeros w [] tt)
@@ -89,10 +96,10 @@ cleared-fits (fixed (float w)) = (zeros-fit w, length-replicate w 0, tt)
 cleared-fits (fixed (parts ws)) = (zeros-fit (width (parts ws)), length-replicate (width (parts ws)) 0, tt)
 cleared-fits variable = (tt, omega arith)
 
-all-fit : (sh : Shape) (ss : List Slot) → AllSlots sh ss → AllRaw sh (map (clearedRaw (layoutFor sh)) ss)
-all-fit sh [] h = tt
-all-fit sh (none ∷ ss) h = (cleared-fits sh, all-fit sh ss (h .1))
-all-fit sh (some v ∷ ss) h = (h .0, all-fit sh ss (h .1))
+all-fit : (sh : Shape) (o : SortOptions) (ss : List Slot) → AllSlots sh o ss → AllRaw sh (map (clearedRaw (layoutFor sh)) ss)
+all-fit sh o [] h = tt
+all-fit sh o (none ∷ ss) h = (cleared-fits sh, all-fit sh o ss (h .1))
+all-fit sh o (some v ∷ ss) h = (h .0, all-fit sh o ss (h .1))
 
 -- and so does the last end
 end-fits : (sh : Shape) (n : ℕ) (rs : List Raw) → n ≤ maxRows → length rs ≡ n → AllRaw sh rs → EndFits (layoutFor sh) [] (map (λ r. r .bytes) rs)
@@ -112,16 +119,16 @@ raws-fit n [] (ss ∷ sss) few h = absurd h
 raws-fit n (col ∷ cols) [] few h = absurd h
 raws-fit n (col ∷ cols) (ss ∷ sss) few h =
     let many = length-map ss (clearedRaw (layout col)) ∙ h .0 in
-    let all = all-fit (columnShape col) ss (h .1) in (
-      record { many = many; all = all; below = tt; end-fits = end-fits (columnShape col) n (map (clearedRaw (layout col)) ss) few many all },
+    let all = all-fit (columnShape col) (col .options) ss (h .1) in (
+      record {
+        many = many;
+        all = all;
+        fit = subst (AllSlots (columnShape col) (col .options)) (sym (slots-back (layout col) ss)) (h .1);
+        below = tt;
+        end-fits = end-fits (columnShape col) n (map (clearedRaw (layout col)) ss) few many all;
+      },
       raws-fit n cols sss few (h .2),
     )
-
--- and are the slots
-slots-back : (ly : Layout) (ss : List Slot) → map slotOf (map (clearedRaw ly) ss) ≡ ss
-slots-back ly [] = refl
-slots-back ly (none ∷ ss) = ap (λ (l : List Slot). none ∷ l) (slots-back ly ss)
-slots-back ly (some v ∷ ss) = ap (λ (l : List Slot). some v ∷ l) (slots-back ly ss)
 
 raws-back : (n : ℕ) (cols : List Column) (sss : List (List Slot)) → SheetFits n cols sss → map slotsOf (clearedRaws cols sss) ≡ sss
 raws-back n [] [] h = refl

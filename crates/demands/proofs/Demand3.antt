@@ -72,7 +72,7 @@ module _ {list : List ℕ} {b : Batch} (w : Written list b) where
     -- and they fit
     pub values-fit : RowFits cols (valuesIn list b r)
     values-fit =
-        row-fits (b .n) cols (sheetSlots (b .n) cols (b .sheet)) r
+        row-fits (b .n) cols (sheetSlots (b .n) cols (b .sheet)) r l
         (sheet-fits (b .n) cols (b .sheet) (w .bytes) (encoded list (b .n) (b .sheet) (length (b .rows)) (length (b .offsets)) (w .passes) .1 .passes))
 
 -- row r of one batch and row q of another under one list

@@ -63,7 +63,7 @@ outer-description : (s : List ℕ) (at : ℕ) → Outer (descriptionFault s at)
 outer-description s at =
     outer-if (ltb (getD s at 0) 1 || ltb lastKind (getD s at 0)) _ _ refl
     (outer-if (ltb (length s - at) (descriptionBytes (getD s at 0))) _ _ refl
-    (outer-if (ltb 3 (getD s (at + 1) 0)) _ _ refl
+    (outer-if (ltb 7 (getD s (at + 1) 0)) _ _ refl
     (outer-if (ltb maxWidth (widthAt s at)) _ _ refl tt)))
 
 outer-list-from : (room : ℕ) (s : List ℕ) (at : ℕ) → Outer (listFaultFrom room s at)

@@ -8,11 +8,12 @@ use lib.Dec.{ltb, leb, eqb}
 use lib.ListN.{length, take, drop, getD, take-append-drop, length-append, length-drop}
 use lib.Seq.{length-take-le}
 use borrow.Author.Tests.{leb-false}
-use Rattle.format.specs.Field.{blockSize, directed, nullByte}
+use Rattle.format.specs.Field.{blockSize, directed}
 use Rattle.format.specs.Key.{allowed}
 use Rattle.format.specs.Kinds.{Fixed, Shape, fixed, variable, width}
 use Rattle.format.specs.Limits.{maxSlot}
-use Rattle.format.specs.Read.{Parsed, got, fault, after, allZero, fromBad, readBlock, readBlocks, readBytes, readField, readFixed, readNull, readValue, readVariable, valueSlot}
+use Rattle.format.specs.Read.{Parsed, got, fault, after, allZero, fromBad, nullLead, readBlock, readBlocks, readValue, readVariable, valueSlot}
+use Rattle.format.specs.Read.{readBytes, readField, readFixed, readNull}
 use Rattle.format.specs.declared.RowFault.{RowFault}
 use Rattle.format.specs.declared.SortOptions.{SortOptions}
 use Rattle.laws.proofs.Directed.{length-directed}
@@ -100,7 +101,7 @@ inside-slot n d (fault f l) h = h
 inside-variable : (limit : ℕ) (o : SortOptions) (s : List ℕ) → Inside (length s) (readVariable limit o s)
 inside-variable limit o [] = omega arith
 inside-variable limit o (b ∷ s) =
-    inside-if (suc (length s)) (eqb b (nullByte o)) _ _ (omega arith) (λ q.
+    inside-if (suc (length s)) (nullLead o b) _ _ (omega arith) (λ q.
     inside-slot (suc (length s)) d (readValue limit (directed d (b ∷ s)))
     (subst (λ (n : ℕ). Inside n (readValue limit (directed d (b ∷ s)))) (length-directed d (b ∷ s)) (inside-value limit (directed d (b ∷ s)))))
   where
@@ -123,7 +124,7 @@ inside-bytes k d s =
 inside-fixed : (k : Fixed) (o : SortOptions) (s : List ℕ) → Inside (length s) (readFixed k o s)
 inside-fixed k o [] = omega arith
 inside-fixed k o (b ∷ s) =
-    inside-if (suc (length s)) (eqb b (nullByte o)) _ _
+    inside-if (suc (length s)) (nullLead o b) _ _
     (weaken (length s) (suc (length s)) (readNull (width k) s) (omega arith) (inside-null (width k) s)) (λ q.
     inside-if (suc (length s)) (eqb b 1) _ _
     (weaken (length s) (suc (length s)) (readBytes k (o .descending) s) (omega arith) (inside-bytes k (o .descending) s))

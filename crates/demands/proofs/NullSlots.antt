@@ -13,6 +13,7 @@ use Rattle.format.specs.declared.Column.{Column}
 use Rattle.format.specs.Limits.{maxTotal}
 use Rattle.format.specs.Lists.{Bytes, joined, over}
 use Rattle.format.specs.Kinds.{Slot, columnShape}
+use Rattle.format.specs.Fits.{AllSlots}
 use Rattle.format.specs.Columns.{columns}
 use Rattle.format.specs.Row.{row}
 use Rattle.format.specs.Sheet.{Layout, bits, ended, wide, layout, packed, bit, valueAt, slotIf, columnBytes, slotAt, sheetFault, sheetSlots, nulls, turned}
@@ -73,6 +74,7 @@ resliced-fits n (col ∷ cols) (c ∷ cs) (d ∷ ds) r h = (column-kept (r .0) (
     column-kept same long b f = record {
       many = ap length same ∙ f .many;
       all = subst (AllRaw (columnShape col)) (sym same) (f .all);
+      fit = subst (λ (rs : List Raw). AllSlots (columnShape col) (col .options) (map slotOf rs)) (sym same) (f .fit);
       below = b;
       end-fits = subst (λ (rs : List Raw). EndFits (layout col) (d .before) (map (λ r. r .bytes) rs)) (sym same)
           (end-kept (layout col) (c .before) (d .before) (map (λ r. r .bytes) (c .slots)) long (f .end-fits));

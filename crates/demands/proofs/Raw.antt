@@ -2,7 +2,7 @@
 -- before its first ends. Assumes nothing.
 use Prim.Native.Nat.{ℕ, zero, suc, _+_, _-_, _*_, _/_, _%_, _^_, _<_, _≤_}
 use mathlib.Core.Path.{_≡_, refl, ap, ap₂, sym, _∙_}
-use mathlib.Core.Bool.{Bool, false}
+use mathlib.Core.Bool.{Bool, false, true, true≢false}
 use mathlib.Core.List.{List, [], _∷_, _++_, map, append-assoc}
 use native.Mathlib.Nat.{pow-suc, zero-add}
 use native.Mathlib.Omega.{arith}
@@ -10,15 +10,18 @@ use lib.Dec.{eqb, ltb→lt}
 use lib.ListN.{length, getD, take, drop, length-append, length-map, List·getD-map}
 use lib.Seq.{drop-at}
 use Rattle.format.specs.declared.Check.the-variants.{Pass}
+use Rattle.format.specs.declared.SortOptions.{SortOptions}
 use Rattle.format.specs.declared.Column.{Column}
 use Rattle.format.specs.Limits.{maxRows, maxSlot}
 use Rattle.format.specs.Lists.{endsFrom, joined, low, lowBytes}
 use Rattle.format.specs.Kinds.{Fixed, bool, plain, number, integer, float, parts, Shape, fixed, variable, Slot, width, columnShape}
-use Rattle.format.specs.Fits.{Fits}
-use Rattle.format.specs.Sheet.{Layout, bits, ended, wide, layoutFor, layout, packed, end, endsFault, valuesFault, valuesBytes, boolByte, valueAt, slotIf, columnFault, columnBytes, slotAt, columnSlots, sheetFaultFrom, sheetFault, sheetSlots}
+use Rattle.format.specs.Fits.{Fits, SlotFits, AllSlots}
+use Rattle.format.specs.Sheet.{Layout, bits, ended, wide, layoutFor, layout, packed, end, endsFault, valuesFault, valuesBytes, boolByte}
+use Rattle.format.specs.Sheet.{valueAt, slotIf, columnFault, columnBytes, slotAt, columnSlots, sheetFaultFrom, sheetFault, sheetSlots, bitsFault, requiredFault, firstClear}
 use Rattle.format.specs.Passed.{Step}
 use Rattle.format.specs.Cleared.{pack}
 use Rattle.bits.proofs.Bits.{length-pack, bit-before, bits-pass}
+use Rattle.bits.proofs.Clear.{Set, clear-none}
 use Rattle.basics.proofs.Lists.{Every, every-at, each-is, length-joined, long-at, endAt, length-ends, end-next, end-last, end-most, cut-at}
 use Rattle.basics.proofs.Checks.{pass-enough, pass-both}
 use Rattle.laws.proofs.Room.{all-four}
@@ -167,6 +170,22 @@ values-read (fixed (float w)) n c a xs t e h fits = wide-read (float w) n c a xs
 values-read (fixed (parts ws)) n c a xs t e h fits = wide-read (parts ws) n c a xs t e h
 values-read variable n c a xs t e h fits = ended-read n c a xs t e fits h
 
+-- ---- the validity of a required column: every slot that fits is valid
+valid-asked : (sh : Shape) (o : SortOptions) (b : Bool) (v : List ℕ) → SlotFits maxSlot sh o (slotIf b v) → o .required ≡ true → b ≡ true
+valid-asked sh o true v h q = refl
+valid-asked sh o false v h q = absurd (true≢false (sym q ∙ h))
+
+all-valid : (sh : Shape) (o : SortOptions) (rs : List Raw) → AllSlots sh o (map slotOf rs) → o .required ≡ true → (i : ℕ) → i < length rs
+    → getD (map (λ r. r .valid) rs) i false ≡ true
+all-valid sh o [] h q i l = absurd (omega arith)
+all-valid sh o (r ∷ rs) h q zero l = valid-asked sh o (r .valid) (r .bytes) (h .0) q
+all-valid sh o (r ∷ rs) h q (suc i) l = all-valid sh o rs (h .1) q i (omega arith)
+
+-- and so it is not refused
+none-missing : (q : Bool) (n c : ℕ) (s : List ℕ) → (q ≡ true → Set s 0 n) → requiredFault q n c s ≡ Pass
+none-missing true n c s h = pass-enough (firstClear s 0 n) n _ _ (omega (arith, clear-none s n (h refl))) refl
+none-missing false n c s h = refl
+
 -- ---- a column
 module _ (col : Column) (n c : ℕ) (raw : RawColumn) (t : List ℕ) (h : ColumnFits n col raw) where
   abbrev rs : List Raw
@@ -202,8 +221,17 @@ module _ (col : Column) (n c : ℕ) (raw : RawColumn) (t : List ℕ) (h : Column
   column-bytes : columnBytes ly n (rawColumn ly n raw ++ t) ≡ length (rawColumn ly n raw)
   column-bytes = rw split (rw rest (omega (arith, r .bytes, length-append p (standing ly n (raw .before) xs), length-pack (packed n) flags)))
 
-  column-passes : columnFault ly n c (rawColumn ly n raw ++ t) ≡ Pass
-  column-passes = rw split (rw (bits-pass n c flags q (length-map rs _ ∙ e)) (rw rest (r .passes)))
+  abbrev required : Bool
+  required = col .options .required
+
+  all-set : col .options .required ≡ true → Set (p ++ q) 0 n
+  all-set asked i l m = bit-before (packed n) flags q i (omega arith) ∙ all-valid (columnShape col) (col .options) rs (h .fit) asked i (omega (arith, e))
+
+  column-passes : columnFault (col .options .required) ly n c (rawColumn ly n raw ++ t) ≡ Pass
+  column-passes =
+      rw split
+      (pass-both (bitsFault n c (p ++ q)) _ (bits-pass n c flags q (length-map rs _ ∙ e))
+      (pass-both (requiredFault required n c (p ++ q)) _ (none-missing required n c (p ++ q) all-set) (rw rest (r .passes))))
 
   -- past the column
   column-past : drop (columnBytes ly n (rawColumn ly n raw ++ t)) (rawColumn ly n raw ++ t) ≡ t
@@ -228,7 +256,7 @@ passes-from n c at (col ∷ cols) [] h = absurd h
 passes-from n c at (col ∷ cols) (x ∷ cs) h =
     let t : List ℕ = rawSheet n cols cs in
     let k : ℕ = columnBytes (layout col) n (rawColumn (layout col) n x ++ t) in
-    pass-both (columnFault (layout col) n c (rawColumn (layout col) n x ++ t)) _ (column-passes col n c x t (h .0))
+    pass-both (columnFault (col .options .required) (layout col) n c (rawColumn (layout col) n x ++ t)) _ (column-passes col n c x t (h .0))
     (ap (sheetFaultFrom n (suc c) (at + k) cols) (column-past col n c x t (h .0)) ∙ passes-from n (suc c) (at + k) cols cs (h .1))
 
 pub raw-passes : (n : ℕ) (cols : List Column) (cs : List RawColumn) → RawFits n cols cs → sheetFault n cols (rawSheet n cols cs) ≡ Pass

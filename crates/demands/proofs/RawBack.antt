@@ -17,7 +17,7 @@ use Rattle.format.specs.Limits.{maxSlot}
 use Rattle.format.specs.Lists.{Bytes, each, endsFrom, joined, low, lowBytes}
 use Rattle.format.specs.Kinds.{Shape, columnShape}
 use Rattle.format.specs.Sheet.{Layout, bits, ended, wide, layout, packed, bit, anyBit, spareSet, bitsFault, end, variableFault, valuesFault, valuesBytes, valueAt, columnFault, columnBytes, sheetFaultFrom, sheetFault}
-use Rattle.format.specs.Fits.{Fits}
+use Rattle.format.specs.Fits.{Fits, AllSlots}
 use Rattle.format.specs.Cleared.{pack}
 use Rattle.format.specs.Entries.{rowBytes, cutRows}
 use Rattle.format.specs.Passed.{Ended}
@@ -29,8 +29,8 @@ use Rattle.basics.proofs.Checks.{enough, both-pass}
 use Rattle.basics.proofs.Compare.{choose}
 use Rattle.basics.proofs.Lists.{each-at, each-same, length-each, map-each}
 use Rattle.laws.proofs.Parsed.{or-false}
-use Rattle.laws.proofs.Sheets.{last-end, variable-passed, column-passed, value-fits}
-use Rattle.demands.specs.Raw.{Raw, standing, rawColumn, rawSheet, AllRaw, EndFits, ColumnFits, RawFits, beforeFirst, rawAt, columnOf, rawColumns}
+use Rattle.laws.proofs.Sheets.{last-end, variable-passed, column-passed, value-fits, column-fits}
+use Rattle.demands.specs.Raw.{Raw, slotOf, standing, rawColumn, rawSheet, AllRaw, EndFits, ColumnFits, RawFits, beforeFirst, rawAt, columnOf, rawColumns}
 use Rattle.demands.proofs.CutRows.{joined-from, ends-from}
 use Rattle.demands.proofs.OutBytes.{bytes-pack}
 
@@ -232,10 +232,10 @@ values-back bits n c s b e =
 values-back (wide w) n c s b e = parts-back w n s
 values-back ended n c s b e = ended-back n c s b e
 
-column-back : (ly : Layout) (n c : ℕ) (s : List ℕ) → Bytes s → columnFault ly n c s ≡ Pass
+column-back : (q : Bool) (ly : Layout) (n c : ℕ) (s : List ℕ) → Bytes s → columnFault q ly n c s ≡ Pass
     → rawColumn ly n (columnOf ly n s) ≡ take (columnBytes ly n s) s
-column-back ly n c s b e =
-    let p = column-passed ly n c s e in
+column-back q ly n c s b e =
+    let p = column-passed q ly n c s e in
     let rest : List ℕ = drop (packed n) s in
     ap₂ (λ (x y : List ℕ). x ++ y)
     (ap (pack (packed n)) (map-each (λ (r : Raw). r .valid) 0 n (rawAt ly n s)) ∙ flags-back n c s b (p .0))
@@ -266,22 +266,24 @@ back-from n c at [] s b e = (empty s (enough 0 (length s) _ _ e .0), tt)
     empty (x ∷ s) l = absurd (omega arith)
 back-from n c at (col ∷ cols) s b e =
     let k : ℕ = columnBytes (layout col) n s in
-    let p = both-pass (columnFault (layout col) n c s) _ e in
+    let p = both-pass (columnFault (col .options .required) (layout col) n c s) _ e in
     let rest = back-from n (suc c) (at + k) cols (drop k s) (bytes-drop k s b) (p .1) in (
-      ap₂ (λ (x y : List ℕ). x ++ y) (column-back (layout col) n c s b (p .0)) (rest .0) ∙ take-append-drop k s,
-      (column-fits (p .0), rest .1),
+      ap₂ (λ (x y : List ℕ). x ++ y) (column-back (col .options .required) (layout col) n c s b (p .0)) (rest .0) ∙ take-append-drop k s,
+      (whole (p .0), rest .1),
     )
   where
     v : List ℕ
     v = drop (packed n) s
 
-    column-fits : columnFault (layout col) n c s ≡ Pass → ColumnFits n col (columnOf (layout col) n s)
-    column-fits q =
-        let passed = column-passed (layout col) n c s q .1 in
+    whole : columnFault (col .options .required) (layout col) n c s ≡ Pass → ColumnFits n col (columnOf (layout col) n s)
+    whole q =
+        let passed = column-passed (col .options .required) (layout col) n c s q .1 in
         let vb = bytes-drop (packed n) s b in
         record {
           many = length-each 0 n (rawAt (layout col) n s);
           all = raws-fit (columnShape col) 0 n (rawAt (layout col) n s) (λ j x y. value-fits (columnShape col) n c v vb passed j (omega arith));
+          fit = subst (AllSlots (columnShape col) (col .options)) (sym (map-each slotOf 0 n (rawAt (layout col) n s)))
+              (column-fits (columnShape col) (col .options) n c s b q);
           below = before-bytes (layout col) n v vb;
           end-fits = subst (EndFits (layout col) (beforeFirst (layout col) n v)) (sym (map-each (λ (r : Raw). r .bytes) 0 n (rawAt (layout col) n s)))
               (end-fits (layout col) n c v vb passed);

@@ -88,7 +88,7 @@ ones : {o : Ordering} {f g : List ℕ} → Ranks o f g → Ranks o (1 ∷ f) (1 
 ones k = record { first = k .first; alike = λ e. ap {B = List ℕ} (λ z. 1 ∷ z) (k .alike e) }
 
 -- the fields of two slots of a column stand as the slots do
-field-ranks : (sh : Shape) (o : SortOptions) → ShapeSigns sh → (a b : Slot) → SlotFits maxSlot sh a → SlotFits maxSlot sh b
+field-ranks : (sh : Shape) (o : SortOptions) → ShapeSigns sh → (a b : Slot) → SlotFits maxSlot sh o a → SlotFits maxSlot sh o b
     → Ranks (slotOrder sh o a b) (field sh o a) (field sh o b)
 field-ranks (fixed k) o so none none ha hb = ranks-self (nullByte o ∷ replicate (width k) 0)
 field-ranks (fixed k) o so none (some y) ha hb =

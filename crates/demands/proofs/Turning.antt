@@ -29,14 +29,15 @@ pub row-at : (n : ℕ) (cols : List Column) (sss : List (List Slot)) (r : ℕ) �
 row-at n cols sss r l = ap (λ (z : List (List ℕ)). getD z r []) (map-each (row cols) 0 n (slotsIn sss)) ∙ each-at n (λ i. row cols (slotsIn sss i)) [] r l
 
 -- ---- rows of columns that fit
-pub row-fits : (n : ℕ) (cols : List Column) (sss : List (List Slot)) (i : ℕ) → SheetFits n cols sss → RowFits cols (slotsIn sss i)
-row-fits n [] [] i h = tt
-row-fits n [] (ss ∷ sss) i h = absurd h
-row-fits n (col ∷ cols) [] i h = absurd h
-row-fits n (col ∷ cols) (ss ∷ sss) i h = (slot-in (columnShape col) ss i (h .1), row-fits n cols sss i (h .2))
+pub row-fits : (n : ℕ) (cols : List Column) (sss : List (List Slot)) (i : ℕ) → i < n → SheetFits n cols sss → RowFits cols (slotsIn sss i)
+row-fits n [] [] i l h = tt
+row-fits n [] (ss ∷ sss) i l h = absurd h
+row-fits n (col ∷ cols) [] i l h = absurd h
+row-fits n (col ∷ cols) (ss ∷ sss) i l h =
+    (slot-in (columnShape col) (col .options) ss i (omega (arith, h .0)) (h .1), row-fits n cols sss i l (h .2))
 
 pub rows-fit : (n : ℕ) (cols : List Column) (sss : List (List Slot)) → SheetFits n cols sss → Every (RowFits cols) (turned n sss)
-rows-fit n cols sss h = every-each (RowFits cols) 0 n (slotsIn sss) (λ i a b. row-fits n cols sss i h)
+rows-fit n cols sss h = every-each (RowFits cols) 0 n (slotsIn sss) (λ i a b. row-fits n cols sss i (omega arith) h)
 
 -- a list to a column, n slots to a list
 pub sheet-count : (n : ℕ) (cols : List Column) (sss : List (List Slot)) → SheetFits n cols sss → (length sss ≡ length cols) × Every (λ ss. length ss ≡ n) sss

@@ -10,7 +10,7 @@ use Rattle.format.specs.declared.Column.{Column}
 use Rattle.format.specs.Limits.{maxSlot}
 use Rattle.format.specs.Lists.{Bytes, each, endsFrom, joined, lowBytes}
 use Rattle.format.specs.Kinds.{Shape, Slot, columnShape}
-use Rattle.format.specs.Fits.{Fits}
+use Rattle.format.specs.Fits.{Fits, AllSlots}
 use Rattle.format.specs.Sheet.{Layout, bits, ended, wide, layout, packed, bit, end, boolByte, valueAt, slotIf, columnBytes}
 use Rattle.format.specs.Cleared.{pack}
 
@@ -62,10 +62,11 @@ EndFits bits a xs = Unit {0}
 EndFits (wide w) a xs = Unit {0}
 EndFits ended a xs = length a + length (joined xs) < 256 ^ 4
 
--- n raw slots to a column
+-- n raw slots to a column; the slots that they are fit, so that none is null in a required column
 pub record ColumnFits (n : ℕ) (col : Column) (c : RawColumn) : Type 0 where
   pub many : length (c .slots) ≡ n
   pub all : AllRaw (columnShape col) (c .slots)
+  pub fit : AllSlots (columnShape col) (col .options) (slotsOf c)
   pub below : Bytes (c .before)
   pub end-fits : EndFits (layout col) (c .before) (map (λ r. r .bytes) (c .slots))
 

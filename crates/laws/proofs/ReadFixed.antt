@@ -129,7 +129,8 @@ module _ (limit : ℕ) (k : Fixed) (o : SortOptions) where
   read-fixed [] s r bf h = absurd (fault-got h)
   read-fixed (b ∷ f) s r bf h = go (nullLead o b) refl h
     where
-      go : (c : Bool) → nullLead o b ≡ c → cond c (readNull (width k) f) (cond (eqb b 1) (readBytes k o f) (fault Lead (suc (length f)))) ≡ got s r → Spells b f r s
+      go : (c : Bool) → nullLead o b ≡ c
+          → cond c (readNull (width k) f) (cond (eqb b 1) (readBytes k o f) (fault Lead (suc (length f)))) ≡ got s r → Spells b f r s
       go true q h = let n = led-null o b q in rw (n .1) (read-null f r s (n .0) h)
       go false q h =
           let a : (eqb b 1 ≡ true) × (readBytes k o f ≡ got s r) = yes-got (eqb b 1) _ _ h in

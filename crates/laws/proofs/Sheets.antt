@@ -146,7 +146,7 @@ slots-fit : (sh : Shape) (o : SortOptions) (i k : ℕ) (f : ℕ → Slot) → ((
 slots-fit sh o i zero f h = tt
 slots-fit sh o i (suc k) f h = (h i (omega arith) (omega arith), slots-fit sh o (suc i) k f (λ j a b. h j (omega arith) (omega arith)))
 
-column-fits : (sh : Shape) (o : SortOptions) (n c : ℕ) (s : List ℕ) → ShapeFolding sh → Bytes s → columnFault (o .required) (layoutFor sh) n c s ≡ Pass
+pub column-fits : (sh : Shape) (o : SortOptions) (n c : ℕ) (s : List ℕ) → ShapeFolding sh → Bytes s → columnFault (o .required) (layoutFor sh) n c s ≡ Pass
     → AllSlots sh o (map (foldedSlot sh o) (columnSlots (layoutFor sh) n s))
 column-fits sh o n c s f b e = slots-fit sh o 0 n (slotAt (layoutFor sh) n s) (λ j l m. slot-fits sh o n c s f b e j (omega arith))
 

@@ -73,7 +73,8 @@ module _ (n : ℕ) (cols : List Column) (sheet : List ℕ) (facts : List Facts) 
     abbrev bytes : ℕ
     bytes = columnBytes (layout col) n part
 
-    pub bad : (r : Sheeted) (x : Refusal) → columnFault (col .options .required) (layout col) n c part ≡ Refuse x → r .check ≡ Refuse x → SheetedAs n cols sheet r
+    pub bad : (r : Sheeted) (x : Refusal) → columnFault (col .options .required) (layout col) n c part ≡ Refuse x → r .check ≡ Refuse x
+        → SheetedAs n cols sheet r
     bad r x e a = refused n cols sheet r x a (sym (t .faults) ∙ rw (next, e))
 
     module _ (e : columnFault (col .options .required) (layout col) n c part ≡ Pass) where
