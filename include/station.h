@@ -29,6 +29,7 @@
  *            14                    months, days (i32), nanoseconds (i64)          16
  *            15                    fixed binary                                   width
  *            16                    variable bytes, 0 to 65,535 a slot
+ *            17, 18                i128, i256                                     16, 32
  *
  * n        The count of rows, 0 to 4,096.
  *

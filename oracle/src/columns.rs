@@ -5,9 +5,11 @@ pub const DAY_TIME: u8 = 13;
 pub const MONTH_DAY_NANO: u8 = 14;
 pub const FIXED_BINARY: u8 = 15;
 pub const VARIABLE: u8 = 16;
+pub const I128: u8 = 17;
+pub const I256: u8 = 18;
 
-/// The kinds, 1 to 16.
-pub const KINDS: std::ops::RangeInclusive<u8> = BOOL..=VARIABLE;
+/// The kinds, 1 to 18.
+pub const KINDS: std::ops::RangeInclusive<u8> = BOOL..=I256;
 
 /// One column: its kind, the bytes of a value (0 for variable bytes), its options.
 #[derive(Clone, Copy, Debug, PartialEq, Eq)]
@@ -64,7 +66,8 @@ pub fn value_bytes(kind: u8) -> usize {
         3 | 7 | 10 => 2,
         4 | 8 | 11 => 4,
         5 | 9 | 12 | DAY_TIME => 8,
-        MONTH_DAY_NANO => 16,
+        MONTH_DAY_NANO | I128 => 16,
+        I256 => 32,
         _ => 0,
     }
 }

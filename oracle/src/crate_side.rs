@@ -1,6 +1,6 @@
 //! Tables to rows and back by the crate's own encoders and decoders.
 
-use crate::columns::{Column, BOOL, DAY_TIME, FIXED_BINARY, MONTH_DAY_NANO};
+use crate::columns::{Column, BOOL, DAY_TIME, FIXED_BINARY, I128, I256, MONTH_DAY_NANO};
 use crate::table::Table;
 use arrow_row::driver::{self, Array, Field, Kind, SheetSlot};
 use arrow_schema::SortOptions;
@@ -29,6 +29,8 @@ fn kind(column: Column) -> Kind {
         12 => Kind::Float64,
         DAY_TIME => Kind::DayTime,
         MONTH_DAY_NANO => Kind::MonthDayNano,
+        I128 => Kind::Decimal128,
+        I256 => Kind::Decimal256,
         FIXED_BINARY => Kind::FixedBinary(column.width as i32),
         _ => Kind::Binary,
     }

@@ -2,7 +2,7 @@
 //! numbers here are copied from the document.
 
 use crate::call::{eights, numbers, Call};
-use crate::columns::{Column, VARIABLE};
+use crate::columns::{Column, I128, I256, VARIABLE};
 use crate::crate_side;
 use crate::hex::hex;
 use crate::judge::Judge;
@@ -12,8 +12,8 @@ use crate::table::{Slot, Table};
 /// A kind with its options, a value's bytes in the sheet (none: null), and the field.
 type Written = (u8, u8, Option<&'static [u8]>, &'static [u8]);
 
-/// Lines 1 to 9 of the table.
-const FIELDS: [Written; 15] = [
+/// Lines 1 to 9 of the table; and -1 in the kinds of document 02.
+const FIELDS: [Written; 19] = [
     (4, 2, Some(&[0xFF; 4]), &[0x01, 0x7F, 0xFF, 0xFF, 0xFF]),
     (4, 3, Some(&[0xFF; 4]), &[0x01, 0x80, 0x00, 0x00, 0x00]),
     (3, 1, None, &[0xFF, 0x00, 0x00]),
@@ -54,7 +54,25 @@ const FIELDS: [Written; 15] = [
         &[0xFD, 0x9E, 0xFF, 0xFF, 0xFF, 0xFF, 0xFF, 0xFF, 0xFF, 0xFE],
     ),
     (VARIABLE, 0, None, &[0xFF]),
+    (I128, 2, Some(&[0xFF; 16]), &minus_one::<17>(0xFF)),
+    (I128, 3, Some(&[0xFF; 16]), &minus_one::<17>(0x00)),
+    (I256, 2, Some(&[0xFF; 32]), &minus_one::<33>(0xFF)),
+    (I256, 1, None, &null_last::<33>()),
 ];
+
+/// 01, then bytes that are all this one but for the top bit.
+const fn minus_one<const N: usize>(byte: u8) -> [u8; N] {
+    let mut field = [byte; N];
+    (field[0], field[1]) = (1, byte ^ 0x80);
+    field
+}
+
+/// FF, then zeros.
+const fn null_last<const N: usize>() -> [u8; N] {
+    let mut field = [0; N];
+    field[0] = 0xFF;
+    field
+}
 
 /// A length, the bytes of its field, and some places in it with the bytes there.
 type Ended = (usize, usize, &'static [(usize, u8)]);

@@ -1,6 +1,8 @@
 //! Tables to try: every kind, lengths and row counts around each boundary, values around each edge.
 
-use crate::columns::{Column, BOOL, DAY_TIME, FIXED_BINARY, KINDS, MONTH_DAY_NANO, VARIABLE};
+use crate::columns::{
+    Column, BOOL, DAY_TIME, FIXED_BINARY, I128, I256, KINDS, MONTH_DAY_NANO, VARIABLE,
+};
 use crate::rng::Rng;
 use crate::table::{Slot, Table};
 
@@ -53,13 +55,14 @@ pub fn every_column(options: u8) -> Vec<Column> {
     columns.chain(binary).collect()
 }
 
-/// The first kinds, up to `last`, side by side.
-pub fn first_columns(last: u8, options: u8) -> Vec<Column> {
+/// So many kinds side by side, from `first` on; the first kind comes after the last.
+pub fn columns_from(first: u8, count: usize, options: u8) -> Vec<Column> {
     let column = |kind| match kind {
         FIXED_BINARY => Column::fixed_binary(3, options),
         _ => Column::new(kind, options),
     };
-    (1..=last).map(column).collect()
+    let kinds = KINDS.cycle().skip(first as usize - 1);
+    kinds.take(count).map(column).collect()
 }
 
 /// A table of one column.
@@ -125,6 +128,7 @@ fn value(rng: &mut Rng, column: Column, lengths: &[usize]) -> Vec<u8> {
         10..=12 => float(rng, column.width),
         DAY_TIME => [number(rng, 4), number(rng, 4)].concat(),
         MONTH_DAY_NANO => [number(rng, 4), number(rng, 4), number(rng, 8)].concat(),
+        I128 | I256 => wide_number(rng, column.width),
         _ => number(rng, column.width),
     }
 }
@@ -147,6 +151,43 @@ fn number(rng: &mut Rng, width: usize) -> Vec<u8> {
         false => rng.word(),
     };
     number.to_le_bytes()[..width].to_vec()
+}
+
+/// A number of some words, low byte first: any, or around zero, at an extreme or at the boundary of a
+/// word. Each is a power of two or 0, negated or not, one less or more or as it is.
+fn wide_number(rng: &mut Rng, width: usize) -> Vec<u8> {
+    if rng.once_in(4) {
+        return rng.bytes(width);
+    }
+    let words = width / 8;
+    let mut number = vec![0u64; words];
+    match rng.below(4) {
+        0 => {}
+        1 => number[words - 1] = 1 << 63,
+        2 => number[rng.below(words)] = 1,
+        _ => number[rng.below(words)] = 1 << rng.below(64),
+    }
+    if rng.once_in(2) {
+        number.iter_mut().for_each(|word| *word = !*word);
+        add(&mut number, 1);
+    }
+    match rng.below(3) {
+        0 => add(&mut number, 1),
+        1 => add(&mut number, u64::MAX),
+        _ => {}
+    }
+    number.iter().flat_map(|word| word.to_le_bytes()).collect()
+}
+
+/// Adds a word of sign to a number of some words, low word first, modulo its size.
+fn add(number: &mut [u64], signed: u64) {
+    let more = (signed as i64 >> 63) as u64;
+    let mut carry = false;
+    for (i, word) in number.iter_mut().enumerate() {
+        let (sum, first) = word.overflowing_add(if i == 0 { signed } else { more });
+        let (sum, second) = sum.overflowing_add(carry as u64);
+        (*word, carry) = (sum, first || second);
+    }
 }
 
 /// A float's bits: any, or zero, the smallest, one, infinity or a NaN, of either sign.
@@ -178,7 +219,7 @@ fn float(rng: &mut Rng, width: usize) -> Vec<u8> {
 /// Any column; a tall table gets no wide one.
 fn any_column(rng: &mut Rng, tall: bool) -> Column {
     let options = rng.below(4) as u8;
-    let kind = rng.below(16) as u8 + 1;
+    let kind = rng.below(*KINDS.end() as usize) as u8 + 1;
     match rng.pick(&[VARIABLE, kind, kind]) {
         FIXED_BINARY if tall => Column::fixed_binary(rng.pick(&WIDTHS[..4]), options),
         FIXED_BINARY if rng.once_in(8) => Column::fixed_binary(rng.below(1025), options),

@@ -1,7 +1,7 @@
 //! Document 01 as a plain program, written from the document: slow, and easy to hold against it.
 
 use crate::columns::{
-    value_bytes, Column, BOOL, DAY_TIME, FIXED_BINARY, KINDS, MONTH_DAY_NANO, VARIABLE,
+    value_bytes, Column, BOOL, DAY_TIME, FIXED_BINARY, I128, I256, KINDS, MONTH_DAY_NANO, VARIABLE,
 };
 use crate::table::{Slot, Table};
 
@@ -197,7 +197,7 @@ fn turned(
     float: fn(&[u8]) -> Vec<u8>,
 ) -> Vec<u8> {
     match column.kind {
-        2..=5 => signed(bytes),
+        2..=5 | I128 | I256 => signed(bytes),
         6..=9 => unsigned_key(bytes),
         10..=12 => float(bytes),
         DAY_TIME => each_part(&[4, 4], bytes, signed),
@@ -518,7 +518,7 @@ mod tests {
     fn a_list_is_read_left_to_right() {
         assert_eq!(refused(read_list(&[])), [1, 0, 0]);
         assert_eq!(refused(read_list(&[4, 0, 16])), [1, 2, 0]);
-        assert_eq!(refused(read_list(&[17])), [2, 0, 0]);
+        assert_eq!(refused(read_list(&[19])), [2, 0, 0]);
         assert_eq!(refused(read_list(&[1, 0, 15, 4, 1, 4])), [3, 2, 0]);
         assert_eq!(refused(read_list(&[15, 0, 1, 4])), [4, 0, 0]);
         assert_eq!(

@@ -1,6 +1,6 @@
 //! The order of values, from document 01's sentence on it.
 
-use crate::columns::{Column, BOOL, DAY_TIME, FIXED_BINARY, MONTH_DAY_NANO, VARIABLE};
+use crate::columns::{Column, BOOL, DAY_TIME, FIXED_BINARY, I128, I256, MONTH_DAY_NANO, VARIABLE};
 use crate::table::Table;
 use std::cmp::Ordering;
 
@@ -37,6 +37,7 @@ fn value_order(kind: u8, a: &[u8], b: &[u8]) -> Ordering {
         12 => f64::total_cmp(&f64::from_bits(unsigned(a)), &f64::from_bits(unsigned(b))),
         DAY_TIME => parts(&[4, 4], a).cmp(&parts(&[4, 4], b)),
         MONTH_DAY_NANO => parts(&[4, 4, 8], a).cmp(&parts(&[4, 4, 8], b)),
+        I128 | I256 => halves(a).cmp(&halves(b)),
         _ => f16_rank(a).cmp(&f16_rank(b)),
     }
 }
@@ -48,6 +49,13 @@ fn unsigned(bytes: &[u8]) -> u64 {
 fn signed(bytes: &[u8]) -> i64 {
     let spare = 64 - 8 * bytes.len();
     ((unsigned(bytes) << spare) as i64) >> spare
+}
+
+/// A number of 16 or 32 bytes: its last sixteen, signed, and those before them, unsigned.
+fn halves(bytes: &[u8]) -> (i128, u128) {
+    let (low, high) = bytes.split_at(bytes.len() - 16);
+    let low = low.iter().rev().fold(0, |x, b| x << 8 | *b as u128);
+    (i128::from_le_bytes(high.try_into().expect("sixteen")), low)
 }
 
 fn parts(widths: &[usize], bytes: &[u8]) -> Vec<i64> {

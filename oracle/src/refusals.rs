@@ -20,7 +20,7 @@ pub fn lists(judge: &mut Judge) {
     }
     let faults: [&[u8]; 10] = [
         &[0, 0],
-        &[17, 0],
+        &[19, 0],
         &[1, 4],
         &[1],
         &[FIXED_BINARY, 0, 0],
@@ -54,7 +54,7 @@ pub fn rows(judge: &mut Judge, rng: &mut Rng) {
             };
             for length in lengths {
                 for nulls in [Nulls::None, Nulls::All] {
-                    if column.width <= 16 {
+                    if column.width <= 32 {
                         let table = make::one_column(rng, column, 1, nulls, &[*length]);
                         every_change_to_row(judge, &Good::of(&table));
                     }
@@ -102,7 +102,7 @@ pub fn long_values(judge: &mut Judge) {
 pub fn sheets(judge: &mut Judge, rng: &mut Rng) {
     for column in make::every_column(2) {
         for rows in [0, 1, 3, 8] {
-            judge.progress("damaged sheets", column.kind as usize, 16);
+            judge.progress("damaged sheets", column.kind as usize, 18);
             if column.width <= 16 {
                 let table = make::one_column(rng, column, rows, Nulls::Random, &[0, 1, 9]);
                 every_change_to_sheet(judge, &Good::of(&table));

@@ -39,7 +39,7 @@ fn tables(rng: &mut Rng) -> Vec<Table> {
     let mut tables = Vec::new();
     for options in make::OPTIONS {
         let columns = make::every_column(options).into_iter();
-        for column in columns.filter(|column| column.width <= 16) {
+        for column in columns.filter(|column| column.width <= 32) {
             for nulls in [Nulls::None, Nulls::Alternating] {
                 tables.push(make::one_column(rng, column, 3, nulls, &[0, 1, 8, 9]));
             }
@@ -75,8 +75,8 @@ fn tables(rng: &mut Rng) -> Vec<Table> {
         let column = Column::fixed_binary(model::MAX_WIDTH, 1);
         tables.push(make::one_column(rng, column, 1, nulls, &[]));
     }
-    for last in 1..=16 {
-        let columns = make::first_columns(last, last % 4);
+    for count in 1..=16 {
+        let columns = make::columns_from(count, count as usize, count % 4);
         tables.push(make::table_with(rng, 2, columns, Nulls::Random, &[0, 1, 9]));
     }
     tables
@@ -86,7 +86,7 @@ fn tables(rng: &mut Rng) -> Vec<Table> {
 fn lists() -> Vec<Call> {
     let faults: [&[u8]; 7] = [
         &[0, 0],
-        &[17, 0],
+        &[19, 0],
         &[1],
         &[FIXED_BINARY, 0, 0],
         &[1, 4],

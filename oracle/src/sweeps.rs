@@ -60,10 +60,10 @@ pub fn slices(judge: &mut Judge, rng: &mut Rng) {
     }
 }
 
-/// Tables of the first one to sixteen kinds together, then random ones.
+/// Tables of one to sixteen kinds together, then random ones.
 pub fn tables(judge: &mut Judge, rng: &mut Rng, count: usize) {
-    for last in 1..=16 {
-        let columns = make::first_columns(last, last % 4);
+    for count in 1..=16 {
+        let columns = make::columns_from(count, count as usize, count % 4);
         judge.table(&make::table_of(rng, 17, columns));
     }
     for i in 0..count {
@@ -72,13 +72,15 @@ pub fn tables(judge: &mut Judge, rng: &mut Rng, count: usize) {
     }
 }
 
-/// As many rows as there may be, of all kinds together: what every entry takes of its stack then is
+/// As many rows as there may be, of sixteen kinds together, and of all in two tables: what every entry takes of its stack then is
 /// seen in the end ([`crate::stack`]).
 pub fn full(judge: &mut Judge, rng: &mut Rng) {
     for options in make::OPTIONS {
         judge.progress("4,096 rows", options as usize, 4);
-        let columns = make::first_columns(16, options);
-        judge.table(&make::table_of(rng, MAX_ROWS as usize, columns));
+        for first in [1, 3] {
+            let columns = make::columns_from(first, 16, options);
+            judge.table(&make::table_of(rng, MAX_ROWS as usize, columns));
+        }
     }
 }
 

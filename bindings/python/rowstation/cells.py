@@ -179,6 +179,7 @@ def _read_text(kind: Kind, cell: str) -> str:
 FORMS: Dict[str, Form] = {
     "bool": Form(_read_bool, _write_bools),
     "integer": Form(_read_integer, _write_plainly, _quick_integers),
+    "long": Form(_read_integer, _write_plainly, _quick_integers),
     "float": Form(_read_float, _write_floats, _quick_floats),
     "parts": Form(_read_interval, _write_intervals, _quick_intervals),
     "bytes": Form(_read_hex, _write_hex),

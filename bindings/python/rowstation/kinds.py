@@ -50,6 +50,9 @@ _TABLE = (
     Kind("fixed", 15, "wide", "bytes", "bytes, as many as the width says, 0 to 1,024: fixed:16 has sixteen"),
     Kind("bytes", 16, "ended", "bytes", "bytes, 0 to 65,535"),
     Kind("text", 16, "ended", "text", "text, as its UTF-8 bytes, 0 to 65,535"),
+    # numpy has no integers so long: in a sheet they are bytes, and for Python its own integers.
+    Kind("i128", 17, "wide", "long", "signed number of 128 bits", np.dtype("V16")),
+    Kind("i256", 18, "wide", "long", "signed number of 256 bits", np.dtype("V32")),
 )
 
 #: Every kind by its name. ``bytes`` and ``text`` are one kind of the station: they differ in what Python and CSV see of it.

@@ -46,7 +46,7 @@ def _plate(dust: Dust, plate: str) -> Tuple[str, np.ndarray]:
 def _axis(dust: Dust, name: str, points: np.ndarray) -> Tuple[np.ndarray, List[str]]:
     """Where points stand along a column: numbers as they are, others in lanes in the order of rows, with their labels."""
     values = dust.points[name]
-    if dust.schema[name].kind.family in ("integer", "float"):
+    if dust.schema[name].kind.family in ("integer", "long", "float"):
         numbers = np.ma.filled(values[points].astype(float), np.nan)
         if np.isnan(numbers).any():
             raise NoPicture(f"column {name} has values here that are no numbers to draw")

@@ -91,6 +91,10 @@ class Taker:
             return ByteColumn(*pieces.concatenated(values), mask, column.kind.family == "text")
         if column.kind is FIXED:
             return ByteColumn(values.reshape(-1), np.arange(len(values) + 1) * column.width, mask)
+        if column.kind.family == "long":
+            numbers = np.empty(len(values), object)
+            numbers[:] = [int.from_bytes(value, "little", signed=True) for value in values.tolist()]
+            return np.ma.MaskedArray(numbers, mask)
         if column.kind.dtype.names:
             parts = np.empty(len(values), np.ma.make_mask_descr(column.kind.dtype))
             for name in column.kind.dtype.names:

@@ -205,6 +205,20 @@ def _integers(column: Column, values: Any, mask: Optional[np.ndarray]) -> np.nda
     return array.astype(column.kind.dtype)
 
 
+def _long_integers(column: Column, values: Any, mask: Optional[np.ndarray]) -> np.ndarray:
+    """The same of the kinds that numpy has not: each number as its bytes, low byte first."""
+    width = column.kind.dtype.itemsize
+    most = (1 << 8 * width - 1) - 1
+    out = []
+    for row, value in enumerate(_numbers(column, values, mask).tolist()):
+        if not _whole(value):
+            raise _no(column, row, value)
+        if not -most - 1 <= int(value) <= most:
+            raise _no(column, row, value, f"does not fit {column.kind.name}, {-most - 1} to {most}")
+        out.append(int(value).to_bytes(width, "little", signed=True))
+    return np.frombuffer(b"".join(out), column.kind.dtype)
+
+
 def _floats(column: Column, values: Any, mask: Optional[np.ndarray]) -> np.ndarray:
     """Floats of any width, rounded to the kind's own, and integers that it has exactly."""
     array = _numbers(column, values, mask)
@@ -317,6 +331,7 @@ class Family(NamedTuple):
 FAMILIES: Dict[str, Family] = {
     "bool": Family(_bools, lambda column: False),
     "integer": Family(_integers, lambda column: 0),
+    "long": Family(_long_integers, lambda column: 0),
     "float": Family(_floats, lambda column: 0.0),
     "parts": Family(_parts, lambda column: (0,) * len(column.kind.dtype.names)),
     "bytes": Family(_bytes, lambda column: bytes(column.width)),

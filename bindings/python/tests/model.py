@@ -12,6 +12,9 @@ STRUCTS = {
 }
 
 
+LONG = {"i128": 16, "i256": 32}
+
+
 def value_bytes(column: Column, value) -> bytes:
     """The value bytes of a field of a fixed kind, ascending."""
     name = column.kind.name
@@ -24,6 +27,9 @@ def value_bytes(column: Column, value) -> bytes:
         return bytes(b ^ 0xFF for b in data) if data[0] & 0x80 else bytes([data[0] ^ 0x80]) + data[1:]
     if name[0] == "u":
         return struct.pack(">" + STRUCTS[name], value)
+    if name in LONG:
+        data = value.to_bytes(LONG[name], "big", signed=True)
+        return bytes([data[0] ^ 0x80]) + data[1:]
     parts = value if isinstance(value, tuple) else (value,)
     out = b""
     for code, part in zip(STRUCTS[name], parts):
@@ -69,6 +75,9 @@ def some_value(rnd: random.Random, column: Column):
         return bytes(rnd.choice([0, 1, 97, 255]) for _ in range(length))
     if name[0] == "f":
         return rnd.choice([0.0, -0.0, 1.5, -1.5, 2.0**-14, 1024.0, -65504.0, float("inf"), float("-inf")])
+    if name in LONG:
+        top = 1 << 8 * LONG[name] - 1
+        return rnd.choice([-top, 1 - top, -1 << 64, -1, 0, 1, (1 << 64) - 1, 1 << 64, 1 << 127 if LONG[name] > 16 else 5, top - 1])
     codes = STRUCTS[name]
     parts = []
     for code in codes:

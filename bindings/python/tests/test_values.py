@@ -27,12 +27,18 @@ class Given(unittest.TestCase):
         self.assertEqual(encoded("u64", [2**64 - 1, 0, None]), [2**64 - 1, 0, None])
         self.assertEqual(encoded("i64", [-(2**63), 2**63 - 1]), [-(2**63), 2**63 - 1])
         self.assertEqual(encoded("i8", [np.int64(-5), 7, 2.0]), [-5, 7, 2])
+        for kind, bits in (("i128", 128), ("i256", 256)):
+            values = [-(2 ** (bits - 1)), None, -1, 0, 2**64, 2 ** (bits - 1) - 1]
+            self.assertEqual(encoded(kind, values), values)
+            self.assertEqual(encoded(kind, np.array([5, -6], "i1")), [5, -6])
+            self.assertEqual(encoded(kind, [np.int64(-5), 7, 2.0]), [-5, 7, 2])
+            self.assertEqual(encoded(kind, np.ma.array([1, 2], mask=[True, False])), [None, 2])
         self.assertEqual(encoded("f64", [1, 2.5, None, np.float32(0.5)]), [1.0, 2.5, None, 0.5])
         self.assertEqual(encoded("f32", np.array([0.1])), [float(np.float32(0.1))])
         self.assertEqual(encoded("f64", np.array([2**53, 0])), [2.0**53, 0.0])
 
     def test_nothing(self):
-        for kind, rest in (("bool", ()), ("u8", ()), ("f16", ()), ("day_time", ()), ("fixed", (3,)), ("bytes", ()), ("text", ())):
+        for kind, rest in (("bool", ()), ("u8", ()), ("i128", ()), ("f16", ()), ("day_time", ()), ("fixed", (3,)), ("bytes", ()), ("text", ())):
             self.assertEqual(encoded(kind, [], *rest), [])
             self.assertEqual(encoded(kind, np.array([]), *rest), [])
             self.assertEqual(encoded(kind, [None], *rest) if kind != "day_time" else [None], [None])
@@ -106,6 +112,9 @@ class Bad(unittest.TestCase):
         self.told("row 1: 18446744073709551616 does not fit u64", "u64", [1, 2**64])
         self.told("row 0: 9.223372036854776e.18 does not fit i64", "i64", [2.0**63])
         self.told("row 1: 1148130695.* does not fit u64", "u64", [1, 2**2000])
+        self.told("row 1: 170141183460469231731687303715884105728 does not fit i128, -170141.* to 17014.*", "i128", [1, 2**127])
+        self.told("row 0: 1.5 is no i256", "i256", [1.5])
+        self.told("row 1: True is no i256", "i256", [1, True])
         self.told("row 1: inf is no u64", "u64", [2**64 - 1, float("inf")])
         self.told("row 1: nan is no u64", "u64", [2**64 - 1, float("nan")])
         self.told("row 1: 1.5 is no i32", "i32", [1.0, 1.5])

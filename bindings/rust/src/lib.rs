@@ -89,6 +89,44 @@ pub mod raw {
     }
 }
 
+/// The kinds of columns by name: the first byte of a column in a list.
+///
+/// ```
+/// use station::kind;
+/// // A plate number and two ledger decimals, ascending with nulls first.
+/// let list = [kind::U32, 2, kind::I128, 2, kind::I256, 2];
+/// assert_eq!(station::check_list(&list)?.total, 3);
+/// # Ok::<(), station::Refusal>(())
+/// ```
+pub mod kind {
+    macro_rules! kinds {
+        ($($name:ident $number:literal $words:literal,)*) => {
+            $(#[doc = $words] pub const $name: u8 = $number;)*
+        };
+    }
+
+    kinds! {
+        BOOL 1 "True or false.",
+        I8 2 "A signed number of one byte.",
+        I16 3 "A signed number of two bytes.",
+        I32 4 "A signed number of four bytes.",
+        I64 5 "A signed number of eight bytes.",
+        U8 6 "An unsigned number of one byte.",
+        U16 7 "An unsigned number of two bytes.",
+        U32 8 "An unsigned number of four bytes.",
+        U64 9 "An unsigned number of eight bytes.",
+        F16 10 "A float of two bytes.",
+        F32 11 "A float of four bytes.",
+        F64 12 "A float of eight bytes.",
+        DAY_TIME 13 "Days and milliseconds.",
+        MONTH_DAY_NANO 14 "Months, days and nanoseconds.",
+        FIXED_BINARY 15 "Bytes, as many as the width says that follows the options.",
+        VARIABLE 16 "Bytes, 0 to 65,535.",
+        I128 17 "A signed number of 16 bytes.",
+        I256 18 "A signed number of 32 bytes.",
+    }
+}
+
 /// The bytes of an answer: three numbers of eight bytes.
 pub const ANSWER_BYTES: usize = 24;
 

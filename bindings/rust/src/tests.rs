@@ -41,6 +41,24 @@ fn rows_and_offsets_are_written_and_no_more() {
 }
 
 #[test]
+fn wide_numbers_keep_their_order() {
+    let list = [kind::I128, 2];
+    let values = [i128::MIN, -1, 0, 1 << 64, i128::MAX];
+    let mut sheet = vec![0b11111];
+    values
+        .iter()
+        .for_each(|value| sheet.extend(value.to_le_bytes()));
+    let rows = encode_to_vec(&list, 5, &sheet).unwrap();
+    let all: Vec<&[u8]> = rows.iter().collect();
+    assert!(all.windows(2).all(|pair| compare(pair[0], pair[1]).is_lt()));
+    assert_eq!(all[1], [&[1, 0x7F][..], &[0xFF; 15]].concat());
+    assert_eq!(
+        decode_to_vec(&list, 5, &rows.bytes, &rows.offsets),
+        Ok(sheet)
+    );
+}
+
+#[test]
 fn a_refusal_changes_nothing() {
     let (mut rows, mut offsets) = ([0xAA; 11], [9; 2]);
     let refusal = encode(&NAMES, 2, &A_AND_NULL, &mut rows, &mut offsets);

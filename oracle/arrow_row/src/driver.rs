@@ -59,6 +59,7 @@ macro_rules! for_primitives {
             UInt8 UInt8Type, UInt16 UInt16Type, UInt32 UInt32Type, UInt64 UInt64Type,
             Float16 Float16Type, Float32 Float32Type, Float64 Float64Type,
             DayTime IntervalDayTimeType, MonthDayNano IntervalMonthDayNanoType,
+            Decimal128 Decimal128Type, Decimal256 Decimal256Type,
         }
     };
 }

@@ -1,6 +1,6 @@
 //! Values from and to their bytes in a sheet: low byte first, interval parts in order.
 
-use arrow_buffer::{IntervalDayTime, IntervalMonthDayNano};
+use arrow_buffer::{i256, IntervalDayTime, IntervalMonthDayNano};
 use half::f16;
 
 /// A value of one width.
@@ -23,7 +23,7 @@ macro_rules! number {
     )*};
 }
 
-number!(i8 i16 i32 i64 u8 u16 u32 u64 f32 f64);
+number!(i8 i16 i32 i64 i128 i256 u8 u16 u32 u64 f32 f64);
 
 impl Value for f16 {
     fn from_bytes(bytes: &[u8]) -> Self {

@@ -1,7 +1,7 @@
 //! The station's whole public encode and decode against a plain Rust encoder and decoder made from
 //! the crate's `fixed.rs` and `variable.rs`: 4,096 rows of plate (u32), glyph name (variable, 12
-//! bytes), position (f64) and exposure (months, days, nanoseconds). One input, cleared buffers, the
-//! four works in turn in one run.
+//! bytes), position (f64) and exposure (months, days, nanoseconds); then of two decimals (i128 and
+//! i256). For each one input, cleared buffers, the four works in turn in one run.
 
 use arrow_row::driver::{self, Array, Field};
 use oracle::columns::Column;
@@ -15,9 +15,12 @@ use std::process::{Command, ExitCode};
 use std::time::Instant;
 
 const USAGE: &str = "bench [--rounds N] [--nulls] [--descending] [--callgrind] \
-     [--only rust-encode|station-encode|rust-decode|station-decode]";
+     [--table catalogue|decimals] [--only rust-encode|station-encode|rust-decode|station-decode]";
 const ROWS: usize = 4096;
 const NAME_BYTES: usize = 12;
+
+/// What is encoded and decoded: a name, and the kinds of the columns.
+const TABLES: [(&str, &[u8]); 2] = [("catalogue", &[8, 16, 12, 14]), ("decimals", &[17, 18])];
 
 /// What is measured, each beside the one it is held against.
 const WORKS: [&str; 4] = [
@@ -43,16 +46,11 @@ struct Bench {
     arrays: Vec<Array>,
 }
 
-/// The four columns, with random values.
-fn catalogue(options: u8, nulls: Nulls) -> Table {
-    let columns = [8, 16, 12, 14].map(|kind| Column::new(kind, options));
-    make::table_with(
-        &mut Rng::new(9),
-        ROWS,
-        columns.to_vec(),
-        nulls,
-        &[NAME_BYTES],
-    )
+/// Columns of these kinds, with random values.
+fn table_of(kinds: &[u8], options: u8, nulls: Nulls) -> Table {
+    let columns = kinds.iter().map(|kind| Column::new(*kind, options));
+    let columns = columns.collect();
+    make::table_with(&mut Rng::new(9), ROWS, columns, nulls, &[NAME_BYTES])
 }
 
 impl Bench {
@@ -189,29 +187,40 @@ fn print_pairs(unit: &str, figures: [f64; 4]) {
 
 fn main() -> ExitCode {
     let options = Options::read(USAGE);
+    let wanted = options.word("--table");
+    for (name, kinds) in TABLES {
+        if wanted.is_none_or(|wanted| wanted == name) {
+            measure(&options, name, kinds);
+        }
+    }
+    ExitCode::SUCCESS
+}
+
+/// Times one table, or runs one work on it.
+fn measure(options: &Options, name: &str, kinds: &[u8]) {
     let nulls = match options.has("--nulls") {
         true => Nulls::Random,
         false => Nulls::None,
     };
     let order = if options.has("--descending") { 3 } else { 2 };
-    let table = catalogue(order, nulls);
+    let table = table_of(kinds, order, nulls);
     let mut bench = Bench::new(&table);
     bench.check(&table);
     let rounds = options.number("--rounds").unwrap_or(2001) as usize;
     if let Some(work) = options.word("--only") {
-        (0..rounds).for_each(|_| bench.run(work));
-        return ExitCode::SUCCESS;
+        return (0..rounds).for_each(|_| bench.run(work));
     }
 
     println!(
-        "{ROWS} rows, {} row bytes, medians of {rounds} rounds",
+        "{name}: {ROWS} rows, {} row bytes, medians of {rounds} rounds",
         bench.rows.len()
     );
     let medians = medians(&mut bench, rounds);
     print_pairs("ns a row", medians.map(|ns| ns as f64 / ROWS as f64));
     if options.has("--callgrind") {
         let words = ["--nulls", "--descending"].map(|w| options.has(w).then_some(w));
-        let words: Vec<&str> = words.into_iter().flatten().collect();
+        let words = words.into_iter().flatten().chain(["--table", name]);
+        let words: Vec<&str> = words.collect();
         let counts = WORKS.map(|work| instructions(work, &words));
         match counts.iter().all(Option::is_some) {
             true => print_pairs(
@@ -221,5 +230,4 @@ fn main() -> ExitCode {
             false => println!("callgrind gave no counts; is valgrind there?"),
         }
     }
-    ExitCode::SUCCESS
 }

@@ -1,7 +1,7 @@
 //! The types of arrays.
 
 use crate::OffsetSizeTrait;
-use arrow_buffer::{IntervalDayTime, IntervalMonthDayNano};
+use arrow_buffer::{i256, IntervalDayTime, IntervalMonthDayNano};
 use arrow_schema::DataType;
 use half::f16;
 use std::marker::PhantomData;
@@ -41,6 +41,10 @@ primitive!(
     IntervalMonthDayNano,
     IntervalMonthDayNano
 );
+
+// Precision and scale, which rows say nothing of, are left out.
+primitive!(Decimal128Type, i128, Decimal128);
+primitive!(Decimal256Type, i256, Decimal256);
 
 /// A type of byte strings.
 pub trait ByteArrayType: 'static {

@@ -1,19 +1,61 @@
 //! Numbers that the standard library has not, and offsets.
 
-/// A 256-bit number as its bytes, high byte first. The station has no such kind; the crate's macro
-/// is made for it.
+/// A 256-bit number in two halves, as arrow_buffer has it.
 #[allow(non_camel_case_types)]
-#[derive(Clone, Copy)]
-pub struct i256([u8; 32]);
+#[derive(Clone, Copy, Debug, PartialEq, Eq)]
+pub struct i256 {
+    low: u128,
+    high: i128,
+}
 
 impl i256 {
+    #[inline]
     pub const fn to_be_bytes(self) -> [u8; 32] {
-        self.0
+        joined(self.high.to_be_bytes(), self.low.to_be_bytes())
     }
 
+    #[inline]
     pub const fn from_be_bytes(bytes: [u8; 32]) -> Self {
-        i256(bytes)
+        let (high, low) = halves(bytes);
+        i256 {
+            low: u128::from_be_bytes(low),
+            high: i128::from_be_bytes(high),
+        }
     }
+
+    #[inline]
+    pub const fn to_le_bytes(self) -> [u8; 32] {
+        joined(self.low.to_le_bytes(), self.high.to_le_bytes())
+    }
+
+    #[inline]
+    pub const fn from_le_bytes(bytes: [u8; 32]) -> Self {
+        let (low, high) = halves(bytes);
+        i256 {
+            low: u128::from_le_bytes(low),
+            high: i128::from_le_bytes(high),
+        }
+    }
+}
+
+#[inline]
+const fn joined(first: [u8; 16], second: [u8; 16]) -> [u8; 32] {
+    let (mut bytes, mut i) = ([0; 32], 0);
+    while i < 16 {
+        (bytes[i], bytes[i + 16]) = (first[i], second[i]);
+        i += 1;
+    }
+    bytes
+}
+
+#[inline]
+const fn halves(bytes: [u8; 32]) -> ([u8; 16], [u8; 16]) {
+    let (mut first, mut second, mut i) = ([0; 16], [0; 16], 0);
+    while i < 16 {
+        (first[i], second[i]) = (bytes[i], bytes[i + 16]);
+        i += 1;
+    }
+    (first, second)
 }
 
 /// Days and milliseconds.

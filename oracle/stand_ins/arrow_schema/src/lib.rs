@@ -23,4 +23,6 @@ pub enum DataType {
     Float64,
     IntervalDayTime,
     IntervalMonthDayNano,
+    Decimal128,
+    Decimal256,
 }
