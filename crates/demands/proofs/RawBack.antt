@@ -5,7 +5,7 @@ use mathlib.Core.Path.{_≡_, refl, ap, ap₂, sym, subst, _∙_}
 use mathlib.Core.Bool.{Bool, false, cond}
 use mathlib.Core.Logic.{_⊎_, inl, inr}
 use mathlib.Core.List.{List, [], _∷_, _++_, map}
-use native.Mathlib.Nat.{mod-lt, pow-suc, zero-add}
+use native.Mathlib.Nat.{mod-lt, zero-add}
 use native.Mathlib.Omega.{arith}
 use lib.Dec.{eqb, lit<}
 use lib.ListN.{length, getD, take, drop, length-append, length-take, length-drop, take-append-drop, List·getD-eq-default}
@@ -15,7 +15,8 @@ use Rattle.format.specs.declared.Check.the-variants.{Pass}
 use Rattle.format.specs.declared.Column.{Column}
 use Rattle.format.specs.Limits.{maxSlot}
 use Rattle.format.specs.Lists.{Bytes, each, endsFrom, joined, low, lowBytes}
-use Rattle.format.specs.Kinds.{Shape, columnShape}
+use Rattle.format.specs.Kinds.{Shape, Slot, columnShape}
+use Rattle.format.specs.Fold.{foldedSlot}
 use Rattle.format.specs.Sheet.{Layout, bits, ended, wide, layout, packed, bit, anyBit, spareSet, bitsFault, end, variableFault, valuesFault, valuesBytes, valueAt, columnFault, columnBytes, sheetFaultFrom, sheetFault}
 use Rattle.format.specs.Fits.{Fits, AllSlots}
 use Rattle.format.specs.Cleared.{pack}
@@ -25,6 +26,8 @@ use Rattle.bits.proofs.Bits.{length-pack, bit-pack, bit-take}
 use Rattle.bits.proofs.Flags.{flag-eq}
 use Rattle.bits.proofs.Nulls.{bits-passed}
 use Rattle.basics.proofs.Bytes.{bytes-take, bytes-drop}
+use Rattle.basics.proofs.LowBytes.{lowBytes-low, low-small}
+use Rattle.basics.proofs.Sorts.{foldable}
 use Rattle.basics.proofs.Checks.{enough, both-pass}
 use Rattle.basics.proofs.Compare.{choose}
 use Rattle.basics.proofs.Lists.{each-at, each-same, length-each, map-each}
@@ -122,19 +125,6 @@ parts-back w n s = parts-from w 0 n s ∙ ap (λ (m : ℕ). take (n * w) (drop m
 
 -- ---- variable bytes
 
--- a number is spelled by the bytes that it was read from
-low-back : (x : List ℕ) → Bytes x → lowBytes (length x) (low x) ≡ x
-low-back [] b = refl
-low-back (y ∷ x) b =
-    let now : (y + 256 * low x) % 256 ≡ y = omega (arith, b .0) in
-    let rest : (y + 256 * low x) / 256 ≡ low x = omega (arith, b .0) in
-    ap₂ {C = List ℕ} (λ (a z : ℕ). a ∷ lowBytes (length x) z) now rest ∙ ap (λ (z : List ℕ). y ∷ z) (low-back x (b .1))
-
--- and is one of as many bytes
-low-small : (x : List ℕ) → Bytes x → low x < 256 ^ length x
-low-small [] b = omega arith
-low-small (y ∷ x) b = omega (arith, b .0, low-small x (b .1), pow-suc 256 (length x))
-
 module _ (n c : ℕ) (s : List ℕ) (b : Bytes s) (e : variableFault n c s ≡ Pass) where
   abbrev between : List ℕ
   between = drop (4 * suc n) s
@@ -196,7 +186,7 @@ module _ (n c : ℕ) (s : List ℕ) (b : Bytes s) (e : variableFault n c s ≡ P
       let x : List ℕ = take 4 (drop (i * 4) s) in
       ap (λ (j : ℕ). lowBytes 4 (low (take 4 (drop j s)))) p
       ∙ ap (λ (k : ℕ). lowBytes k (low x)) (sym (four i l))
-      ∙ low-back x (bytes-take 4 (drop (i * 4) s) (bytes-drop (i * 4) s b))
+      ∙ lowBytes-low x (bytes-take 4 (drop (i * 4) s) (bytes-drop (i * 4) s b))
 
   -- the last end is one of four bytes, and so is what the column holds
   past-small : length before + length (joined values) < 256 ^ 4
@@ -242,7 +232,7 @@ column-back q ly n c s b e =
     (ap (standing ly n (beforeFirst ly n rest)) (map-each (λ (r : Raw). r .bytes) 0 n (rawAt ly n s)) ∙ values-back ly n c rest (bytes-drop (packed n) s b) (p .1))
     ∙ sym (take-add (packed n) (valuesBytes ly n rest) s)
 
-raws-fit : (sh : Shape) (i k : ℕ) (f : ℕ → Raw) → ((j : ℕ) → i ≤ j → j < i + k → Fits maxSlot sh (f j .bytes)) → AllRaw sh (each i k f)
+raws-fit : (sh : Shape) (i k : ℕ) (f : ℕ → Raw) → ((j : ℕ) → i ≤ j → j < i + k → Fits maxSlot sh false (f j .bytes)) → AllRaw sh (each i k f)
 raws-fit sh i zero f h = tt
 raws-fit sh i (suc k) f h = (h i (omega arith) (omega arith), raws-fit sh (suc i) k f (λ j a b. h j (omega arith) (omega arith)))
 
@@ -282,8 +272,8 @@ back-from n c at (col ∷ cols) s b e =
         record {
           many = length-each 0 n (rawAt (layout col) n s);
           all = raws-fit (columnShape col) 0 n (rawAt (layout col) n s) (λ j x y. value-fits (columnShape col) n c v vb passed j (omega arith));
-          fit = subst (AllSlots (columnShape col) (col .options)) (sym (map-each slotOf 0 n (rawAt (layout col) n s)))
-              (column-fits (columnShape col) (col .options) n c s b q);
+          fit = subst (λ (ss : List Slot). AllSlots (columnShape col) (col .options) (map (foldedSlot (columnShape col) (col .options)) ss))
+              (sym (map-each slotOf 0 n (rawAt (layout col) n s))) (column-fits (columnShape col) (col .options) n c s (foldable (col .kind)) b q);
           below = before-bytes (layout col) n v vb;
           end-fits = subst (EndFits (layout col) (beforeFirst (layout col) n v)) (sym (map-each (λ (r : Raw). r .bytes) 0 n (rawAt (layout col) n s)))
               (end-fits (layout col) n c v vb passed);

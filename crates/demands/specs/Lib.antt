@@ -4,3 +4,4 @@ pub mod Raw
 pub mod RoundTrip
 pub mod Order
 pub mod Slices
+pub mod Folded
