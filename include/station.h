@@ -17,8 +17,8 @@
  * does not read what rows and offsets hold.
  *
  * list     For each column a byte of kind and a byte of options, and for kind 15 also the width in two
- *          bytes, low byte first (0 to 1,024). Options: bit 0 descending, bit 1 nulls first, the others
- *          zero. 1 to 16 columns.
+ *          bytes, low byte first (0 to 1,024). Options: bit 0 descending, bit 1 nulls first, bit 2 required
+ *          (no slot is null), the others zero. 1 to 16 columns.
  *
  *            kind                  values                                         value bytes
  *            1                     bool                                           1
@@ -47,7 +47,7 @@
  * offsets  n+1 numbers of eight bytes, low byte first: 0, then each row's end. A length that is no multiple
  *          of eight leaves a tail that does not count and stays.
  *
- * answer   Three numbers of eight bytes, low byte first, so 24 bytes; a shorter answer, and no lent byte
+ * answer   Four numbers of eight bytes, low byte first, so 32 bytes; a shorter answer, and no lent byte
  *          changes. The first is 0 for done, and else the number of the refusal:
  *
  *            0   done                                       total, null slots
@@ -76,8 +76,14 @@
  *            22  bytes after the last field                 row, column count
  *            23  value over 65,535                          row, column
  *            24  sheet buffer too small                     bytes needed, 0
+ *            27  null in a required column                  column, first null row
  *
- *          On a refusal only these 24 bytes change. On success the bytes past the written part stay.
+ *          The fourth number is the place of a byte in the row, counted from the row's start, for 16 to 23:
+ *          of 16 the first byte missing, so the row's length; of 17 the lead byte; of 18 and 21 the
+ *          first byte that is not zero; of 19 the bool; of 20 and 23 the end byte of the block; of 22 the
+ *          first byte after the last field; It is 0 for all other answers.
+ *
+ *          On a refusal only these 32 bytes change. On success the bytes past the written part stay.
  */
 #ifndef STATION_H
 #define STATION_H
@@ -89,7 +95,7 @@
 extern "C" {
 #endif
 
-enum { STATION_ANSWER_BYTES = 24 };
+enum { STATION_ANSWER_BYTES = 32 };
 
 /* The most bytes of stack that a call takes, from its return address down, whatever it is given. What the C
  * library's memcpy and memset take of it is counted. */

@@ -33,8 +33,8 @@ static uint64_t number(const uint8_t *bytes, size_t i) {
 /* Whether the call was done; says what was refused if not. */
 static int done(const char *call, const uint8_t *answer) {
     if (number(answer, 0) == 0) return 1;
-    printf("%s: refused %" PRIu64 " %" PRIu64 " %" PRIu64 "\n", call, number(answer, 0), number(answer, 1),
-           number(answer, 2));
+    printf("%s: refused %" PRIu64 " %" PRIu64 " %" PRIu64 " %" PRIu64 "\n", call, number(answer, 0), number(answer, 1),
+           number(answer, 2), number(answer, 3));
     return 0;
 }
 

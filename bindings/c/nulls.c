@@ -21,11 +21,11 @@ static uint64_t number(size_t i) {
     return value;
 }
 
-/* Holds the answer to three numbers, and forgets it. */
+/* Holds the answer to three numbers and a fourth that is 0, and forgets it. */
 static void hold(const char *call, uint64_t first, uint64_t second, uint64_t third) {
-    if (number(0) != first || number(1) != second || number(2) != third) {
-        printf("%s: %llu %llu %llu\n", call, (unsigned long long)number(0), (unsigned long long)number(1),
-               (unsigned long long)number(2));
+    if (number(0) != first || number(1) != second || number(2) != third || number(3) != 0) {
+        printf("%s: %llu %llu %llu %llu\n", call, (unsigned long long)number(0), (unsigned long long)number(1),
+               (unsigned long long)number(2), (unsigned long long)number(3));
         wrong = 1;
     }
     memset(answer, 0xA5, sizeof answer);

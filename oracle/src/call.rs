@@ -160,27 +160,27 @@ impl Call {
     fn said(&self) -> Checked<(Numbers, Vec<Vec<u8>>)> {
         let given = |i: usize| self.given[i].as_slice();
         Ok(match self.entry {
-            Entry::Compare => ([0; 3], vec![]),
+            Entry::Compare => ([0; 4], vec![]),
             Entry::CheckList => {
                 let columns = model::read_list(given(0))?;
-                ([0, columns.len() as u64, 0], vec![])
+                ([0, columns.len() as u64, 0, 0], vec![])
             }
             Entry::Measure => {
                 let measured = model::measure(given(0), self.n, given(1))?;
-                ([0, measured.total, measured.nulls], vec![])
+                ([0, measured.total, measured.nulls, 0], vec![])
             }
             Entry::Encode => {
                 let offset_room = self.lent[1] / 8;
                 let encoded = model::encode(given(0), self.n, given(1), self.lent[0], offset_room)?;
                 let total = encoded.rows.len() as u64;
                 let written = vec![encoded.rows, eights(&encoded.offsets)];
-                ([0, total, encoded.nulls], written)
+                ([0, total, encoded.nulls, 0], written)
             }
             Entry::Decode => {
                 let offsets = numbers(given(2));
                 let decoded = model::decode(given(0), self.n, given(1), &offsets, self.lent[0])?;
                 let total = decoded.sheet.len() as u64;
-                ([0, total, decoded.nulls], vec![decoded.sheet])
+                ([0, total, decoded.nulls, 0], vec![decoded.sheet])
             }
         })
     }
@@ -284,7 +284,7 @@ impl Exit {
     /// Whether nothing but the answer may have been written: a refusal, or an answer that is too short.
     pub fn is_refusal(&self) -> bool {
         match numbers(&self.answer)[..] {
-            [number, _, _, ..] => number != 0,
+            [number, _, _, _, ..] => number != 0,
             _ => true,
         }
     }

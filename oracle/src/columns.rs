@@ -18,6 +18,8 @@ pub struct Column {
     pub width: usize,
     pub descending: bool,
     pub nulls_first: bool,
+    /// No slot may be null.
+    pub required: bool,
 }
 
 impl Column {
@@ -36,12 +38,13 @@ impl Column {
             width,
             descending: options & 1 != 0,
             nulls_first: options & 2 != 0,
+            required: options & 4 != 0,
         }
     }
 
-    /// The options byte: bit 0 descending, bit 1 nulls first.
+    /// The options byte: bit 0 descending, bit 1 nulls first, bit 2 required.
     pub fn options(&self) -> u8 {
-        self.descending as u8 | (self.nulls_first as u8) << 1
+        self.descending as u8 | (self.nulls_first as u8) << 1 | (self.required as u8) << 2
     }
 
     /// The column's bytes in a list: kind, options, and for fixed binary the width.

@@ -133,7 +133,7 @@ pub fn encode(rng: &mut Rng, good: &Good) -> Call {
                 let which = rng.below(2);
                 call.lent[which] = change_room(rng, call.lent[which]);
             }
-            3 if rng.once_in(4) => call.answer = rng.below(40),
+            3 if rng.once_in(4) => call.answer = rng.below(48),
             _ => change(rng, &mut call.given[1]),
         }
     }
@@ -154,7 +154,7 @@ pub fn decode(rng: &mut Rng, good: &Good) -> Call {
             0 => change(rng, &mut call.given[0]),
             1 => call.n = change_number(rng, call.n),
             2 => call.lent[0] = change_room(rng, call.lent[0]),
-            3 if rng.once_in(4) => call.answer = rng.below(40),
+            3 if rng.once_in(4) => call.answer = rng.below(48),
             4 | 5 => change_offsets(rng, &mut call.given[2]),
             _ => change(rng, &mut call.given[1]),
         }

@@ -87,13 +87,25 @@ const LENGTHS: [Ended; 6] = [
     (65_535, 67_588, &[(67_587, 31)]),
 ];
 
-/// Rows of one variable column, nulls first, and what is wrong with them.
-const DAMAGED: [(&[u8], u64); 5] = [
-    (&[3], 17),
-    (&[2], 16),
-    (&[2, 0x61, 0, 0, 0, 0, 0, 0, 0, 9], 20),
-    (&[2, 0x61, 0, 0, 0, 0, 0, 0, 0, 0], 20),
-    (&[2, 0x61, 0, 0, 0, 0, 0, 0, 1, 1], 21),
+/// Rows of one variable column, nulls first, what is wrong with them, and at which byte.
+const DAMAGED: [(&[u8], u64, u64); 7] = [
+    (&[3], 17, 0),
+    (&[2], 16, 1),
+    (&[2, 0x61, 0, 0, 0, 0, 0, 0, 0, 9], 20, 9),
+    (&[2, 0x61, 0, 0, 0, 0, 0, 0, 0, 0], 20, 9),
+    (&[2, 0x61, 0, 0, 0, 0, 0, 0, 1, 1], 21, 8),
+    (&[2, 0x61, 0, 0, 7, 0, 0, 0, 1, 1], 21, 4),
+    (&[2, 0x61, 0, 0, 0, 0, 0, 0, 0], 16, 9),
+];
+
+/// A required column with a null byte, and rows of it that begin with that byte.
+const MISSING: [([u8; 2], &[u8]); 6] = [
+    ([6, 4], &[0xFF, 0]),
+    ([6, 6], &[0x00, 0]),
+    ([6, 5], &[0xFF]),
+    ([VARIABLE, 4], &[0xFF]),
+    ([VARIABLE, 5], &[0xFF]),
+    ([VARIABLE, 7], &[0x00]),
 ];
 
 /// A table of one column.
@@ -146,14 +158,27 @@ fn hold_lengths(judge: &mut Judge) {
 
 fn hold_refusals(judge: &mut Judge) {
     let list = Column::new(VARIABLE, 2).description();
-    for (row, number) in DAMAGED {
+    for (row, number, place) in DAMAGED {
         let offsets = eights(&[0, row.len() as u64]);
         let call = Call::decode(&list, 1, row, &offsets, 64);
-        hold_numbers(judge, call, [number, 0, 0]);
+        hold_numbers(judge, call, [number, 0, 0, place]);
+    }
+    for (list, row) in MISSING {
+        let call = Call::decode(&list, 1, row, &eights(&[0, row.len() as u64]), 64);
+        hold_numbers(judge, call, [17, 0, 0, 0]);
+    }
+    // Null in row 1 of column 1; the values may be cut, and a spare bit comes first.
+    for (bits, number) in [(0b101, 27), (0b1101, 8)] {
+        for values in [&[5, 6, 7][..], &[]] {
+            let sheet = [&[0b111, 1, 2, 3, bits], values].concat();
+            let call = Call::encode(&[6, 2, 6, 6], 3, &sheet, 100, 32);
+            let row = if number == 27 { 1 } else { 0 };
+            hold_numbers(judge, call, [number, 1, row, 0]);
+        }
     }
     let long = one_slot_each(Column::new(VARIABLE, 2), &[Some(&[0; 65_536])]);
     let call = Call::encode(&list, 1, &long.sheet(), 100_000, 16);
-    hold_numbers(judge, call, [10, 0, 0]);
+    hold_numbers(judge, call, [10, 0, 0, 0]);
 }
 
 /// The model says these numbers, and the station what the model says.

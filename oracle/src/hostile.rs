@@ -93,7 +93,7 @@ pub fn call(rng: &mut Rng) -> Call {
         _ => noisy(rng, entry),
     };
     if rng.once_in(10) {
-        call.answer = rng.below(48);
+        call.answer = rng.below(56);
     }
     call
 }

@@ -12,8 +12,8 @@ use crate::yard::Yard;
 use std::process::ExitCode;
 use std::time::{Duration, Instant};
 
-/// The numbers that an entry may answer with: 0, and refusals 1 to 24.
-const ANSWERS: usize = 25;
+/// The numbers that an entry may answer with: 0, and refusals 1 to 24 and 27.
+const ANSWERS: usize = 28;
 /// Pairs of rows that are compared in each table.
 const PAIRS: usize = 64;
 
@@ -138,7 +138,7 @@ impl Judge {
         self.tally.calls[entry as usize] += 1;
         match numbers(&exit.answer)[..] {
             _ if entry == Entry::Compare => {}
-            [number, _, _, ..] => self.tally.answers[number as usize] += 1,
+            [number, _, _, _, ..] => self.tally.answers[number as usize] += 1,
             _ => self.tally.short_answers += 1,
         }
     }
@@ -192,7 +192,8 @@ impl Judge {
 
     /// Prints what was done; a failure is made small first, and printed in hex. Refusals in `needed`
     /// must all have been seen.
-    pub fn finish(mut self, needed: std::ops::Range<usize>) -> ExitCode {
+    pub fn finish(mut self, needed: impl IntoIterator<Item = usize>) -> ExitCode {
+        let needed = needed.into_iter();
         let unseen: Vec<usize> = needed.filter(|i| self.tally.answers[*i] == 0).collect();
         self.ensure(unseen.is_empty(), || {
             format!("no call was answered with {unseen:?}")

@@ -22,8 +22,11 @@ pub const LONG_LENGTHS: [usize; 15] = [
 pub const WIDTHS: [usize; 6] = [0, 1, 2, 16, 1023, 1024];
 /// Bytes before the first end of a sliced column; what a slot may hold is no limit to them.
 pub const FIRST_ENDS: [usize; 7] = [1, 7, 8, 33, 255, 256, 65_537];
+/// Descending, nulls first and required, in all eight ways.
+pub const OPTIONS: std::ops::Range<u8> = 0..8;
 /// Descending and nulls first, in all four ways.
-pub const OPTIONS: std::ops::Range<u8> = 0..4;
+pub const ORDERS: std::ops::Range<u8> = 0..4;
+pub const REQUIRED: u8 = 4;
 
 /// Which slots of a column are null.
 #[derive(Clone, Copy, Debug)]
@@ -35,6 +38,14 @@ pub enum Nulls {
 }
 
 pub const NULLS: [Nulls; 4] = [Nulls::None, Nulls::All, Nulls::Random, Nulls::Alternating];
+
+/// The patterns that a column with these options may have.
+pub fn nulls_of(options: u8) -> &'static [Nulls] {
+    match options & REQUIRED {
+        0 => &NULLS,
+        _ => &[Nulls::None],
+    }
+}
 
 impl Nulls {
     fn at(self, rng: &mut Rng, row: usize) -> bool {
@@ -101,8 +112,8 @@ pub fn sliced(rng: &mut Rng, mut table: Table, first_end: usize) -> Table {
     table
 }
 
-/// The slots of a column; a null slot holds a value like any other. Variable bytes have one of the
-/// lengths.
+/// The slots of a column; a null slot holds a value like any other, and a required column has none.
+/// Variable bytes have one of the lengths.
 fn slots_of(
     rng: &mut Rng,
     column: Column,
@@ -111,7 +122,7 @@ fn slots_of(
     lengths: &[usize],
 ) -> Vec<Slot> {
     let slot = |row| Slot {
-        valid: !nulls.at(rng, row),
+        valid: !nulls.at(rng, row) || column.required,
         bytes: value(rng, column, lengths),
     };
     (0..rows).map(slot).collect()
@@ -218,7 +229,7 @@ fn float(rng: &mut Rng, width: usize) -> Vec<u8> {
 
 /// Any column; a tall table gets no wide one.
 fn any_column(rng: &mut Rng, tall: bool) -> Column {
-    let options = rng.below(4) as u8;
+    let options = rng.below(4) as u8 | rng.pick(&[0, 0, 0, REQUIRED]);
     let kind = rng.below(*KINDS.end() as usize) as u8 + 1;
     match rng.pick(&[VARIABLE, kind, kind]) {
         FIXED_BINARY if tall => Column::fixed_binary(rng.pick(&WIDTHS[..4]), options),

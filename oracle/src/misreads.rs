@@ -32,12 +32,12 @@ struct Misread {
 }
 
 fn misreads() -> Vec<Misread> {
-    let misread = |what, kind, row, crate_reads, number| Misread {
+    let misread = |what, kind, row, crate_reads, (number, place)| Misread {
         what,
         kind,
         row,
         crate_reads,
-        refused: [number, 0, 0],
+        refused: [number, 0, 0, place],
     };
     let value = |bytes: &[u8]| Outcome::Value(bytes.to_vec());
     let mut all = vec![
@@ -46,59 +46,65 @@ fn misreads() -> Vec<Misread> {
             VARIABLE,
             &[3],
             value(b""),
-            17,
+            (17, 0),
         ),
         misread(
             "the other null byte read as empty",
             VARIABLE,
             &[0xFF],
             value(b""),
-            17,
+            (17, 0),
         ),
         misread(
             "any byte but 01 taken for null",
             U8,
             &[2, 0],
             Outcome::Null,
-            17,
+            (17, 0),
         ),
         misread(
             "a byte after a null not looked at",
             U8,
             &[0, 5],
             Outcome::Null,
-            18,
+            (18, 1),
         ),
-        misread("a bool of 02 read as false", BOOL, &[1, 2], value(&[0]), 19),
+        misread(
+            "a bool of 02 read as false",
+            BOOL,
+            &[1, 2],
+            value(&[0]),
+            (19, 1),
+        ),
         misread(
             "padding not looked at",
             VARIABLE,
             &[2, b'a', 0, 0, 0, 0, 0, 0, 1, 1],
             value(b"a"),
-            21,
+            (21, 8),
         ),
         misread(
             "an end byte over the block size, read into the value",
             VARIABLE,
             &[2, b'a', 0, 0, 0, 0, 0, 0, 0, 9],
             value(&[b'a', 0, 0, 0, 0, 0, 0, 0, 9]),
-            20,
+            (20, 9),
         ),
         misread(
             "an end byte of 0 read as empty",
             VARIABLE,
             &[2, b'a', 0, 0, 0, 0, 0, 0, 0, 0],
             value(b""),
-            20,
+            (20, 9),
         ),
-        misread("a cut row", VARIABLE, &[2], Outcome::Panic, 16),
+        misread("a cut row", VARIABLE, &[2], Outcome::Panic, (16, 1)),
     ];
     all.push(Misread {
         what: "bytes after the last field not looked at",
         kind: VARIABLE,
         row: &[1, 7],
         crate_reads: Outcome::ValueAndRest(Vec::new(), 1),
-        refused: [22, 0, 1],
+        refused: [22, 0, 1, 1],
     });
     all
 }
@@ -143,7 +149,7 @@ fn hold_misread(judge: &mut Judge, misread: &Misread) {
     let read = crate_reads(column, row);
     let (list, offsets) = (column.description(), [0, row.len() as u64]);
     let station = station::decode(&list, 1, row, &offsets, &mut [0; 64]);
-    let refused = station.map_err(|r| [r.number, r.second, r.third]);
+    let refused = station.map_err(|r| [r.number, r.second, r.third, r.place]);
     let as_said = read == misread.crate_reads && refused == Err(misread.refused);
     judge.ensure(as_said, || {
         let row = hex(row);

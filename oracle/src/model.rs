@@ -11,15 +11,16 @@ pub const MAX_WIDTH: usize = 1024;
 pub const MAX_SLOT: usize = 65_535;
 pub const MAX_TOTAL: u64 = 16_777_216;
 
-/// The three numbers that an entry returns.
-pub type Numbers = [u64; 3];
+/// The four numbers that an entry returns.
+pub type Numbers = [u64; 4];
 
 /// What was asked for, or the numbers of the refusal.
 pub type Checked<T> = Result<T, Numbers>;
 
-fn refuse_if(fault: bool, numbers: Numbers) -> Checked<()> {
+/// A refusal that is not of a row's content: its fourth number is 0.
+fn refuse_if(fault: bool, [number, second, third]: [u64; 3]) -> Checked<()> {
     match fault {
-        true => Err(numbers),
+        true => Err([number, second, third, 0]),
         false => Ok(()),
     }
 }
@@ -32,9 +33,9 @@ pub fn read_list(list: &[u8]) -> Checked<Vec<Column>> {
     let mut columns = Vec::new();
     let mut place = 0;
     while place < list.len() {
-        let refuse = |number| [number, place as u64, 0];
-        refuse_if(columns.len() == MAX_COLUMNS, refuse(5))?;
-        let column = read_column(&list[place..]).map_err(refuse)?;
+        refuse_if(columns.len() == MAX_COLUMNS, [5, place as u64, 0])?;
+        let column = read_column(&list[place..]);
+        let column = column.map_err(|number| [number, place as u64, 0, 0])?;
         place += column.description().len();
         columns.push(column);
     }
@@ -51,7 +52,7 @@ fn read_column(list: &[u8]) -> Result<Column, u64> {
         return Err(1);
     }
     let options = list[1];
-    if options > 3 {
+    if options > 7 {
         return Err(3);
     }
     let width = match kind {
@@ -66,6 +67,7 @@ fn read_column(list: &[u8]) -> Result<Column, u64> {
         width,
         descending: options & 1 == 1,
         nulls_first: options & 2 == 2,
+        required: options & 4 == 4,
     })
 }
 
@@ -131,12 +133,15 @@ fn take_values<'a>(
     }
 }
 
-/// The slots of each column: refusals 7 to 11.
+/// The slots of each column: refusals 7 to 11, and 27 right after the validity bits.
 pub fn read_sheet<'a>(columns: &[Column], n: usize, sheet: &'a [u8]) -> Checked<Vec<Slots<'a>>> {
     let mut rest = sheet;
     let mut slots = Vec::new();
     for (c, column) in columns.iter().enumerate() {
         let valid = take_bits(&mut rest, n, c as u64)?;
+        if let (true, Some(r)) = (column.required, (0..n).find(|i| !bit(valid, *i))) {
+            return Err([27, c as u64, r as u64, 0]);
+        }
         let values = take_values(&mut rest, *column, n, c as u64)?;
         let slot = |(i, value)| bit(valid, i).then_some(value);
         slots.push(values.into_iter().enumerate().map(slot).collect());
@@ -154,6 +159,11 @@ fn null_byte(column: Column) -> u8 {
         true => 0x00,
         false => 0xFF,
     }
+}
+
+/// Whether a field with this lead byte is null, which none is in a required column.
+fn null_lead(column: Column, lead: u8) -> bool {
+    !column.required && lead == null_byte(column)
 }
 
 fn invert(bytes: &mut [u8]) {
@@ -351,9 +361,29 @@ pub fn encode(
 
 // ---- reading rows
 
-/// Takes bytes off the front of a row's rest; cut is 16.
-fn take_row<'a>(rest: &mut &'a [u8], count: usize) -> Result<&'a [u8], u64> {
-    take(rest, count, 0).map_err(|_| 16)
+/// What is wrong in a row: the number, and the place of the byte, counted from the row's start.
+type Fault = (u64, usize);
+
+/// A row, and how far it has been read.
+struct Reader<'a> {
+    row: &'a [u8],
+    at: usize,
+}
+
+impl<'a> Reader<'a> {
+    /// The next bytes; cut is 16, and the first byte missing is the one after the row's last.
+    fn take(&mut self, count: usize) -> Result<&'a [u8], Fault> {
+        let bytes = self.row[self.at..]
+            .get(..count)
+            .ok_or((16, self.row.len()))?;
+        self.at += count;
+        Ok(bytes)
+    }
+}
+
+/// The place of the first byte that is not zero, in bytes that stand at a place.
+fn first_set(bytes: &[u8], at: usize) -> Option<usize> {
+    bytes.iter().position(|b| *b != 0).map(|i| at + i)
 }
 
 /// The bytes, inverted back under descending.
@@ -366,21 +396,22 @@ fn inverted_back(column: Column, bytes: &[u8]) -> Vec<u8> {
 }
 
 /// After a lead byte that is allowed: fixed rest 16, 18, 19.
-fn read_fixed(column: Column, rest: &mut &[u8]) -> Result<Option<Vec<u8>>, u64> {
-    let lead = take_row(rest, 1)?[0];
-    if lead != null_byte(column) && lead != 1 {
-        return Err(17);
+fn read_fixed(column: Column, reader: &mut Reader) -> Result<Option<Vec<u8>>, Fault> {
+    let start = reader.at;
+    let lead = reader.take(1)?[0];
+    if !null_lead(column, lead) && lead != 1 {
+        return Err((17, start));
     }
-    let bytes = take_row(rest, column.width)?;
+    let bytes = reader.take(column.width)?;
     if lead != 1 {
-        return match bytes.iter().all(|b| *b == 0) {
-            true => Ok(None),
-            false => Err(18),
+        return match first_set(bytes, start + 1) {
+            None => Ok(None),
+            Some(place) => Err((18, place)),
         };
     }
     let key = inverted_back(column, bytes);
     if column.kind == BOOL && key[0] > 1 {
-        return Err(19);
+        return Err((19, start + 1));
     }
     Ok(Some(turned(column, &key, signed_unkey, float_unkey)))
 }
@@ -400,31 +431,32 @@ fn float_unkey(key: &[u8]) -> Vec<u8> {
 }
 
 /// Lead byte 16, 17; each block 16, 20, 21, 23.
-fn read_variable(column: Column, rest: &mut &[u8]) -> Result<Option<Vec<u8>>, u64> {
-    let lead = take_row(rest, 1)?;
-    if lead[0] == null_byte(column) {
+fn read_variable(column: Column, reader: &mut Reader) -> Result<Option<Vec<u8>>, Fault> {
+    let start = reader.at;
+    let lead = reader.take(1)?;
+    if null_lead(column, lead[0]) {
         return Ok(None);
     }
     match inverted_back(column, lead)[0] {
         1 => return Ok(Some(Vec::new())),
         2 => {}
-        _ => return Err(17),
+        _ => return Err((17, start)),
     }
     let mut value = Vec::new();
     for k in 0.. {
-        let size = block_size(k);
-        let block = inverted_back(column, take_row(rest, size + 1)?);
+        let (at, size) = (reader.at, block_size(k));
+        let block = inverted_back(column, reader.take(size + 1)?);
         let (data, end) = (&block[..size], block[size] as usize);
         let count = if end == 0xFF { size } else { end };
         if count < 1 || count > size {
-            return Err(20);
+            return Err((20, at + size));
         }
-        if data[count..].iter().any(|b| *b != 0) {
-            return Err(21);
+        if let Some(place) = first_set(&data[count..], at + count) {
+            return Err((21, place));
         }
         value.extend(&data[..count]);
         if value.len() > MAX_SLOT {
-            return Err(23);
+            return Err((23, at + size));
         }
         if end != 0xFF {
             break;
@@ -433,20 +465,21 @@ fn read_variable(column: Column, rest: &mut &[u8]) -> Result<Option<Vec<u8>>, u6
     Ok(Some(value))
 }
 
-/// The slots of one row, or the number and the column of its first fault.
-fn read_row(columns: &[Column], row: &[u8]) -> Result<Vec<Option<Vec<u8>>>, (u64, usize)> {
-    let mut rest = row;
+/// The slots of row r, or the numbers of its first fault.
+fn read_row(columns: &[Column], r: usize, row: &[u8]) -> Checked<Vec<Option<Vec<u8>>>> {
+    let mut reader = Reader { row, at: 0 };
+    let refuse = |c: usize, (number, place): Fault| [number, r as u64, c as u64, place as u64];
     let mut slots = Vec::new();
     for (c, column) in columns.iter().enumerate() {
         let slot = match column.kind {
-            VARIABLE => read_variable(*column, &mut rest),
-            _ => read_fixed(*column, &mut rest),
+            VARIABLE => read_variable(*column, &mut reader),
+            _ => read_fixed(*column, &mut reader),
         };
-        slots.push(slot.map_err(|number| (number, c))?);
+        slots.push(slot.map_err(|fault| refuse(c, fault))?);
     }
-    match rest.is_empty() {
+    match reader.at == row.len() {
         true => Ok(slots),
-        false => Err((22, columns.len())),
+        false => Err(refuse(columns.len(), (22, reader.at))),
     }
 }
 
@@ -485,7 +518,7 @@ pub fn decode(
     let mut slots: Vec<Vec<Slot>> = vec![Vec::new(); columns.len()];
     for r in 0..n {
         let row = &rows[offsets[r] as usize..offsets[r + 1] as usize];
-        let row = read_row(&columns, row).map_err(|(number, c)| [number, r as u64, c as u64])?;
+        let row = read_row(&columns, r, row)?;
         for ((slots, column), value) in slots.iter_mut().zip(&columns).zip(row) {
             slots.push(Slot {
                 valid: value.is_some(),
@@ -506,12 +539,19 @@ pub fn decode(
 mod tests {
     use super::*;
 
-    /// The numbers of a refusal.
-    fn refused<T>(answer: Checked<T>) -> Numbers {
+    /// The numbers of a refusal of a row's content.
+    fn refused_row<T>(answer: Checked<T>) -> Numbers {
         match answer {
             Ok(_) => panic!("accepted"),
             Err(numbers) => numbers,
         }
+    }
+
+    /// The numbers of another refusal: the fourth is 0.
+    fn refused<T>(answer: Checked<T>) -> [u64; 3] {
+        let [number, second, third, place] = refused_row(answer);
+        assert_eq!(place, 0);
+        [number, second, third]
     }
 
     #[test]
@@ -519,7 +559,7 @@ mod tests {
         assert_eq!(refused(read_list(&[])), [1, 0, 0]);
         assert_eq!(refused(read_list(&[4, 0, 16])), [1, 2, 0]);
         assert_eq!(refused(read_list(&[19])), [2, 0, 0]);
-        assert_eq!(refused(read_list(&[1, 0, 15, 4, 1, 4])), [3, 2, 0]);
+        assert_eq!(refused(read_list(&[1, 7, 15, 8, 1, 4])), [3, 2, 0]);
         assert_eq!(refused(read_list(&[15, 0, 1, 4])), [4, 0, 0]);
         assert_eq!(
             refused(read_list(&[&[1, 0].repeat(16)[..], &[99]].concat())),
@@ -552,10 +592,26 @@ mod tests {
         let slots = |n, sheet: &'static [u8]| measure(&[16, 0], n, sheet).map(|m| m.slots);
         let names: &[u8] = &[1, 2, 0, 0, 0, 3, 0, 0, 0, 9, 9, b'a'];
         assert_eq!(slots(1, names), Ok(vec![vec![Some(&b"a"[..])]]));
-        assert_eq!(slots(1, &names[..11]), Err([7, 0, 0]));
+        assert_eq!(slots(1, &names[..11]), Err([7, 0, 0, 0]));
         assert_eq!(slots(0, &[2, 0, 0, 0, 9, 9]), Ok(vec![vec![]]));
-        assert_eq!(slots(0, &[2, 0, 0, 0, 9]), Err([7, 0, 0]));
-        assert_eq!(slots(0, &[2, 0, 0, 0, 9, 9, 9]), Err([11, 6, 0]));
+        assert_eq!(slots(0, &[2, 0, 0, 0, 9]), Err([7, 0, 0, 0]));
+        assert_eq!(slots(0, &[2, 0, 0, 0, 9, 9, 9]), Err([11, 6, 0, 0]));
+    }
+
+    #[test]
+    fn a_required_column_has_no_null() {
+        let plates = |n, sheet: &[u8]| refused(measure(&[6, 4], n, sheet));
+        assert_eq!(plates(3, &[0b001]), [27, 0, 1]);
+        assert_eq!(plates(3, &[0b1001]), [8, 0, 0]);
+        assert_eq!(plates(3, &[0b111]), [7, 0, 0]);
+        let read =
+            |list: &[u8], row: &[u8]| refused(decode(list, 1, row, &[0, row.len() as u64], 99));
+        for options in 4..8 {
+            let null = [0xFF, 0x00][options as usize / 2 % 2];
+            assert_eq!(read(&[6, options], &[null, 0]), [17, 0, 0]);
+            assert_eq!(read(&[6, options], &[null]), [17, 0, 0]);
+            assert_eq!(read(&[16, options], &[null]), [17, 0, 0]);
+        }
     }
 
     #[test]
@@ -576,19 +632,24 @@ mod tests {
 
     #[test]
     fn a_row_is_read_field_by_field() {
-        // A bool, then variable bytes, both descending with nulls last.
-        let read = |row: &[u8]| refused(decode(&[1, 1, 16, 1], 1, row, &[0, row.len() as u64], 99));
-        assert_eq!(read(&[]), [16, 0, 0]);
-        assert_eq!(read(&[0]), [17, 0, 0]);
-        assert_eq!(read(&[1]), [16, 0, 0]);
-        assert_eq!(read(&[0xFF, 1]), [18, 0, 0]);
-        assert_eq!(read(&[1, 0]), [19, 0, 0]);
-        assert_eq!(read(&[1, 0xFE]), [16, 0, 1]);
-        assert_eq!(read(&[1, 0xFE, 0xFE, 0]), [22, 0, 2]);
+        // A bool, then variable bytes, both descending with nulls last. Row 0 is good.
+        let read = |row: &[u8]| {
+            let (rows, end) = ([&[1, 0xFE, 0xFE], row].concat(), 3 + row.len() as u64);
+            refused_row(decode(&[1, 1, 16, 1], 2, &rows, &[0, 3, end], 99))
+        };
+        assert_eq!(read(&[]), [16, 1, 0, 0]);
+        assert_eq!(read(&[0]), [17, 1, 0, 0]);
+        assert_eq!(read(&[1]), [16, 1, 0, 1]);
+        assert_eq!(read(&[0xFF, 1]), [18, 1, 0, 1]);
+        assert_eq!(read(&[1, 0]), [19, 1, 0, 1]);
+        assert_eq!(read(&[1, 0xFE]), [16, 1, 1, 2]);
+        assert_eq!(read(&[1, 0xFE, 0]), [17, 1, 1, 2]);
+        assert_eq!(read(&[1, 0xFE, 0xFE, 0]), [22, 1, 2, 3]);
         let block = |data: u8, end: u8| [1, 0xFE, 0xFD, 0, 0, 0, 0, 0, 0, 0, data, end];
-        assert_eq!(read(&block(0, 0xFF)), [20, 0, 1]);
-        assert_eq!(read(&block(0, !9)), [20, 0, 1]);
-        assert_eq!(read(&block(0, !7)), [21, 0, 1]);
-        assert_eq!(read(&block(0, 0)), [16, 0, 1]);
+        assert_eq!(read(&block(0, 0xFF)), [20, 1, 1, 11]);
+        assert_eq!(read(&block(0, !9)), [20, 1, 1, 11]);
+        assert_eq!(read(&block(0, !7)), [21, 1, 1, 10]);
+        assert_eq!(read(&block(0, !4)), [21, 1, 1, 7]);
+        assert_eq!(read(&block(0, 0)), [16, 1, 1, 12]);
     }
 }

@@ -8,7 +8,7 @@
 //! compare A B
 //! ```
 //!
-//! An answer gives for each entry its name, its three numbers and the whole of the lent buffers,
+//! An answer gives for each entry its name, its four numbers and the whole of the lent buffers,
 //! which held [`FILL`] and [`OFFSET_FILL`]. To `encode` check_list, measure and encode answer, then
 //! decode of what the two buffers hold, into as much room as the sheet takes.
 
@@ -119,9 +119,9 @@ fn decoded_by_crate(table: &Table) -> Decoded {
 /// What the entries answer to a case of encode.
 fn encode_line(call: &Call, encoded: &Checked<Encoded>, decoded: &Checked<Decoded>) -> String {
     let (list, sheet) = (&call.given[0], &call.given[1]);
-    let columns = model::read_list(list).map(|columns| [0, columns.len() as u64, 0]);
+    let columns = model::read_list(list).map(|columns| [0, columns.len() as u64, 0, 0]);
     let measured = model::measure(list, call.n, sheet);
-    let measured = measured.map(|measured| [0, measured.total, measured.nulls]);
+    let measured = measured.map(|measured| [0, measured.total, measured.nulls, 0]);
     [
         words("list", &columns),
         words("measure", &measured),
@@ -131,10 +131,10 @@ fn encode_line(call: &Call, encoded: &Checked<Encoded>, decoded: &Checked<Decode
     .join(" ")
 }
 
-/// A name and three numbers.
+/// A name and four numbers.
 fn words(name: &str, answer: &Checked<Numbers>) -> String {
-    let [a, b, c] = answer.unwrap_or_else(|numbers| numbers);
-    format!("{name} {a} {b} {c}")
+    let [a, b, c, d] = answer.unwrap_or_else(|numbers| numbers);
+    format!("{name} {a} {b} {c} {d}")
 }
 
 /// The same of encode, then the lent offsets and the lent rows.
@@ -144,7 +144,7 @@ pub fn encode_words(name: &str, answer: &Checked<Encoded>, rows: usize, offsets:
     let answer = answer.map(|encoded| {
         lent_rows[..encoded.rows.len()].copy_from_slice(&encoded.rows);
         lent_offsets[..encoded.offsets.len()].copy_from_slice(&encoded.offsets);
-        [0, encoded.rows.len() as u64, encoded.nulls]
+        [0, encoded.rows.len() as u64, encoded.nulls, 0]
     });
     let mut parts = vec![words(name, &answer)];
     parts.extend(lent_offsets.iter().map(u64::to_string));
@@ -158,7 +158,7 @@ pub fn decode_words(name: &str, answer: &Checked<Decoded>, room: usize) -> Strin
     let answer = answer.as_ref().map_err(|numbers| *numbers);
     let answer = answer.map(|decoded| {
         sheet[..decoded.sheet.len()].copy_from_slice(&decoded.sheet);
-        [0, decoded.sheet.len() as u64, decoded.nulls]
+        [0, decoded.sheet.len() as u64, decoded.nulls, 0]
     });
     format!("{} {}", words(name, &answer), hex(&sheet))
 }

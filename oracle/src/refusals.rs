@@ -1,8 +1,8 @@
 //! The runs of the oracle on inputs that are refused, or nearly so: the station must answer the
-//! model's three numbers and leave every other byte as it was.
+//! model's four numbers and leave every other byte as it was.
 
 use crate::call::Call;
-use crate::columns::{Column, FIXED_BINARY, VARIABLE};
+use crate::columns::{Column, BOOL, FIXED_BINARY, VARIABLE};
 use crate::damage::{self, Good};
 use crate::document::one_slot_each;
 use crate::judge::Judge;
@@ -21,10 +21,10 @@ pub fn lists(judge: &mut Judge) {
     let faults: [&[u8]; 10] = [
         &[0, 0],
         &[19, 0],
-        &[1, 4],
+        &[1, 8],
         &[1],
         &[FIXED_BINARY, 0, 0],
-        &[FIXED_BINARY, 4, 1, 4],
+        &[FIXED_BINARY, 8, 1, 4],
         &[FIXED_BINARY, 0, 0, 4],
         &[FIXED_BINARY, 0, 1, 4],
         &[FIXED_BINARY, 3, 0xFF, 0xFF],
@@ -43,18 +43,21 @@ pub fn lists(judge: &mut Judge) {
 }
 
 /// Every byte of a short row set to every value, every cut of it, and a byte after it: one row of
-/// each kind and option, null and not.
+/// each kind and option, null and not. Of required columns, which differ in the lead byte only, the
+/// narrow ones.
 pub fn rows(judge: &mut Judge, rng: &mut Rng) {
     for options in make::OPTIONS {
         for column in make::every_column(options) {
-            judge.progress("damaged rows", options as usize, 4);
+            judge.progress("damaged rows", options as usize, 8);
             let lengths = match column.kind {
+                VARIABLE if column.required => &[1, 9][..],
                 VARIABLE => &[1, 8, 9, 32, 33, 65][..],
                 _ => &[0],
             };
+            let most = if column.required { 2 } else { 32 };
             for length in lengths {
                 for nulls in [Nulls::None, Nulls::All] {
-                    if column.width <= 32 {
+                    if column.width <= most {
                         let table = make::one_column(rng, column, 1, nulls, &[*length]);
                         every_change_to_row(judge, &Good::of(&table));
                     }
@@ -64,8 +67,12 @@ pub fn rows(judge: &mut Judge, rng: &mut Rng) {
     }
 }
 
+/// Every lead byte alone, then the changes.
 fn every_change_to_row(judge: &mut Judge, good: &Good) {
     let row = good.row(0);
+    for lead in 0..=255 {
+        judge.call(good.decode_with_row(0, &[lead]));
+    }
     for at in 0..row.len() {
         judge.call(good.decode_with_row(0, &row[..at]));
         for value in 0..=255 {
@@ -79,7 +86,7 @@ fn every_change_to_row(judge: &mut Judge, good: &Good) {
 
 /// The last block of a value of 65,535 bytes, with other end bytes and other last bytes.
 pub fn long_values(judge: &mut Judge) {
-    for options in make::OPTIONS {
+    for options in make::ORDERS {
         let column = Column::new(VARIABLE, options);
         let good = Good::of(&one_slot_each(column, &[Some(&[b'a'; 65_535])]));
         for end in [0, 30, 31, 32, 33, 0xFE, 0xFF] {
@@ -100,7 +107,9 @@ pub fn long_values(judge: &mut Judge) {
 /// Every byte of a short sheet set to every value, every cut of it, and a byte after it: one column
 /// of each kind, on both sides of a byte boundary, and a slice of variable bytes.
 pub fn sheets(judge: &mut Judge, rng: &mut Rng) {
-    for column in make::every_column(2) {
+    let required = make::every_column(2 | make::REQUIRED).into_iter();
+    let required = required.filter(|column| column.width <= 2);
+    for column in make::every_column(2).into_iter().chain(required) {
         for rows in [0, 1, 3, 8] {
             judge.progress("damaged sheets", column.kind as usize, 18);
             if column.width <= 16 {
@@ -131,7 +140,26 @@ fn every_change_to_sheet(judge: &mut Judge, good: &Good) {
     with(&[&good.sheet[..], &[0]].concat());
 }
 
-/// Rooms around what is needed, answers around 24 bytes, counts around the ceiling.
+/// Nulls in required columns: the first one at each row, alone and with others after it, in counts of
+/// rows around each byte and word of the validity bits; with the values, and with all of them cut.
+pub fn required(judge: &mut Judge, rng: &mut Rng) {
+    for n in [1, 7, 8, 9, 63, 64, 65, 127, 128, 129, 200] {
+        for kind in [BOOL, 6, VARIABLE] {
+            let column = Column::new(kind, rng.below(4) as u8 | make::REQUIRED);
+            let mut table = make::one_column(rng, column, n, Nulls::None, &[0, 1]);
+            for (first, others) in (0..n).flat_map(|first| [(first, false), (first, true)]) {
+                for (row, slot) in table.slots[0].iter_mut().enumerate() {
+                    slot.valid = row < first || (row > first && !(others && rng.once_in(3)));
+                }
+                let (list, n, sheet) = (table.list(), n as u64, table.sheet());
+                judge.call(Call::measure(&list, n, &sheet));
+                judge.call(Call::measure(&list, n, &sheet[..n.div_ceil(8) as usize]));
+            }
+        }
+    }
+}
+
+/// Rooms around what is needed, answers around 32 bytes, counts around the ceiling.
 pub fn rooms(judge: &mut Judge, rng: &mut Rng) {
     for _ in 0..200 {
         let good = Good::of(&make::small_table(rng));
@@ -148,7 +176,7 @@ pub fn rooms(judge: &mut Judge, rng: &mut Rng) {
             decode.given[2].truncate(offsets);
             judge.call(decode);
         }
-        for answer in [0, 1, 8, 16, 23, 24, 25, 32] {
+        for answer in [0, 1, 8, 23, 24, 25, 31, 32, 33, 40] {
             judge.call(Call::check_list(&good.list).answer(answer));
             judge.call(Call::measure(&good.list, good.n, &good.sheet).answer(answer));
             judge.call(good.encode().answer(answer));

@@ -41,9 +41,14 @@ fn tables(rng: &mut Rng) -> Vec<Table> {
         let columns = make::every_column(options).into_iter();
         for column in columns.filter(|column| column.width <= 32) {
             for nulls in [Nulls::None, Nulls::Alternating] {
+                if column.required && !matches!(nulls, Nulls::None) {
+                    continue;
+                }
                 tables.push(make::one_column(rng, column, 3, nulls, &[0, 1, 8, 9]));
             }
         }
+    }
+    for options in make::ORDERS {
         for length in make::LENGTHS {
             let column = Column::new(VARIABLE, options);
             tables.push(make::one_column(rng, column, 1, Nulls::None, &[length]));
@@ -89,7 +94,7 @@ fn lists() -> Vec<Call> {
         &[19, 0],
         &[1],
         &[FIXED_BINARY, 0, 0],
-        &[1, 4],
+        &[1, 8],
         &[FIXED_BINARY, 0, 1, 4],
         &[FIXED_BINARY, 3, 0xFF, 0xFF],
     ];
@@ -145,11 +150,11 @@ type Sort = (&'static str, u64, bool, u8);
 /// The sort of a call; none of one that is accepted.
 fn sort(call: &Call) -> Option<Sort> {
     let exit = call.expected();
-    let [number, b, c] = numbers(&exit.answer)[..] else {
-        panic!("an answer is three numbers");
+    let [number, b, c, _] = numbers(&exit.answer)[..] else {
+        panic!("an answer is four numbers");
     };
     let column = match number {
-        7..=10 => b,
+        7..=10 | 27 => b,
         16..=21 => c,
         _ => u64::MAX,
     };

@@ -14,14 +14,14 @@ use crate::table::Table;
 pub fn kinds(judge: &mut Judge, rng: &mut Rng, tall: bool) {
     for options in make::OPTIONS {
         for column in make::every_column(options) {
-            judge.progress("kinds", options as usize, 4);
-            for nulls in make::NULLS {
+            judge.progress("kinds", options as usize, 8);
+            for nulls in make::nulls_of(options) {
                 let mut row_counts = make::ROW_COUNTS.to_vec();
                 if tall || column.width <= 2 {
                     row_counts.extend(make::FULL_ROW_COUNTS);
                 }
                 for rows in row_counts {
-                    judge.table(&make::one_column(rng, column, rows, nulls, &make::LENGTHS));
+                    judge.table(&make::one_column(rng, column, rows, *nulls, &make::LENGTHS));
                 }
             }
         }
@@ -31,7 +31,7 @@ pub fn kinds(judge: &mut Judge, rng: &mut Rng, tall: bool) {
 /// Variable bytes of every length up to 300 and of the long ones, as values and in null slots.
 pub fn lengths(judge: &mut Judge, rng: &mut Rng) {
     let lengths: Vec<usize> = (0..=300).chain(make::LONG_LENGTHS).collect();
-    for options in make::OPTIONS {
+    for options in make::ORDERS {
         let column = Column::new(VARIABLE, options);
         for (i, length) in lengths.iter().enumerate() {
             judge.progress("lengths", i, lengths.len());
@@ -44,7 +44,7 @@ pub fn lengths(judge: &mut Judge, rng: &mut Rng) {
 /// Sliced columns: bytes of every count before the first end, every option and pattern of nulls, no
 /// rows too; alone and with a column on each side.
 pub fn slices(judge: &mut Judge, rng: &mut Rng) {
-    for options in make::OPTIONS {
+    for options in make::ORDERS {
         judge.progress("slices", options as usize, 4);
         for first_end in make::FIRST_ENDS {
             for nulls in make::NULLS {
@@ -76,7 +76,7 @@ pub fn tables(judge: &mut Judge, rng: &mut Rng, count: usize) {
 /// seen in the end ([`crate::stack`]).
 pub fn full(judge: &mut Judge, rng: &mut Rng) {
     for options in make::OPTIONS {
-        judge.progress("4,096 rows", options as usize, 4);
+        judge.progress("4,096 rows", options as usize, 8);
         for first in [1, 3] {
             let columns = make::columns_from(first, 16, options);
             judge.table(&make::table_of(rng, MAX_ROWS as usize, columns));

@@ -80,17 +80,19 @@ OPTIONS = {
     "descending": Option(0, True, "large values first"),
     "nulls_first": Option(1, True, "nulls before all values (this is so unless said)"),
     "nulls_last": Option(1, False, "nulls after all values"),
+    "nullable": Option(2, False, "nulls may stand in the column (this is so unless said)"),
+    "required": Option(2, True, "no value may be null"),
 }
 
-#: The options byte of a column that names no option: ascending, nulls first.
+#: The options byte of a column that names no option: ascending, nulls first, nullable.
 NO_OPTION = 0b10
 
 
 def option_names(options: int) -> Tuple[str, ...]:
     """The names to write for an options byte: those that are not so unless said.
 
-    >>> option_names(0b01)
-    ('descending', 'nulls_last')
+    >>> option_names(0b101)
+    ('descending', 'nulls_last', 'required')
     >>> option_names(NO_OPTION)
     ()
     """

@@ -30,7 +30,7 @@ MAX_ROWS = 4096
 MAX_ROW_BYTES = 16_777_216
 
 #: An answer is so many numbers of eight bytes: the refusal's number or 0, then what goes with it.
-ANSWER_NUMBERS = 3
+ANSWER_NUMBERS = 4
 
 _SLICE = (ctypes.c_void_p, ctypes.c_size_t)
 _NUMBER = (ctypes.c_uint64,)

@@ -14,9 +14,10 @@ class Reason(NamedTuple):
     words: str
     second: str
     third: str = ""
+    fourth: str = ""
 
 
-#: Number of a refusal -> what it means. The words are a format in ``second`` and ``third``.
+#: Number of a refusal -> what it means. The words are a format in ``second``, ``third`` and ``fourth``.
 REASONS = {
     1: Reason("the list is empty or cut in the column at byte {second}", "place"),
     2: Reason("unknown kind at byte {second} of the list", "place"),
@@ -28,20 +29,21 @@ REASONS = {
     8: Reason("a spare bit is set in column {second}", "column"),
     9: Reason("the ends of column {second} fall at row {third}", "column", "row"),
     10: Reason("a slot over 65,535 bytes in column {second}, row {third}", "column", "row"),
-    11: Reason("bytes after the last column, from byte {second} of the sheet on", "byte"),
+    11: Reason("bytes after the last column, from byte {second} of the sheet on", "sheet_byte"),
     12: Reason("{second} row bytes, over 16,777,216", "bytes"),
     13: Reason("the row buffer is too small for {second} bytes", "bytes"),
     14: Reason("the offset list is too short for {second} offsets", "offsets"),
     15: Reason("offset {second} is not 0 at the start, falls, or passes the row bytes", "offset"),
-    16: Reason("row {second}, column {third}: the field or block is cut", "row", "column"),
-    17: Reason("row {second}, column {third}: this lead byte is not allowed", "row", "column"),
-    18: Reason("row {second}, column {third}: a byte after the null byte is not zero", "row", "column"),
-    19: Reason("row {second}, column {third}: a bool is not 00 or 01", "row", "column"),
-    20: Reason("row {second}, column {third}: the end byte is neither FF nor 1 to the block size", "row", "column"),
-    21: Reason("row {second}, column {third}: padding is not zero", "row", "column"),
-    22: Reason("row {second}, column {third}: bytes follow the last field", "row", "column"),
-    23: Reason("row {second}, column {third}: the value is over 65,535 bytes", "row", "column"),
+    16: Reason("row {second}, column {third}, byte {fourth}: the field or block is cut", "row", "column", "byte"),
+    17: Reason("row {second}, column {third}, byte {fourth}: this lead byte is not allowed", "row", "column", "byte"),
+    18: Reason("row {second}, column {third}, byte {fourth}: a byte after the null byte is not zero", "row", "column", "byte"),
+    19: Reason("row {second}, column {third}, byte {fourth}: a bool is not 00 or 01", "row", "column", "byte"),
+    20: Reason("row {second}, column {third}, byte {fourth}: the end byte is neither FF nor 1 to the block size", "row", "column", "byte"),
+    21: Reason("row {second}, column {third}, byte {fourth}: padding is not zero", "row", "column", "byte"),
+    22: Reason("row {second}, column {third}, byte {fourth}: bytes follow the last field", "row", "column", "byte"),
+    23: Reason("row {second}, column {third}, byte {fourth}: the value is over 65,535 bytes", "row", "column", "byte"),
     24: Reason("the sheet buffer is too small for {second} bytes", "bytes"),
+    27: Reason("column {second} is required, and null in row {third}", "column", "row"),
 }
 
 #: Answers that this package acts on itself.
@@ -52,23 +54,24 @@ SHEET_ROOM = 24
 class Refused(Exception):
     """The station's refusal: a number for the reason, and numbers that say where. Rows, columns and places count from 0.
 
-    >>> refusal = Refused(17, 3, 1)
+    >>> refusal = Refused(17, 3, 1, 9)
     >>> print(refusal)
-    refused 17 3 1: row 3, column 1: this lead byte is not allowed
-    >>> refusal.numbers, refusal.row, refusal.column
-    ((17, 3, 1), 3, 1)
+    refused 17 3 1 9: row 3, column 1, byte 9: this lead byte is not allowed
+    >>> refusal.numbers, refusal.row, refusal.column, refusal.byte
+    ((17, 3, 1, 9), 3, 1, 9)
     """
 
-    def __init__(self, number: int, second: int, third: int) -> None:
-        super().__init__(number, second, third)
+    def __init__(self, number: int, second: int, third: int, fourth: int) -> None:
+        super().__init__(number, second, third, fourth)
         self.number = number
         self.second = second
         self.third = third
+        self.fourth = fourth
 
     @property
     def numbers(self) -> Tuple[int, ...]:
         """The numbers that the station answered."""
-        return (self.number, self.second, self.third)
+        return (self.number, self.second, self.third, self.fourth)
 
     def _counts(self, what: str) -> Optional[int]:
         """The number of this refusal that counts ``what``."""
@@ -88,6 +91,11 @@ class Refused(Exception):
         return self._counts("column")
 
     @property
+    def byte(self) -> Optional[int]:
+        """The bad byte of the row that was refused, if it was a row: counted from the row's start. Of a row that is cut its length."""
+        return self._counts("byte")
+
+    @property
     def place(self) -> Optional[int]:
         """The byte of the column list that was refused, if it was the list."""
         return self._counts("place")
@@ -96,7 +104,7 @@ class Refused(Exception):
     def reason(self) -> str:
         """The refusal in words, without its numbers."""
         reason = REASONS.get(self.number)
-        return reason.words.format(second=self.second, third=self.third) if reason else "unknown reason"
+        return reason.words.format(second=self.second, third=self.third, fourth=self.fourth) if reason else "unknown reason"
 
     def moved(self, rows: int) -> Refused:
         """The same refusal, of a row so many further on: a batch counts its rows from 0, and the caller all of them."""

@@ -338,7 +338,7 @@ def decode(schema: Schema, rows: Union[Rows, Iterable[bytes]]) -> Dict[str, Valu
     >>> damaged[5] = 3
     >>> decode(schema, [rows[0], damaged])
     Traceback (most recent call last):
-    rowstation.refusals.Refused: refused 17 1 1: row 1, column 1: this lead byte is not allowed
+    rowstation.refusals.Refused: refused 17 1 1 5: row 1, column 1, byte 5: this lead byte is not allowed
     """
     if not isinstance(rows, Rows):
         rows = Rows.of(schema, rows)

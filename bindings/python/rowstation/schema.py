@@ -66,9 +66,18 @@ class Column:
         return bool(self.options & 1)
 
     @property
+    def required(self) -> bool:
+        """Whether no value may be null."""
+        return bool(self.options & 4)
+
+    @property
     def null_byte(self) -> int:
         """The lead byte of a null in a row."""
         return 0x00 if self.options & 2 else 0xFF
+
+    def null_lead(self, byte: int) -> bool:
+        """Whether a field with this lead byte is null, which none is in a required column."""
+        return byte == self.null_byte and not self.required
 
     def __str__(self) -> str:
         width = (str(self.width),) if self.kind is FIXED else ()
@@ -107,7 +116,7 @@ class Schema:
     ValueError: column plate: there is no kind 'u33'; the kinds are bool, i8, ...
     >>> Schema("hash:fixed:1025")
     Traceback (most recent call last):
-    rowstation.refusals.Refused: refused 4 0 0: a width over 1,024 in the column at byte 0 of the list
+    rowstation.refusals.Refused: refused 4 0 0 0: a width over 1,024 in the column at byte 0 of the list
     """
 
     def __init__(self, columns: Union[str, Iterable[Union[Column, Given]]]) -> None:
@@ -144,7 +153,7 @@ class Schema:
     def column_of(self, refusal: Refused) -> str:
         """The name of the column that a refusal is about, or nothing where it is about none.
 
-        >>> Schema("plate:u32,glyph:text").column_of(Refused(17, 0, 1))
+        >>> Schema("plate:u32,glyph:text").column_of(Refused(17, 0, 1, 5))
         'glyph'
         """
         index = refusal.column

@@ -72,6 +72,10 @@ def _inverted(column: Column) -> str:
     return ", inverted" if column.descending else ""
 
 
+def _not_allowed(column: Column, lead: int) -> str:
+    return "lead: null, and the column is required" if lead == column.null_byte else "lead: not allowed here"
+
+
 def _quoted(data: bytes) -> str:
     return ascii(data.decode("latin-1")) if all(32 <= byte < 127 for byte in data) else data.hex(" ")
 
@@ -80,7 +84,7 @@ def _ended(row: bytes, at: int, column: Column) -> Iterator[Part]:
     """A field of variable bytes."""
     flip = 0xFF if column.descending else 0
     lead = row[at : at + 1]
-    if lead[0] == column.null_byte:
+    if column.null_lead(lead[0]):
         yield Part(at, lead, column.name, "lead: null")
     elif lead[0] ^ flip == 1:
         yield Part(at, lead, column.name, f"lead: a value, empty{_inverted(column)}")
@@ -88,16 +92,16 @@ def _ended(row: bytes, at: int, column: Column) -> Iterator[Part]:
         yield Part(at, lead, column.name, f"lead: a value, not empty{_inverted(column)}")
         yield from _blocks(row, at + 1, column)
     else:
-        yield Part(at, lead, column.name, "lead: not allowed here")
+        yield Part(at, lead, column.name, _not_allowed(column, lead[0]))
         raise _Bad(17, at)
 
 
 def _sized(row: bytes, at: int, column: Column) -> Iterator[Part]:
     """A field of a kind whose values all have the same length."""
     lead, rest = row[at : at + 1], row[at + 1 : at + 1 + column.value_bytes]
-    null = lead[0] == column.null_byte
+    null = column.null_lead(lead[0])
     if not null and lead[0] != 1:
-        yield Part(at, lead, column.name, "lead: not allowed here")
+        yield Part(at, lead, column.name, _not_allowed(column, lead[0]))
         raise _Bad(17, at)
     yield Part(at, lead, column.name, "lead: null" if null else "lead: a value")
     cut = len(rest) < column.value_bytes
@@ -172,7 +176,7 @@ def told(schema: Schema, row: bytes, number: int) -> Tuple[List[str], Optional[R
         12  02                 glyph  block 1: end byte, the last block, 2 bytes of data
     accepted: plate 7, glyph 'ae'
     """
-    parts, fault = explain(schema, row)
+    parts, _ = explain(schema, row)
     refusal: Optional[Refused] = None
     values: Dict[str, str] = {}
     try:
@@ -180,7 +184,7 @@ def told(schema: Schema, row: bytes, number: int) -> Tuple[List[str], Optional[R
         last = "accepted: " + ", ".join(f"{name} {value}" for name, value in values.items())
     except Refused as refused:
         refusal = refused.moved(number)
-        last = f"{refusal}, at byte {fault.place}" if fault else str(refusal)
+        last = str(refusal)
         good = min(refused.column or 0, len(schema))
         if good:
             # The fields before the one that is refused are the row of their values under the columns before it.

@@ -63,7 +63,7 @@ def row(schema: Schema, values) -> bytes:
 
 def some_value(rnd: random.Random, column: Column):
     """A value of a column, or None; the edges come often."""
-    if rnd.random() < 0.15:
+    if not column.required and rnd.random() < 0.15:
         return None
     name = column.kind.name
     if name == "bool":
@@ -93,5 +93,6 @@ def some_schema(rnd: random.Random, kinds) -> Schema:
     for index in range(rnd.choice([1, 2, 3, 5])):
         kind = rnd.choice(list(kinds))
         width = [rnd.choice([0, 1, 3, 16])] if kind == "fixed" else []
-        columns.append((f"c{index}", kind, *width, rnd.choice(["ascending", "descending"]), rnd.choice(["nulls_first", "nulls_last"])))
+        options = [rnd.choice(pair) for pair in (("ascending", "descending"), ("nulls_first", "nulls_last"), ("nullable", "required"))]
+        columns.append((f"c{index}", kind, *width, *options))
     return Schema(columns)

@@ -121,7 +121,8 @@ class Rows(Typed):
             texts = [i for i, column in enumerate(schema) if column.kind.name == "text"]
             for row in values:
                 for i in texts:
-                    row[i] = rnd.choice([None, "", "a", "".join(rnd.choice('aß", ;\n\r\t\\N') for _ in range(rnd.randrange(9)))])
+                    words = ["", "a", "".join(rnd.choice('aß", ;\n\r\t\\N') for _ in range(rnd.randrange(9)))]
+                    row[i] = rnd.choice(words if schema.columns[i].required else [None, *words])
             rows = station.encode(schema, [list(column) for column in zip(*values)] or [[]] * len(schema))
             self.put("x.hex", "".join(row.hex() + "\n" for row in rows))
             words = ("--columns", str(schema), "--null", "\\N", "--delimiter", rnd.choice([",", ";", "tab"]))
@@ -169,8 +170,8 @@ class Rows(Typed):
         run = self.run_it("show", "--columns", "plate:u16,glyph:text", "01000701", "01000703")
         self.assertEqual(run.returncode, 1)
         self.assertIn("accepted: plate 7, glyph ''", run.stdout.decode())
-        self.assertIn("refused 17 1 1: row 1, column 1: this lead byte is not allowed, at byte 3", run.stdout.decode())
-        told = "refused 17 1 1: row 1, column 1: this lead byte is not allowed"
+        self.assertIn("refused 17 1 1 3: row 1, column 1, byte 3: this lead byte is not allowed", run.stdout.decode())
+        told = "refused 17 1 1 3: row 1, column 1, byte 3: this lead byte is not allowed"
         self.assertEqual(run.stderr.decode(), f"rowstation: show, row 1, column glyph: {told}\n")
         self.done("encode", "a.csv", "-o", "a.hex")
         self.assertIn("accepted: plate 7, glyph null", self.done("show", "--in", "a.hex", "--row", "4"))
@@ -291,7 +292,7 @@ class BadInput(Typed):
             (good.encode() + b"8,\xe4\n", "x.csv, line 3: byte E4 is not UTF-8; say with --encoding what the file is written in"),
             (good + "8", "x.csv, line 3: 1 cells, and there are 2 names"),
             (good + '8,"cut', "x.csv, line 3: this is no CSV: unexpected end of data"),
-            (good + f"8,{'a' * 65536}\n", "x.csv, line 3, column glyph: refused 10 1 1: a slot over 65,535 bytes in column 1, row 1"),
+            (good + f"8,{'a' * 65536}\n", "x.csv, line 3, column glyph: refused 10 1 1 0: a slot over 65,535 bytes in column 1, row 1"),
         ):
             with self.subTest(content=content[:40]):
                 self.put("x.csv", content)
@@ -309,13 +310,13 @@ class BadInput(Typed):
     def test_rows(self):
         words = ("decode", "x.rows", "--columns", "plate:u8,glyph:text", "-o", "out.csv")
         for content, line in (
-            ("010500\n010503\n", "x.rows, line 2, column glyph: refused 17 1 1: row 1, column 1: this lead byte is not allowed"),
+            ("010500\n010503\n", "x.rows, line 2, column glyph: refused 17 1 1 2: row 1, column 1, byte 2: this lead byte is not allowed"),
             ("010500\n0105010\n", "x.rows, line 2: 7 hex digits, and a byte has two"),
             ("010500\n01050", "x.rows, line 2: the last line has no newline: the file is cut"),
-            ("010500ff\n", "x.rows, line 1: refused 22 0 2: row 0, column 2: bytes follow the last field"),
+            ("010500ff\n", "x.rows, line 1: refused 22 0 2 3: row 0, column 2, byte 3: bytes follow the last field"),
             (b"\xffrowbin1\1\0\0\0\3\0\0\0\1\5", "x.rows, row 0: the file is cut, at byte 18"),
             (b"\xffrowbin1\1\0\0\0\3\0\0\0\1\5\3\0\0\0\0",
-             "x.rows, row 0, column glyph: refused 17 0 1: row 0, column 1: this lead byte is not allowed"),
+             "x.rows, row 0, column glyph: refused 17 0 1 2: row 0, column 1, byte 2: this lead byte is not allowed"),
             ("010502ff" + "00" * 7 + "01\n", "x.rows, line 1, column glyph: the value is not UTF-8; for bytes in hex say kind bytes"),
             ("010501\n", "x.rows, line 1, column glyph: the value '' would be read as null; say another word for null with --null"),
         ):
@@ -333,7 +334,7 @@ class BadInput(Typed):
         self.put("x.csv", "plate\n" + "7\n" * 50_000 + "x\n")
         self.refused(1, "x.csv, line 50002, column plate: 'x' is no u8", "encode", "x.csv", "--columns", "plate:u8")
         self.put("x.rows", "0107\n" * 50_000 + "0207\n")
-        self.refused(1, "x.rows, line 50001, column plate: refused 17 50000 0: row 50000, column 0: this lead byte is not allowed",
+        self.refused(1, "x.rows, line 50001, column plate: refused 17 50000 0 0: row 50000, column 0, byte 0: this lead byte is not allowed",
                      "decode", "x.rows", "--columns", "plate:u8")
 
     def test_wrong_use(self):
@@ -343,7 +344,7 @@ class BadInput(Typed):
             ("no/out.hex: cannot be written: No such file or directory", "encode", "a.csv", "-o", "no/out.hex"),
             ("--columns: column plate: there is no kind 'u33'; the kinds are " + ", ".join(station.KINDS),
              "encode", "a.csv", "--columns", "plate:u33"),
-            ("--columns: refused 4 0 0: a width over 1,024 in the column at byte 0 of the list", "encode", "a.csv", "--columns", "h:fixed:2000"),
+            ("--columns: refused 4 0 0 0: a width over 1,024 in the column at byte 0 of the list", "encode", "a.csv", "--columns", "h:fixed:2000"),
             ("--quantise position: it is NAME=STEP, as position=0.01", "dust", "a.csv", "b.csv", "--quantise", "position"),
             ("--quantise position=-1: it is NAME=STEP, as position=0.01", "dust", "a.csv", "b.csv", "--quantise", "position=-1"),
             ("--quantise plate=2: column plate is u32, and only floats are quantised", "dust", "a.csv", "b.csv", "--quantise", "plate=2"),

@@ -94,9 +94,9 @@ class Tables(unittest.TestCase):
         text = (REPOSITORY / "bindings" / "rust" / "src" / "refusal.rs").read_text()
         display, _, rows = text.partition("fn row_reason")
         words = {int(number): said for number, said in re.findall(r'(\d+) => write!\(\s*f,\s*"([^"]*)"\s*\)', display)}
-        prefix = re.search(r'_ => write!\(f, "([^"]*): \{\}", row_reason\(number\)\)', display).group(1)
+        prefix = re.search(r'_ => write!\(\s*f,\s*"([^"]*): \{\}",\s*row_reason\(number\)\s*\)', display).group(1)
         words.update({int(number): f"{prefix}: {said}" for number, said in re.findall(r'(\d+) => "([^"]*)"', rows)})
-        names = {"{a}": "{second}", "{b}": "{third}"}
+        names = {"{a}": "{second}", "{b}": "{third}", "{place}": "{fourth}"}
         words = {number: re.sub(r"\{\w+\}", lambda match: names[match.group()], said) for number, said in words.items()}
         self.assertEqual({number: reason.words for number, reason in REASONS.items()}, words)
 

@@ -93,13 +93,25 @@ class Batches(unittest.TestCase):
         values[9_000] = bytes(65_536)
         with self.assertRaises(station.Refused) as caught:
             station.encode(schema, {"plate": range(10_000), "glyph": values})
-        self.assertEqual(caught.exception.numbers, (10, 1, 9_000))
+        self.assertEqual(caught.exception.numbers, (10, 1, 9_000, 0))
         rows = list(station.encode(schema, {"plate": range(10_000), "glyph": [b"a"] * 10_000}))
         rows[8_500] = rows[8_500][:5] + b"\3"
         with self.assertRaises(station.Refused) as caught:
             station.decode(schema, rows)
-        self.assertEqual(caught.exception.numbers, (17, 8_500, 1))
-        self.assertEqual((caught.exception.row, schema.column_of(caught.exception)), (8_500, "glyph"))
+        self.assertEqual(caught.exception.numbers, (17, 8_500, 1, 5))
+        self.assertEqual((caught.exception.row, schema.column_of(caught.exception), caught.exception.byte), (8_500, "glyph", 5))
+
+    def test_a_required_column(self):
+        schema = station.Schema("plate:u32:required,glyph:bytes")
+        plates = list(range(10_000))
+        plates[9_000] = plates[9_500] = None
+        with self.assertRaises(station.Refused) as caught:
+            station.encode(schema, {"plate": plates, "glyph": [None] * 10_000})
+        self.assertEqual(caught.exception.numbers, (27, 0, 9_000, 0))
+        self.assertEqual(str(caught.exception), "refused 27 0 9000 0: column 0 is required, and null in row 9000")
+        with self.assertRaises(station.Refused) as caught:
+            station.decode(schema, [b"\0" * 5 + b"\1"])
+        self.assertEqual(caught.exception.numbers, (17, 0, 0, 0))
 
     def test_bytes_beyond_any_sheet(self):
         schema = station.Schema("a:bytes")

@@ -38,7 +38,8 @@ class Explained(unittest.TestCase):
             self.assertIsNone(fault)
             self.assertEqual(at, len(row))
         except station.Refused as refusal:
-            self.assertEqual((fault.number, 0, fault.column), refusal.numbers)
+            self.assertEqual((fault.number, 0, fault.column, fault.place), refusal.numbers)
+            self.assertEqual(fault.place, refusal.byte)
             self.assertTrue(fault.place == len(row) if fault.number == 16 else 0 <= fault.place < len(row))
 
     def test_good_and_damaged(self):
@@ -76,8 +77,8 @@ class Explained(unittest.TestCase):
     def test_values_before_the_fault(self):
         lines, refusal = told(station.Schema("plate:u16,glyph:text"), bytes.fromhex("01000703"), 0)
         self.assertIn("value, u16: 7", lines[2])
-        self.assertEqual(str(refusal), "refused 17 0 1: row 0, column 1: this lead byte is not allowed")
-        self.assertEqual(lines[-1], f"{refusal}, at byte 3")
+        self.assertEqual(str(refusal), "refused 17 0 1 3: row 0, column 1, byte 3: this lead byte is not allowed")
+        self.assertEqual(lines[-1], str(refusal))
 
     def test_text_that_is_none(self):
         lines, refusal = told(station.Schema("a:text"), model.row(station.Schema("a:bytes"), [b"\xff"]), 0)

@@ -173,7 +173,7 @@ class Bad(unittest.TestCase):
         ):
             with self.assertRaisesRegex(ValueError, pattern):
                 station.Schema(given)
-        for given, numbers in (([], (1, 0, 0)), ("a:u8,h:fixed:1025", (4, 2, 0))):
+        for given, numbers in (([], (1, 0, 0, 0)), ("a:u8,h:fixed:1025", (4, 2, 0, 0))):
             with self.assertRaises(station.Refused) as caught:
                 station.Schema(given)
             self.assertEqual(caught.exception.numbers, numbers)

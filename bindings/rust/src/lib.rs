@@ -4,7 +4,7 @@
 //! binary (kind, options, width low byte first). A **sheet** holds the columns one after another:
 //! validity bits, then values. A **row** is a byte string; comparing two rows byte by byte orders
 //! them as their values are ordered. Every entry checks what it is given and answers either
-//! [`Done`] or a [`Refusal`] with three numbers; a refusal leaves every buffer as it was.
+//! [`Done`] or a [`Refusal`] with four numbers; a refusal leaves every buffer as it was.
 //!
 //! ```
 //! // One column of i32, nulls first; two rows: 1 and null.
@@ -127,8 +127,26 @@ pub mod kind {
     }
 }
 
-/// The bytes of an answer: three numbers of eight bytes.
-pub const ANSWER_BYTES: usize = 24;
+/// The options of columns by name: bits of the second byte of a column in a list.
+///
+/// ```
+/// use station::{kind, option};
+/// // Plate numbers that are never missing.
+/// let list = [kind::U32, option::REQUIRED];
+/// let refusal = station::measure(&list, 1, &[0, 0, 0, 0, 0]).unwrap_err();
+/// assert_eq!(refusal.to_string(), "refused 27 0 0 0: column 0 is required, and null in row 0");
+/// ```
+pub mod option {
+    /// Large values first.
+    pub const DESCENDING: u8 = 1;
+    /// Nulls before all values, and not after them.
+    pub const NULLS_FIRST: u8 = 2;
+    /// No slot is null.
+    pub const REQUIRED: u8 = 4;
+}
+
+/// The bytes of an answer: four numbers of eight bytes.
+pub const ANSWER_BYTES: usize = 32;
 
 /// What an entry counted when it did what was asked.
 #[derive(Clone, Copy, Debug, PartialEq, Eq)]
@@ -186,7 +204,7 @@ impl Rows {
 ///
 /// let refusal = station::check_list(&[8, 2, 99, 0]).unwrap_err();
 /// assert_eq!((refusal.number, refusal.second), (2, 2));
-/// assert_eq!(refusal.to_string(), "refused 2 2 0: unknown kind at byte 2 of the list");
+/// assert_eq!(refusal.to_string(), "refused 2 2 0 0: unknown kind at byte 2 of the list");
 /// # Ok::<(), station::Refusal>(())
 /// ```
 pub fn check_list(list: &[u8]) -> Answer {
@@ -276,6 +294,10 @@ pub fn encode(list: &[u8], n: u64, sheet: &[u8], rows: &mut [u8], offsets: &mut 
 /// let done = station::decode(&[6, 1], 2, &rows, &[0, 2, 4], &mut sheet)?;
 /// assert_eq!((done.total, done.nulls), (3, 1));
 /// assert_eq!(sheet, [0b10, 0, 5]);
+///
+/// // A damaged row is refused with row, column and byte.
+/// let refusal = station::decode(&[6, 1], 2, &[0xFF, 0, 3, 0xFA], &[0, 2, 4], &mut sheet).unwrap_err();
+/// assert_eq!(refusal.to_string(), "refused 17 1 0 0: row 1, column 0, byte 0: this lead byte is not allowed");
 /// # Ok::<(), station::Refusal>(())
 /// ```
 pub fn decode(list: &[u8], n: u64, rows: &[u8], offsets: &[u64], sheet: &mut [u8]) -> Answer {
@@ -346,7 +368,7 @@ pub fn decode_to_vec(
     Ok(sheet)
 }
 
-/// Lends an answer to `call` and reads the three numbers out of it.
+/// Lends an answer to `call` and reads the four numbers out of it.
 fn answered(call: impl FnOnce(&mut [u8; ANSWER_BYTES])) -> Answer {
     let mut bytes = [0; ANSWER_BYTES];
     call(&mut bytes);
@@ -361,6 +383,7 @@ fn answered(call: impl FnOnce(&mut [u8; ANSWER_BYTES])) -> Answer {
             number: refused,
             second: number(1),
             third: number(2),
+            place: number(3),
         }),
     }
 }

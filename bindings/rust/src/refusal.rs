@@ -1,20 +1,23 @@
-//! Refusals and what their three numbers say.
+//! Refusals and what their four numbers say.
 
 use std::error::Error;
 use std::fmt;
 
-/// Why an entry did nothing: the number of the reason, and two numbers that say where.
+/// Why an entry did nothing: the number of the reason, and three numbers that say where.
 ///
-/// Rows, columns and places count from 0; a place is a byte's. `Display` gives the three numbers
+/// Rows, columns and places count from 0; a place is a byte's. `Display` gives the four numbers
 /// and what they mean.
 #[derive(Clone, Copy, Debug, PartialEq, Eq, Hash)]
 pub struct Refusal {
-    /// The reason, 1 to 24.
+    /// The reason, 1 to 24 or 27.
     pub number: u64,
     /// The first number that goes with it.
     pub second: u64,
     /// The second number that goes with it; 0 where the reason has one only.
     pub third: u64,
+    /// In a refusal of a row, 16 to 23: the bad byte, counted from the row's start; where the
+    /// row is cut, 16, its length. 0 in all others.
+    pub place: u64,
 }
 
 impl Refusal {
@@ -32,8 +35,9 @@ impl fmt::Display for Refusal {
             number,
             second: a,
             third: b,
+            place,
         } = *self;
-        write!(f, "refused {number} {a} {b}: ")?;
+        write!(f, "refused {number} {a} {b} {place}: ")?;
         match number {
             1 => write!(f, "the list is empty or cut in the column at byte {a}"),
             2 => write!(f, "unknown kind at byte {a} of the list"),
@@ -63,7 +67,12 @@ impl fmt::Display for Refusal {
                 "offset {a} is not 0 at the start, falls, or passes the row bytes"
             ),
             24 => write!(f, "the sheet buffer is too small for {a} bytes"),
-            _ => write!(f, "row {a}, column {b}: {}", row_reason(number)),
+            27 => write!(f, "column {a} is required, and null in row {b}"),
+            _ => write!(
+                f,
+                "row {a}, column {b}, byte {place}: {}",
+                row_reason(number)
+            ),
         }
     }
 }

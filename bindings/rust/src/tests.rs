@@ -9,10 +9,16 @@ const NAMES: [u8; 2] = [16, 2];
 const A_AND_NULL: [u8; 14] = [0b01, 0, 0, 0, 0, 1, 0, 0, 0, 1, 0, 0, 0, b'a'];
 
 fn refused(number: u64, second: u64, third: u64) -> Answer {
+    refused_at(number, second, third, 0)
+}
+
+/// A refusal of a row, with its place.
+fn refused_at(number: u64, second: u64, third: u64, place: u64) -> Answer {
     Err(Refusal {
         number,
         second,
         third,
+        place,
     })
 }
 
@@ -91,23 +97,45 @@ fn vectors_have_the_right_size() {
 fn damaged_rows_are_named() {
     let decoded = |row: &[u8]| decode(&NAMES, 1, row, &[0, row.len() as u64], &mut [0; 64]);
     assert_eq!(decoded(&[3]), refused(17, 0, 0));
-    assert_eq!(decoded(&[2]), refused(16, 0, 0));
-    assert_eq!(decoded(&[2, 97, 0, 0, 0, 0, 0, 0, 0, 9]), refused(20, 0, 0));
-    assert_eq!(decoded(&[2, 97, 0, 0, 0, 0, 0, 0, 1, 1]), refused(21, 0, 0));
-    assert_eq!(decoded(&[1, 1]), refused(22, 0, 1));
+    assert_eq!(decoded(&[2]), refused_at(16, 0, 0, 1));
+    assert_eq!(
+        decoded(&[2, 97, 0, 0, 0, 0, 0, 0, 0, 9]),
+        refused_at(20, 0, 0, 9)
+    );
+    assert_eq!(
+        decoded(&[2, 97, 0, 0, 0, 0, 0, 0, 1, 1]),
+        refused_at(21, 0, 0, 8)
+    );
+    assert_eq!(
+        decoded(&[2, 97, 0, 0, 5, 0, 0, 0, 1, 1]),
+        refused_at(21, 0, 0, 4)
+    );
+    assert_eq!(decoded(&[1, 1]), refused_at(22, 0, 1, 1));
+    // The place counts from the start of its row.
+    let second = decode(&NAMES, 2, &[1, 2, 97], &[0, 1, 3], &mut [0; 64]);
+    assert_eq!(second, refused_at(16, 1, 0, 2));
+}
+
+#[test]
+fn a_required_column_has_no_null() {
+    let list = [kind::U8, option::NULLS_FIRST | option::REQUIRED];
+    let sheet = [0b101, 1, 2, 3];
+    assert_eq!(measure(&list, 3, &sheet), refused(27, 0, 1));
+    let read = decode(&list, 1, &[0, 0], &[0, 2], &mut [0; 2]);
+    assert_eq!(read, refused(17, 0, 0));
 }
 
 #[test]
 fn every_reason_reads_well() {
-    for number in 1..=24 {
-        let text = refused(number, 5, 6).unwrap_err().to_string();
-        assert!(text.starts_with(&format!("refused {number} 5 6: ")));
+    for number in (1..=24).chain([27]) {
+        let text = refused_at(number, 5, 6, 7).unwrap_err().to_string();
+        assert!(text.starts_with(&format!("refused {number} 5 6 7: ")));
         assert!(!text.contains("unknown reason"), "{text}");
     }
-    let text = refused(17, 3, 1).unwrap_err().to_string();
+    let text = refused_at(17, 3, 1, 9).unwrap_err().to_string();
     assert_eq!(
         text,
-        "refused 17 3 1: row 3, column 1: this lead byte is not allowed"
+        "refused 17 3 1 9: row 3, column 1, byte 9: this lead byte is not allowed"
     );
 }
 

@@ -139,11 +139,11 @@ cleared-alike list n sheet rows offsets b e =
 
 -- ---- a row is refused by its content exactly when no values within the limits have its bytes
 module _ (list : List ℕ) (n : ℕ) (bytes offsets : List ℕ) (room : ℕ) where
-  cut : (r : ℕ) → r < n → getD (cutRows n bytes offsets) r [] ≡ rowBytes bytes offsets r
+  pub cut : (r : ℕ) → r < n → getD (cutRows n bytes offsets) r [] ≡ rowBytes bytes offsets r
   cut r l = each-at n (rowBytes bytes offsets) [] r l
 
   -- what decode refuses by content was refused by its rows: nothing before them refuses so, nor does 24
-  by-rows : {x : Refusal} → byContent x ≡ true → decodeAnswer list n bytes offsets room ≡ Refused x
+  pub by-rows : {x : Refusal} → byContent x ≡ true → decodeAnswer list n bytes offsets room ≡ Refused x
       → rowsFault 0 (columns list) (cutRows n bytes offsets) ≡ Refuse x
   unfolding decodeAnswer decodeCheck
   by-rows {x} t e =
@@ -162,10 +162,10 @@ module _ (list : List ℕ) (n : ℕ) (bytes offsets : List ℕ) (room : ℕ) whe
       first (Refuse y) d h e = e
 
   -- a refusal by content names the first row that no values have
-  pub content-refused : (f : RowFault) (r c : ℕ) → Bytes bytes → decodeAnswer list n bytes offsets room ≡ Refused (Row f r c)
+  pub content-refused : (f : RowFault) (r c place : ℕ) → Bytes bytes → decodeAnswer list n bytes offsets room ≡ Refused (Row f r c place)
       → (r < n) × (HasValues (columns list) (rowBytes bytes offsets r) → ⊥) × ((i : ℕ) → i < r → HasValues (columns list) (rowBytes bytes offsets i))
-  content-refused f r c b e =
-      let t = rows-refused (columns list) (cutRows n bytes offsets) 0 (Row f r c) (by-rows (row-content f r c) e) in
+  content-refused f r c place b e =
+      let t = rows-refused (columns list) (cutRows n bytes offsets) 0 (Row f r c place) (by-rows (row-content f r c place) e) in
       let is : t .j ≡ r = same (t .names) in
       let l : r < n = omega (arith, t .here, length-each 0 n (rowBytes bytes offsets)) in (
         l,
@@ -177,8 +177,8 @@ module _ (list : List ℕ) (n : ℕ) (bytes offsets : List ℕ) (room : ℕ) whe
             (omega (arith, length-each 0 n (rowBytes bytes offsets))))),
       )
     where
-      same : {g : RowFault} {j d : ℕ} → Row f r c ≡ Row g (0 + j) d → j ≡ r
-      same {g} {j} {d} h = let z : r ≡ 0 + j = cc in omega arith
+      same : {g : RowFault} {j d p : ℕ} → Row f r c place ≡ Row g (0 + j) d p → j ≡ r
+      same {g} {j} {d} {p} h = let z : r ≡ 0 + j = cc in omega arith
 
   -- where every row has values, nothing is refused by content
   pub content-accepted : ((r : ℕ) → r < n → HasValues (columns list) (rowBytes bytes offsets r)) → {x : Refusal} → byContent x ≡ true
@@ -208,4 +208,4 @@ module _ (list : List ℕ) (n : ℕ) (bytes offsets : List ℕ) (room : ℕ) whe
           absurd (never (subst (HasValues cols) (cut r l) (record { values = rowSlots cols (getD rs r []); fit = v .0; spell = v .1 })))
       go (Refuse x) e =
           let t = rows-refused (columns list) (cutRows n bytes offsets) 0 x e in
-          (x, ap byContent (t .names) ∙ row-content (t .fault) (0 + t .j) (t .column), rw (p, q, o, e))
+          (x, ap byContent (t .names) ∙ row-content (t .fault) (0 + t .j) (t .column) (t .place), rw (p, q, o, e))

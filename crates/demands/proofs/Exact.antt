@@ -32,16 +32,16 @@ use Rattle.demands.proofs.OneRow.{row-passes, refused-none}
 -- ---- refusals by content: 16 to 23, and 28
 
 -- the faults of a row are
-pub row-content : (f : RowFault) (r c : ℕ) → byContent (Row f r c) ≡ true
-row-content Cut r c = refl
-row-content Lead r c = refl
-row-content NullRest r c = refl
-row-content BoolByte r c = refl
-row-content EndByte r c = refl
-row-content Padding r c = refl
-row-content Extra r c = refl
-row-content TooLong r c = refl
-row-content Unfolded r c = refl
+pub row-content : (f : RowFault) (r c place : ℕ) → byContent (Row f r c place) ≡ true
+row-content Cut r c place = refl
+row-content Lead r c place = refl
+row-content NullRest r c place = refl
+row-content BoolByte r c place = refl
+row-content EndByte r c place = refl
+row-content Padding r c place = refl
+row-content Extra r c place = refl
+row-content TooLong r c place = refl
+row-content Unfolded r c place = refl
 
 -- a check that refuses nothing by content
 abbrev pub Outer : Check → Type 0
@@ -104,22 +104,23 @@ past-outer (Refuse y) d h t e = absurd (outer-no (Refuse y) h t e)
 -- ---- rows
 
 -- a fault in row r is refused as one
-named : (r c : ℕ) (cols : List Column) (s : List ℕ) (x : Refusal) → rowFault r c cols s ≡ Refuse x → (f : RowFault) × (d : ℕ) × (x ≡ Row f r d)
-named r c [] [] x e = absurd (refuse-pass (sym e))
-named r c [] (b ∷ s) x e = (Extra, c, sym (refused e))
+named : (r n c : ℕ) (cols : List Column) (s : List ℕ) (x : Refusal) → rowFault r n c cols s ≡ Refuse x
+    → (f : RowFault) × (d place : ℕ) × (x ≡ Row f r d place)
+named r n c [] [] x e = absurd (refuse-pass (sym e))
+named r n c [] (b ∷ s) x e = (Extra, c, n - suc (length s), sym (refused e))
   where
     refused : {y z : Refusal} → Refuse y ≡ Refuse z → y ≡ z
     refused h = cc
-named r c (col ∷ cols) s x e = go (readField (columnShape col) (col .options) s) e (named r (suc c) cols)
+named r n c (col ∷ cols) s x e = go (readField (columnShape col) (col .options) s) e (named r n (suc c) cols)
   where
-    go : (p : Parsed Slot) → fieldCheck r c p (rowFault r (suc c) cols) ≡ Refuse x
-        → ((t : List ℕ) (y : Refusal) → rowFault r (suc c) cols t ≡ Refuse y → (f : RowFault) × (d : ℕ) × (y ≡ Row f r d))
-        → (f : RowFault) × (d : ℕ) × (x ≡ Row f r d)
+    go : (p : Parsed Slot) → fieldCheck r n c p (rowFault r n (suc c) cols) ≡ Refuse x
+        → ((t : List ℕ) (y : Refusal) → rowFault r n (suc c) cols t ≡ Refuse y → (f : RowFault) × (d place : ℕ) × (y ≡ Row f r d place))
+        → (f : RowFault) × (d place : ℕ) × (x ≡ Row f r d place)
     go (got v rest) h ih = ih rest x h
-    go (fault f l) h ih = (f, c, cc)
+    go (fault f l) h ih = (f, c, n - l, cc)
 
-values-pass : (r : ℕ) (cols : List Column) (f : List ℕ) → HasValues cols f → rowFault r 0 cols f ≡ Pass
-values-pass r cols f h = ap (rowFault r 0 cols) (sym (h .spell)) ∙ row-passes r 0 cols (h .values) (h .fit)
+values-pass : (r n : ℕ) (cols : List Column) (f : List ℕ) → HasValues cols f → rowFault r n 0 cols f ≡ Pass
+values-pass r n cols f h = ap (rowFault r n 0 cols) (sym (h .spell)) ∙ row-passes r n 0 cols (h .values) (h .fit)
 
 -- rows refused from row k on: row k + j of them is the first that no values have
 pub record First (cols : List Column) (bs : List (List ℕ)) (k : ℕ) (x : Refusal) : Type 0 where
@@ -127,15 +128,17 @@ pub record First (cols : List Column) (bs : List (List ℕ)) (k : ℕ) (x : Refu
   pub here : j < length bs
   pub fault : RowFault
   pub column : ℕ
-  pub names : x ≡ Row fault (k + j) column
+  pub place : ℕ
+  pub names : x ≡ Row fault (k + j) column place
+  pub refused : rowFault (k + j) (length (getD bs j [])) 0 cols (getD bs j []) ≡ Refuse x
   pub none : HasValues cols (getD bs j []) → ⊥
   pub before : (i : ℕ) → i < j → Bytes (getD bs i []) → HasValues cols (getD bs i [])
 
 pub rows-refused : (cols : List Column) (bs : List (List ℕ)) (k : ℕ) (x : Refusal) → rowsFault k cols bs ≡ Refuse x → First cols bs k x
 rows-refused cols [] k x e = absurd (refuse-pass (sym e))
-rows-refused cols (b ∷ bs) k x e = go (rowFault k 0 cols b) refl e (rows-refused cols bs (suc k) x)
+rows-refused cols (b ∷ bs) k x e = go (rowFault k (length b) 0 cols b) refl e (rows-refused cols bs (suc k) x)
   where
-    go : (c : Check) → rowFault k 0 cols b ≡ c → both c (rowsFault (suc k) cols bs) ≡ Refuse x
+    go : (c : Check) → rowFault k (length b) 0 cols b ≡ c → both c (rowsFault (suc k) cols bs) ≡ Refuse x
         → (rowsFault (suc k) cols bs ≡ Refuse x → First cols bs (suc k) x) → First cols (b ∷ bs) k x
     go Pass q h ih =
         let t = ih h in
@@ -144,24 +147,28 @@ rows-refused cols (b ∷ bs) k x e = go (rowFault k 0 cols b) refl e (rows-refus
           here = omega (arith, t .here);
           fault = t .fault;
           column = t .column;
-          names = t .names ∙ ap (λ (r : ℕ). Row (t .fault) r (t .column)) (omega arith);
+          place = t .place;
+          names = t .names ∙ ap (λ (r : ℕ). Row (t .fault) r (t .column) (t .place)) (omega arith);
+          refused = rw (let r : k + suc (t .j) ≡ suc k + t .j = omega arith in r) (t .refused);
           none = t .none;
           before = earlier t q;
         }
       where
-        earlier : (t : First cols bs (suc k) x) → rowFault k 0 cols b ≡ Pass → (i : ℕ) → i < suc (t .j) → Bytes (getD (b ∷ bs) i [])
+        earlier : (t : First cols bs (suc k) x) → rowFault k (length b) 0 cols b ≡ Pass → (i : ℕ) → i < suc (t .j) → Bytes (getD (b ∷ bs) i [])
             → HasValues cols (getD (b ∷ bs) i [])
-        earlier t q zero l y = let p = passed-row k 0 cols b y q in record { values = rowSlots cols b; fit = p .1; spell = p .0 }
+        earlier t q zero l y = let p = passed-row k (length b) 0 cols b y q in record { values = rowSlots cols b; fit = p .1; spell = p .0 }
         earlier t q (suc i) l y = t .before i (omega arith) y
     go (Refuse y) q h ih =
-        let n = named k 0 cols b x (q ∙ h) in
+        let n = named k (length b) 0 cols b x (q ∙ h) in
         record {
           j = 0;
           here = omega arith;
           fault = n .0;
           column = n .1;
-          names = n .2 ∙ ap (λ (r : ℕ). Row (n .0) r (n .1)) (sym (add-zero k));
-          none = λ v. refused-none k 0 cols b y q (v .values) (v .fit) (v .spell);
+          place = n .2;
+          names = n .3 ∙ ap (λ (r : ℕ). Row (n .0) r (n .1) (n .2)) (sym (add-zero k));
+          refused = rw (add-zero k) (q ∙ h);
+          none = λ v. refused-none k (length b) 0 cols b y q (v .values) (v .fit) (v .spell);
           before = λ i l. absurd (omega arith);
         }
 
@@ -169,7 +176,7 @@ rows-refused cols (b ∷ bs) k x e = go (rowFault k 0 cols b) refl e (rows-refus
 pub rows-valued : (cols : List Column) (bs : List (List ℕ)) (k : ℕ) → ((i : ℕ) → i < length bs → HasValues cols (getD bs i [])) → rowsFault k cols bs ≡ Pass
 rows-valued cols [] k h = refl
 rows-valued cols (b ∷ bs) k h =
-    pass-both (rowFault k 0 cols b) _ (values-pass k cols b (h 0 (omega arith)))
+    pass-both (rowFault k (length b) 0 cols b) _ (values-pass k (length b) cols b (h 0 (omega arith)))
     (rows-valued cols bs (suc k) (λ i l. h (suc i) (omega arith)))
 
 -- a row among rows that are those of the slots read from them, which fit

@@ -22,7 +22,8 @@ pub mod Demand3
 pub mod NullSlots
 pub mod FoldedRows
 pub mod Calls
+pub mod FieldPlace
+pub mod Place
 pub mod Front
-pub mod FaultPlace
 pub mod OutBytes
 pub mod Unique

@@ -24,12 +24,12 @@ first-read : (col : Column) (cols : List Column) (x : Slot) (xs : List Slot) →
 first-read col cols x xs h = field-read (columnShape col) (col .options) x (row cols xs) (h .0) (bytes-row cols xs (h .1))
 
 -- a row has no fault
-pub row-passes : (r c : ℕ) (cols : List Column) (xs : List Slot) → RowFits cols xs → rowFault r c cols (row cols xs) ≡ Pass
-row-passes r c [] [] h = refl
-row-passes r c [] (x ∷ xs) h = absurd h
-row-passes r c (col ∷ cols) [] h = absurd h
-row-passes r c (col ∷ cols) (x ∷ xs) h =
-    ap (λ (p : Parsed Slot). fieldCheck r c p (rowFault r (suc c) cols)) (first-read col cols x xs h) ∙ row-passes r (suc c) cols xs (h .1)
+pub row-passes : (r n c : ℕ) (cols : List Column) (xs : List Slot) → RowFits cols xs → rowFault r n c cols (row cols xs) ≡ Pass
+row-passes r n c [] [] h = refl
+row-passes r n c [] (x ∷ xs) h = absurd h
+row-passes r n c (col ∷ cols) [] h = absurd h
+row-passes r n c (col ∷ cols) (x ∷ xs) h =
+    ap (λ (p : Parsed Slot). fieldCheck r n c p (rowFault r n (suc c) cols)) (first-read col cols x xs h) ∙ row-passes r n (suc c) cols xs (h .1)
 
 -- and its slots are those that were written
 pub row-slots : (cols : List Column) (xs : List Slot) → RowFits cols xs → rowSlots cols (row cols xs) ≡ xs
@@ -47,15 +47,15 @@ row-injective cols xs ys hx hy e = sym (row-slots cols xs hx) ∙ ap (rowSlots c
 -- ---- a row is refused exactly when no slots within the limits have its bytes
 
 -- what is refused is the row of no slots that fit
-pub refused-none : (r c : ℕ) (cols : List Column) (f : List ℕ) (x : Refusal) → rowFault r c cols f ≡ Refuse x
+pub refused-none : (r n c : ℕ) (cols : List Column) (f : List ℕ) (x : Refusal) → rowFault r n c cols f ≡ Refuse x
     → (xs : List Slot) → RowFits cols xs → row cols xs ≡ f → ⊥
-refused-none r c cols f x h xs fits e = refuse-pass (sym h ∙ ap (rowFault r c cols) (sym e) ∙ row-passes r c cols xs fits)
+refused-none r n c cols f x h xs fits e = refuse-pass (sym h ∙ ap (rowFault r n c cols) (sym e) ∙ row-passes r n c cols xs fits)
 
 -- and what is the row of none is refused
-pub none-refused : (r c : ℕ) (cols : List Column) (f : List ℕ) → Bytes f → ((xs : List Slot) → RowFits cols xs → row cols xs ≡ f → ⊥)
-    → (x : Refusal) × (rowFault r c cols f ≡ Refuse x)
-none-refused r c cols f b never = go (rowFault r c cols f) refl
+pub none-refused : (r n c : ℕ) (cols : List Column) (f : List ℕ) → Bytes f → ((xs : List Slot) → RowFits cols xs → row cols xs ≡ f → ⊥)
+    → (x : Refusal) × (rowFault r n c cols f ≡ Refuse x)
+none-refused r n c cols f b never = go (rowFault r n c cols f) refl
   where
-    go : (k : Check) → rowFault r c cols f ≡ k → (x : Refusal) × (rowFault r c cols f ≡ Refuse x)
-    go Pass q = let t = passed-row r c cols f b q in absurd (never (rowSlots cols f) (t .1) (t .0))
+    go : (k : Check) → rowFault r n c cols f ≡ k → (x : Refusal) × (rowFault r n c cols f ≡ Refuse x)
+    go Pass q = let t = passed-row r n c cols f b q in absurd (never (rowSlots cols f) (t .1) (t .0))
     go (Refuse x) q = (x, q)

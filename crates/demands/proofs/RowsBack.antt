@@ -32,7 +32,9 @@ use Rattle.demands.proofs.OneRow.{row-passes, row-slots}
 -- ---- rows of slots that fit are read back
 rows-pass : (r : ℕ) (cols : List Column) (yss : List (List Slot)) → Every (RowFits cols) yss → rowsFault r cols (map (row cols) yss) ≡ Pass
 rows-pass r cols [] h = refl
-rows-pass r cols (ys ∷ yss) h = pass-both (rowFault r 0 cols (row cols ys)) _ (row-passes r 0 cols ys (h .0)) (rows-pass (suc r) cols yss (h .1))
+rows-pass r cols (ys ∷ yss) h =
+    let n : ℕ = length (row cols ys) in
+    pass-both (rowFault r n 0 cols (row cols ys)) _ (row-passes r n 0 cols ys (h .0)) (rows-pass (suc r) cols yss (h .1))
 
 rows-back : (cols : List Column) (yss : List (List Slot)) → Every (RowFits cols) yss → map (rowSlots cols) (map (row cols) yss) ≡ yss
 rows-back cols [] h = refl

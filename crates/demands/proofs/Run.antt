@@ -6,7 +6,7 @@ use lib.ListN.{replicate}
 use Rattle.format.specs.Columns.{listFault, columns}
 use Rattle.format.specs.Sheet.{sheetFault}
 use Rattle.format.specs.Field.{paddedLength}
-use Rattle.format.specs.Numbers.{three, numbersOf}
+use Rattle.format.specs.Numbers.{three, four, numbersOf}
 use Rattle.format.specs.Entries.{measureCheck, encodeCheck, encodeAnswer, encodeRows, encodeOffsets, decodeCheck, decodeAnswer}
 
 -- one column of variable bytes, nulls first
@@ -35,14 +35,14 @@ unfolding encodeAnswer encodeCheck measureCheck listFault columns sheetFault
 longest = (refl, refl)
 
 -- what decode answers for one row of these bytes
-abbrev decoded : List ℕ → ℕ → ℕ → Type 0
-decoded row size number = numbersOf (decodeAnswer list 1 row (0 ∷ size ∷ []) 100) ≡ three number 0 0
+abbrev decoded : List ℕ → ℕ → ℕ → ℕ → Type 0
+decoded row size number place = numbersOf (decodeAnswer list 1 row (0 ∷ size ∷ []) 100) ≡ four number 0 0 place
 
 -- 03 is 17, 02 is 16; a block of one byte with end 09 or 00 is 20, and with a byte in its padding 21
-pub faulty : decoded (0x03 ∷ []) 1 17
-    × decoded (0x02 ∷ []) 1 16
-    × decoded (0x02 ∷ 0x61 ∷ replicate 7 0 ++ 0x09 ∷ []) 10 20
-    × decoded (0x02 ∷ 0x61 ∷ replicate 7 0 ++ 0x00 ∷ []) 10 20
-    × decoded (0x02 ∷ 0x61 ∷ replicate 6 0 ++ 0x01 ∷ 0x01 ∷ []) 10 21
+pub faulty : decoded (0x03 ∷ []) 1 17 0
+    × decoded (0x02 ∷ []) 1 16 1
+    × decoded (0x02 ∷ 0x61 ∷ replicate 7 0 ++ 0x09 ∷ []) 10 20 9
+    × decoded (0x02 ∷ 0x61 ∷ replicate 7 0 ++ 0x00 ∷ []) 10 20 9
+    × decoded (0x02 ∷ 0x61 ∷ replicate 6 0 ++ 0x01 ∷ 0x01 ∷ []) 10 21 8
 unfolding decodeAnswer decodeCheck listFault columns
 faulty = (refl, refl, refl, refl, refl)

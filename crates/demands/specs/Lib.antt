@@ -5,3 +5,4 @@ pub mod RoundTrip
 pub mod Order
 pub mod Slices
 pub mod Folded
+pub mod Place

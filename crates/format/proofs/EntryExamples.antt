@@ -11,7 +11,7 @@ use Rattle.format.specs.Kinds.{shape}
 use Rattle.format.specs.Field.{fieldLength}
 use Rattle.format.specs.Columns.{listFault, columns}
 use Rattle.format.specs.Sheet.{sheetFault}
-use Rattle.format.specs.Numbers.{three, numbersOf}
+use Rattle.format.specs.Numbers.{three, four, numbersOf}
 use Rattle.format.specs.Entries.{answer, totalFault, checkListAnswer, measureCheck, encodeCheck, measureAnswer, encodeAnswer, encodeRows, encodeOffsets, decodeCheck, decodeAnswer, decodeSheet, compareAnswer}
 use Rattle.format.specs.Program.{output}
 use Rattle.format.specs.Lent.{lentCheckList, lentEncode, lentEncodeRows, lentEncodeOffsets, lentDecode, lentDecodeSheet}
@@ -61,11 +61,12 @@ pub decode-refuses : (numbersOf (decodeAnswer list 2 rows (1 ∷ 0 ∷ []) 14) �
     × (numbersOf (decodeAnswer list 2 rows (1 ∷ 0 ∷ 0 ∷ []) 14) ≡ three 15 0 0)
     × (numbersOf (decodeAnswer list 2 rows (0 ∷ 11 ∷ 10 ∷ []) 14) ≡ three 15 2 0)
     × (numbersOf (decodeAnswer list 2 rows (0 ∷ 10 ∷ 12 ∷ []) 14) ≡ three 15 2 0)
-    × (numbersOf (decodeAnswer list 2 rows (0 ∷ 9 ∷ 11 ∷ []) 0) ≡ three 16 0 0)
+    × (numbersOf (decodeAnswer list 2 rows (0 ∷ 9 ∷ 11 ∷ []) 0) ≡ four 16 0 0 9)
+    × (numbersOf (decodeAnswer list 2 (rows ++ 5 ∷ []) (0 ∷ 10 ∷ 12 ∷ []) 14) ≡ four 22 1 1 1)
     × (numbersOf (decodeAnswer list 2 rows (0 ∷ 10 ∷ 11 ∷ []) 13) ≡ three 24 14 0)
     × (decodeSheet list 2 rows (0 ∷ 10 ∷ 11 ∷ []) (replicate 13 238) ≡ replicate 13 238)
 unfolding decodeAnswer decodeSheet decodeCheck listFault columns
-decode-refuses = (refl, refl, refl, refl, refl, refl, refl)
+decode-refuses = (refl, refl, refl, refl, refl, refl, refl, refl)
 
 -- unsigned bytes, a proper beginning first
 pub compares : (compareAnswer (1 ∷ 200 ∷ []) (1 ∷ 100 ∷ []) ≡ pos 1)
@@ -77,19 +78,20 @@ compares = (refl, refl, refl)
 -- the program's example, whole; a refusal; 25
 pub program : (output (2 ∷ 0 ∷ 4 ∷ 2 ∷ 2 ∷ 0 ∷ 1 ∷ 1 ∷ 0 ∷ 0 ∷ 0 ∷ 0 ∷ 0 ∷ 0 ∷ 0 ∷ [])
     ≡ 48 ∷ 49 ∷ 56 ∷ 48 ∷ 48 ∷ 48 ∷ 48 ∷ 48 ∷ 48 ∷ 49 ∷ 10 ∷ 48 ∷ 48 ∷ 48 ∷ 48 ∷ 48 ∷ 48 ∷ 48 ∷ 48 ∷ 48 ∷ 48 ∷ 10 ∷ [])
-    × (output (2 ∷ 0 ∷ 99 ∷ 2 ∷ 2 ∷ 0 ∷ []) ≡ 114 ∷ 101 ∷ 102 ∷ 117 ∷ 115 ∷ 101 ∷ 100 ∷ 32 ∷ 50 ∷ 32 ∷ 48 ∷ 32 ∷ 48 ∷ 10 ∷ [])
-    × (output (2 ∷ 0 ∷ 4 ∷ 2 ∷ 2 ∷ []) ≡ 114 ∷ 101 ∷ 102 ∷ 117 ∷ 115 ∷ 101 ∷ 100 ∷ 32 ∷ 50 ∷ 53 ∷ 32 ∷ 48 ∷ 32 ∷ 48 ∷ 10 ∷ [])
+    × (output (2 ∷ 0 ∷ 99 ∷ 2 ∷ 2 ∷ 0 ∷ []) ≡ 114 ∷ 101 ∷ 102 ∷ 117 ∷ 115 ∷ 101 ∷ 100 ∷ 32 ∷ 50 ∷ 32 ∷ 48 ∷ 32 ∷ 48 ∷ 32 ∷ 48 ∷ 10 ∷ [])
+    × (output (2 ∷ 0 ∷ 4 ∷ 2 ∷ 2 ∷ []) ≡ 114 ∷ 101 ∷ 102 ∷ 117 ∷ 115 ∷ 101 ∷ 100 ∷ 32 ∷ 50 ∷ 53 ∷ 32 ∷ 48 ∷ 32 ∷ 48 ∷ 32 ∷ 48 ∷ 10 ∷ [])
 unfolding output encodeCheck measureCheck listFault columns sheetFault
 program = (refl, refl, refl)
 
--- the lent answer: three numbers, on refusals too; if it cannot hold them, no lent byte changes. A tail of offsets stays
-pub lent : (lentCheckList (16 ∷ 8 ∷ []) (replicate 25 7) ≡ 3 ∷ replicate 23 0 ++ 7 ∷ [])
-    × (lentCheckList list (replicate 23 7) ≡ replicate 23 7)
-    × (lentEncode list 2 sheet 11 (replicate 27 7) (replicate 24 7) ≡ 0 ∷ replicate 7 0 ++ 11 ∷ replicate 7 0 ++ 1 ∷ replicate 7 0)
-    × (lentEncodeRows list 2 sheet (replicate 11 7) (replicate 27 7) (replicate 23 7) ≡ replicate 11 7)
-    × (lentEncodeOffsets list 2 sheet 11 (replicate 27 7) (replicate 24 7) ≡ replicate 8 0 ++ 10 ∷ replicate 7 0 ++ 11 ∷ replicate 7 0 ++ replicate 3 7)
-    × (lentEncodeOffsets list 2 sheet 10 (replicate 27 7) (replicate 24 7) ≡ replicate 27 7)
-    × (lentDecodeSheet list 2 rows (replicate 8 0 ++ 10 ∷ replicate 7 0 ++ 11 ∷ replicate 7 0) (replicate 14 7) (replicate 24 7) ≡ cleared)
-    × (lentDecode list 2 rows (replicate 8 0 ++ 10 ∷ replicate 7 0 ++ 11 ∷ replicate 6 0) 14 (replicate 24 7) ≡ 14 ∷ replicate 7 0 ++ 3 ∷ replicate 7 0 ++ replicate 8 0)
+-- the lent answer: four numbers, on refusals too; if it cannot hold them, no lent byte changes. A tail of offsets stays
+pub lent : (lentCheckList (16 ∷ 8 ∷ []) (replicate 33 7) ≡ 3 ∷ replicate 31 0 ++ 7 ∷ [])
+    × (lentCheckList list (replicate 24 7) ≡ replicate 24 7)
+    × (lentCheckList list (replicate 31 7) ≡ replicate 31 7)
+    × (lentEncode list 2 sheet 11 (replicate 27 7) (replicate 32 7) ≡ 0 ∷ replicate 7 0 ++ 11 ∷ replicate 7 0 ++ 1 ∷ replicate 15 0)
+    × (lentEncodeRows list 2 sheet (replicate 11 7) (replicate 27 7) (replicate 31 7) ≡ replicate 11 7)
+    × (lentEncodeOffsets list 2 sheet 11 (replicate 27 7) (replicate 32 7) ≡ replicate 8 0 ++ 10 ∷ replicate 7 0 ++ 11 ∷ replicate 7 0 ++ replicate 3 7)
+    × (lentEncodeOffsets list 2 sheet 10 (replicate 27 7) (replicate 32 7) ≡ replicate 27 7)
+    × (lentDecodeSheet list 2 rows (replicate 8 0 ++ 10 ∷ replicate 7 0 ++ 11 ∷ replicate 7 0) (replicate 14 7) (replicate 32 7) ≡ cleared)
+    × (lentDecode list 2 rows (replicate 8 0 ++ 10 ∷ replicate 7 0 ++ 11 ∷ replicate 6 0) 14 (replicate 32 7) ≡ 14 ∷ replicate 7 0 ++ 3 ∷ replicate 7 0 ++ replicate 16 0)
 unfolding lentCheckList lentEncode lentEncodeRows lentEncodeOffsets lentDecode lentDecodeSheet checkListAnswer encodeAnswer encodeRows encodeOffsets encodeCheck measureCheck decodeAnswer decodeSheet decodeCheck listFault columns sheetFault
-lent = (refl, refl, refl, refl, refl, refl, refl, refl)
+lent = (refl, refl, refl, refl, refl, refl, refl, refl, refl)

@@ -1,14 +1,16 @@
 -- Rows, computed: fields of each shape under both options, the order of values, and faults 16 to 23 with how many bytes are left
 -- from the bad byte on. Assumes nothing.
-use Prim.Native.Nat.{Ordering·lt as lt, Ordering·gt as gt, Ordering·eq as eq}
+use Prim.Native.Nat.{ℕ, Ordering·lt as lt, Ordering·gt as gt, Ordering·eq as eq}
 use mathlib.Core.Path.{_≡_, refl}
 use mathlib.Core.Bool.{true, false}
 use mathlib.Core.Option.{none, some}
-use mathlib.Core.List.{[], _∷_, _++_}
+use mathlib.Core.List.{List, [], _∷_, _++_}
 use lib.ListN.{replicate}
 use Rattle.format.specs.declared.SortOptions.{SortOptions}
+use Rattle.format.specs.declared.Kind.{Kind}
 use Rattle.format.specs.declared.Kind.the-variants.{Bool, I16, U16, F16, MonthDayNano, FixedBinary, Variable, I128, I256}
 use Rattle.format.specs.declared.RowFault.the-variants.{Cut, Lead, NullRest, BoolByte, EndByte, Padding, Extra, TooLong, Unfolded}
+use Rattle.format.specs.declared.Check.{Check}
 use Rattle.format.specs.declared.Check.the-variants.{Pass, Refuse}
 use Rattle.format.specs.declared.Refusal.the-variants.{Row}
 use Rattle.format.specs.Kinds.{shape}
@@ -113,8 +115,25 @@ pub folding : (foldedBits 2 0xfc01 ≡ 0x7e00) × (foldedBits 2 0x8000 ≡ 0) ×
 folding = (refl, refl, refl, refl, refl, refl, refl, refl, refl, refl, refl)
 
 -- the first fault in row order, then column order; 22 after the last field
-pub row-faults : (rowFault 4 0 (record { kind = Bool; options = up } ∷ []) (1 ∷ 1 ∷ []) ≡ Pass)
-    × (rowFault 4 0 (record { kind = Bool; options = up } ∷ []) (1 ∷ 1 ∷ 0 ∷ []) ≡ Refuse (Row Extra 4 1))
-    × (rowsFault 0 (record { kind = Bool; options = up } ∷ record { kind = Bool; options = up } ∷ []) ((1 ∷ 1 ∷ 9 ∷ 1 ∷ []) ∷ (9 ∷ []) ∷ []) ≡ Refuse (Row Lead 0 1))
+pub row-faults : (rowFault 4 2 0 (record { kind = Bool; options = up } ∷ []) (1 ∷ 1 ∷ []) ≡ Pass)
+    × (rowFault 4 3 0 (record { kind = Bool; options = up } ∷ []) (1 ∷ 1 ∷ 0 ∷ []) ≡ Refuse (Row Extra 4 1 2))
+    × (rowsFault 0 (record { kind = Bool; options = up } ∷ record { kind = Bool; options = up } ∷ []) ((1 ∷ 1 ∷ 9 ∷ 1 ∷ []) ∷ (9 ∷ []) ∷ []) ≡ Refuse (Row Lead 0 1 2))
     × (rowSlots (record { kind = Bool; options = up } ∷ record { kind = Variable; options = down } ∷ []) (0 ∷ 0 ∷ 0xfe ∷ []) ≡ none ∷ some [] ∷ [])
 row-faults = (refl, refl, refl, refl)
+
+-- after a row and a field that pass, a bool of two bytes, what is wrong in a field of kind k
+abbrev second : Kind → List ℕ → Check
+second k f =
+    rowsFault 7 (record { kind = Bool; options = up } ∷ record { kind = k; options = up } ∷ [])
+    ((1 ∷ 1 ∷ field (shape k) up none) ∷ (1 ∷ 0 ∷ f) ∷ [])
+
+-- places count from the start of the row: the first byte missing for 16, the bad byte for 17 to 21 (the first for 18 and 21), the
+-- first extra byte for 22
+pub places : (second I16 (1 ∷ 9 ∷ []) ≡ Refuse (Row Cut 8 1 4))
+    × (second I16 (9 ∷ 0 ∷ 0 ∷ []) ≡ Refuse (Row Lead 8 1 2))
+    × (second I16 (0 ∷ 5 ∷ 6 ∷ []) ≡ Refuse (Row NullRest 8 1 3))
+    × (second Bool (1 ∷ 2 ∷ []) ≡ Refuse (Row BoolByte 8 1 3))
+    × (second Variable (2 ∷ 97 ∷ replicate 7 0 ++ 9 ∷ 5 ∷ []) ≡ Refuse (Row EndByte 8 1 11))
+    × (second Variable (2 ∷ 97 ∷ 0 ∷ 5 ∷ 0 ∷ 6 ∷ replicate 3 0 ++ 1 ∷ []) ≡ Refuse (Row Padding 8 1 5))
+    × (second Variable (1 ∷ 5 ∷ []) ≡ Refuse (Row Extra 8 2 3))
+places = (refl, refl, refl, refl, refl, refl, refl)

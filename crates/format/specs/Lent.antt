@@ -18,15 +18,19 @@ abbrev pub eightBytes : List ℕ → List ℕ
 eightBytes ns = joined (map (lowBytes 8) ns)
 
 abbrev pub numberBytes : Returned → List ℕ
-numberBytes a = eightBytes (a .0 ∷ a .1 ∷ a .2 ∷ [])
+numberBytes a = eightBytes (a .0 ∷ a .1 ∷ a .2 ∷ a .3 ∷ [])
 
--- the lent answer at exit: the three numbers in front, on refusals too; if it cannot hold them all, no lent byte changes
+-- the bytes of an answer: four numbers
+abbrev pub answerRoom : ℕ
+answerRoom = 32
+
+-- the lent answer at exit: the four numbers in front, on refusals too; if it cannot hold them all, no lent byte changes
 abbrev pub answerBytes : Answer → List ℕ → List ℕ
-answerBytes a lent = cond (ltb (length lent) 24) lent (over (numberBytes (numbersOf a)) lent)
+answerBytes a lent = cond (ltb (length lent) answerRoom) lent (over (numberBytes (numbersOf a)) lent)
 
--- another lent buffer at exit, if the answer holds the three numbers
+-- another lent buffer at exit, if the answer holds the four numbers
 abbrev pub unlessShort : List ℕ → List ℕ → List ℕ → List ℕ
-unlessShort lent new old = cond (ltb (length lent) 24) old new
+unlessShort lent new old = cond (ltb (length lent) answerRoom) old new
 
 unfoldable pub lentCheckList : List ℕ → List ℕ → List ℕ
 lentCheckList list lent = answerBytes (checkListAnswer list) lent

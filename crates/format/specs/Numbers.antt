@@ -10,8 +10,12 @@ use Rattle.format.specs.declared.Answer.{Answer}
 use Rattle.format.specs.declared.Answer.the-variants.{Done, Refused}
 use Rattle.format.specs.declared.Returned.{Returned}
 
+abbrev pub four : ℕ → ℕ → ℕ → ℕ → Returned
+four a b c d = record { 0 = a; 1 = b; 2 = c; 3 = d }
+
+-- the fourth number is a place in a row, and 0 where none is bad
 abbrev pub three : ℕ → ℕ → ℕ → Returned
-three a b c = record { 0 = a; 1 = b; 2 = c }
+three a b c = four a b c 0
 
 abbrev pub faultNumber : RowFault → ℕ
 faultNumber Cut = 16
@@ -41,7 +45,7 @@ refusalNumbers (ManyBytes total) = three 12 total 0
 refusalNumbers (RowRoom total) = three 13 total 0
 refusalNumbers (OffsetRoom count) = three 14 count 0
 refusalNumbers (Offsets i) = three 15 i 0
-refusalNumbers (Row f r c) = three (faultNumber f) r c
+refusalNumbers (Row f r c place) = four (faultNumber f) r c place
 refusalNumbers (SheetRoom bytes) = three 24 bytes 0
 refusalNumbers Input = three 25 0 0
 refusalNumbers (Missing c r) = three 27 c r

@@ -41,10 +41,11 @@ abbrev pub decimal : ℕ → ℕ → List ℕ
 decimal zero n = []
 decimal (suc k) n = cond (ltb n 10) [] (decimal k (n / 10)) ++ ((48 + n % 10) ∷ [])
 
--- `refused A B C` in decimal and a newline
+-- `refused A B C D` in decimal and a newline
 abbrev pub refusedLine : Returned → List ℕ
 refusedLine a =
-    (114 ∷ 101 ∷ 102 ∷ 117 ∷ 115 ∷ 101 ∷ 100 ∷ 32 ∷ []) ++ decimal 20 (a .0) ++ (32 ∷ []) ++ decimal 20 (a .1) ++ (32 ∷ []) ++ decimal 20 (a .2) ++ (10 ∷ [])
+    (114 ∷ 101 ∷ 102 ∷ 117 ∷ 115 ∷ 101 ∷ 100 ∷ 32 ∷ []) ++ decimal 20 (a .0) ++ (32 ∷ []) ++ decimal 20 (a .1) ++ (32 ∷ []) ++ decimal 20 (a .2)
+    ++ (32 ∷ []) ++ decimal 20 (a .3) ++ (10 ∷ [])
 
 -- two bytes at `at`, low byte first
 abbrev pub two : List ℕ → ℕ → ℕ

@@ -142,16 +142,16 @@ fieldRead s (got none r) = Null (length s - length r)
 fieldRead s (got (some v) r) = Value (length s - length r) (length v)
 fieldRead s (fault f l) = Fault f l
 
--- a fault is refused with its row and column, and else what follows is judged
-abbrev pub fieldCheck : ℕ → ℕ → Parsed Slot → (List ℕ → Check) → Check
-fieldCheck r c (got s rest) next = next rest
-fieldCheck r c (fault f l) next = Refuse (Row f r c)
+-- a fault is refused with its row and column and its place in the row of len bytes, and else what follows is judged
+abbrev pub fieldCheck : ℕ → ℕ → ℕ → Parsed Slot → (List ℕ → Check) → Check
+fieldCheck r len c (got s rest) next = next rest
+fieldCheck r len c (fault f l) next = Refuse (Row f r c (len - l))
 
--- row r from column c on; after the last field 22
-abbrev pub rowFault : ℕ → ℕ → List Column → List ℕ → Check
-rowFault r c [] [] = Pass
-rowFault r c [] (b ∷ s) = Refuse (Row Extra r c)
-rowFault r c (col ∷ cols) s = fieldCheck r c (readField (columnShape col) (col .options) s) (rowFault r (suc c) cols)
+-- row r of len bytes, from column c on; after the last field 22
+abbrev pub rowFault : ℕ → ℕ → ℕ → List Column → List ℕ → Check
+rowFault r len c [] [] = Pass
+rowFault r len c [] (b ∷ s) = Refuse (Row Extra r c (len - suc (length s)))
+rowFault r len c (col ∷ cols) s = fieldCheck r len c (readField (columnShape col) (col .options) s) (rowFault r len (suc c) cols)
 
 -- the slots of a row that has no fault
 abbrev pub rowSlots : List Column → List ℕ → List Slot
@@ -162,4 +162,4 @@ rowSlots (col ∷ cols) s =
 -- the first fault in row order, then column order: from row r on
 abbrev pub rowsFault : ℕ → List Column → List (List ℕ) → Check
 rowsFault r cols [] = Pass
-rowsFault r cols (b ∷ bs) = both (rowFault r 0 cols b) (rowsFault (suc r) cols bs)
+rowsFault r cols (b ∷ bs) = both (rowFault r (length b) 0 cols b) (rowsFault (suc r) cols bs)

@@ -78,7 +78,8 @@ pub enum RowFault {
     Unfolded,
 }
 
-// The reasons in the order of their numbers, each with what is reported of it; 16 to 23 and 28 are one case, with row and column.
+// The reasons in the order of their numbers, each with what is reported of it; 16 to 23 and 28 are one case, with row, column and
+// place in the row.
 pub enum Refusal {
     ListCut(usize),
     UnknownKind(usize),
@@ -95,7 +96,7 @@ pub enum Refusal {
     RowRoom(u64),
     OffsetRoom(u64),
     Offsets(usize),
-    Row(RowFault, usize, usize),
+    Row(RowFault, usize, usize, usize),
     SheetRoom(usize),
     Input,
     Missing(usize, usize),
@@ -121,8 +122,8 @@ pub enum FieldRead {
     Fault(RowFault, usize),
 }
 
-// The three numbers returned.
-pub struct Returned(pub u64, pub u64, pub u64);
+// The four numbers returned.
+pub struct Returned(pub u64, pub u64, pub u64, pub u64);
 
 // The value bytes of a kind; variable bytes have no count of their own.
 pub fn width(kind: Kind) -> usize
@@ -208,34 +209,36 @@ pub fn refusal_numbers(r: Refusal) -> Returned
     ensures { λ x. ⌜ x ≡ refusalNumbers r ⌝ }
 {
     match r {
-        Refusal::ListCut(place) => Returned(1, place as u64, 0),
-        Refusal::UnknownKind(place) => Returned(2, place as u64, 0),
-        Refusal::OptionBits(place) => Returned(3, place as u64, 0),
-        Refusal::Width(place) => Returned(4, place as u64, 0),
-        Refusal::ManyColumns(place) => Returned(5, place as u64, 0),
-        Refusal::ManyRows(n) => Returned(6, n, 0),
-        Refusal::ColumnCut(c) => Returned(7, c as u64, 0),
-        Refusal::SpareBit(c) => Returned(8, c as u64, 0),
-        Refusal::Ends(c, row) => Returned(9, c as u64, row as u64),
-        Refusal::LongSlot(c, row) => Returned(10, c as u64, row as u64),
-        Refusal::BytesAfter(place) => Returned(11, place as u64, 0),
-        Refusal::ManyBytes(total) => Returned(12, total, 0),
-        Refusal::RowRoom(total) => Returned(13, total, 0),
-        Refusal::OffsetRoom(count) => Returned(14, count, 0),
-        Refusal::Offsets(i) => Returned(15, i as u64, 0),
-        Refusal::Row(f, row, c) => Returned(fault_number(f), row as u64, c as u64),
-        Refusal::SheetRoom(bytes) => Returned(24, bytes as u64, 0),
-        Refusal::Input => Returned(25, 0, 0),
-        Refusal::Missing(c, row) => Returned(27, c as u64, row as u64),
+        Refusal::ListCut(place) => Returned(1, place as u64, 0, 0),
+        Refusal::UnknownKind(place) => Returned(2, place as u64, 0, 0),
+        Refusal::OptionBits(place) => Returned(3, place as u64, 0, 0),
+        Refusal::Width(place) => Returned(4, place as u64, 0, 0),
+        Refusal::ManyColumns(place) => Returned(5, place as u64, 0, 0),
+        Refusal::ManyRows(n) => Returned(6, n, 0, 0),
+        Refusal::ColumnCut(c) => Returned(7, c as u64, 0, 0),
+        Refusal::SpareBit(c) => Returned(8, c as u64, 0, 0),
+        Refusal::Ends(c, row) => Returned(9, c as u64, row as u64, 0),
+        Refusal::LongSlot(c, row) => Returned(10, c as u64, row as u64, 0),
+        Refusal::BytesAfter(place) => Returned(11, place as u64, 0, 0),
+        Refusal::ManyBytes(total) => Returned(12, total, 0, 0),
+        Refusal::RowRoom(total) => Returned(13, total, 0, 0),
+        Refusal::OffsetRoom(count) => Returned(14, count, 0, 0),
+        Refusal::Offsets(i) => Returned(15, i as u64, 0, 0),
+        Refusal::Row(f, row, c, place) => {
+            Returned(fault_number(f), row as u64, c as u64, place as u64)
+        }
+        Refusal::SheetRoom(bytes) => Returned(24, bytes as u64, 0, 0),
+        Refusal::Input => Returned(25, 0, 0, 0),
+        Refusal::Missing(c, row) => Returned(27, c as u64, row as u64, 0),
     }
 }
 
-// The three numbers of an answer.
+// The four numbers of an answer.
 pub fn numbers(a: Answer) -> Returned
     ensures { λ r. ⌜ r ≡ numbersOf a ⌝ }
 {
     match a {
-        Answer::Done(second, third) => Returned(0, second, third),
+        Answer::Done(second, third) => Returned(0, second, third, 0),
         Answer::Refused(r) => refusal_numbers(r),
     }
 }

@@ -13,6 +13,7 @@ pub mod ReadVariable
 pub mod ReadFixed
 pub mod ReadField
 pub mod ReadRow
+pub mod FaultPlace
 pub mod Parts
 pub mod Columns
 pub mod InUse

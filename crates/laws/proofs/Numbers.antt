@@ -13,19 +13,19 @@ use Rattle.format.specs.declared.Answer.the-variants.{Done, Refused}
 use Rattle.format.specs.declared.Returned.{Returned}
 use Rattle.format.specs.Numbers.{numbersOf}
 
--- the refusals in the order of their numbers, each made of the second and third number; no refusal is 26
-abbrev refusals : List (ℕ → ℕ → Refusal)
+-- the refusals in the order of their numbers, each made of the second, third and fourth number; no refusal is 26
+abbrev refusals : List (ℕ → ℕ → ℕ → Refusal)
 refusals =
-    (λ a b. ListCut a) ∷ (λ a b. UnknownKind a) ∷ (λ a b. OptionBits a) ∷ (λ a b. Width a) ∷ (λ a b. ManyColumns a)
-    ∷ (λ a b. ManyRows a) ∷ (λ a b. ColumnCut a) ∷ (λ a b. SpareBit a) ∷ (λ a b. Ends a b) ∷ (λ a b. LongSlot a b)
-    ∷ (λ a b. BytesAfter a) ∷ (λ a b. ManyBytes a) ∷ (λ a b. RowRoom a) ∷ (λ a b. OffsetRoom a) ∷ (λ a b. Offsets a)
-    ∷ (λ a b. Row Cut a b) ∷ (λ a b. Row Lead a b) ∷ (λ a b. Row NullRest a b) ∷ (λ a b. Row BoolByte a b)
-    ∷ (λ a b. Row EndByte a b) ∷ (λ a b. Row Padding a b) ∷ (λ a b. Row Extra a b) ∷ (λ a b. Row TooLong a b)
-    ∷ (λ a b. SheetRoom a) ∷ (λ a b. Input) ∷ (λ a b. Input) ∷ (λ a b. Missing a b) ∷ (λ a b. Row Unfolded a b) ∷ []
+    (λ a b p. ListCut a) ∷ (λ a b p. UnknownKind a) ∷ (λ a b p. OptionBits a) ∷ (λ a b p. Width a) ∷ (λ a b p. ManyColumns a)
+    ∷ (λ a b p. ManyRows a) ∷ (λ a b p. ColumnCut a) ∷ (λ a b p. SpareBit a) ∷ (λ a b p. Ends a b) ∷ (λ a b p. LongSlot a b)
+    ∷ (λ a b p. BytesAfter a) ∷ (λ a b p. ManyBytes a) ∷ (λ a b p. RowRoom a) ∷ (λ a b p. OffsetRoom a) ∷ (λ a b p. Offsets a)
+    ∷ (λ a b p. Row Cut a b p) ∷ (λ a b p. Row Lead a b p) ∷ (λ a b p. Row NullRest a b p) ∷ (λ a b p. Row BoolByte a b p)
+    ∷ (λ a b p. Row EndByte a b p) ∷ (λ a b p. Row Padding a b p) ∷ (λ a b p. Row Extra a b p) ∷ (λ a b p. Row TooLong a b p)
+    ∷ (λ a b p. SheetRoom a) ∷ (λ a b p. Input) ∷ (λ a b p. Input) ∷ (λ a b p. Missing a b) ∷ (λ a b p. Row Unfolded a b p) ∷ []
 
--- the answer of three numbers
+-- the answer of four numbers
 abbrev answerOf : Returned → Answer
-answerOf x = cond (eqb (x .0) 0) (Done (x .1) (x .2)) (Refused (getD refusals (x .0 - 1) (λ a b. Input) (x .1) (x .2)))
+answerOf x = cond (eqb (x .0) 0) (Done (x .1) (x .2)) (Refused (getD refusals (x .0 - 1) (λ a b p. Input) (x .1) (x .2) (x .3)))
 
 numbers-back : (a : Answer) → answerOf (numbersOf a) ≡ a
 numbers-back (Done a b) = refl
@@ -44,15 +44,15 @@ numbers-back (Refused (ManyBytes total)) = refl
 numbers-back (Refused (RowRoom total)) = refl
 numbers-back (Refused (OffsetRoom count)) = refl
 numbers-back (Refused (Offsets i)) = refl
-numbers-back (Refused (Row Cut r c)) = refl
-numbers-back (Refused (Row Lead r c)) = refl
-numbers-back (Refused (Row NullRest r c)) = refl
-numbers-back (Refused (Row BoolByte r c)) = refl
-numbers-back (Refused (Row EndByte r c)) = refl
-numbers-back (Refused (Row Padding r c)) = refl
-numbers-back (Refused (Row Extra r c)) = refl
-numbers-back (Refused (Row TooLong r c)) = refl
-numbers-back (Refused (Row Unfolded r c)) = refl
+numbers-back (Refused (Row Cut r c place)) = refl
+numbers-back (Refused (Row Lead r c place)) = refl
+numbers-back (Refused (Row NullRest r c place)) = refl
+numbers-back (Refused (Row BoolByte r c place)) = refl
+numbers-back (Refused (Row EndByte r c place)) = refl
+numbers-back (Refused (Row Padding r c place)) = refl
+numbers-back (Refused (Row Extra r c place)) = refl
+numbers-back (Refused (Row TooLong r c place)) = refl
+numbers-back (Refused (Row Unfolded r c place)) = refl
 numbers-back (Refused (SheetRoom bytes)) = refl
 numbers-back (Refused Input) = refl
 numbers-back (Refused (Missing c r)) = refl

@@ -11,12 +11,12 @@ use Rattle.format.specs.Entries.{encodeCheck, sheetRows}
 use Rattle.format.specs.Program.{inputRoom, rowRoom, offsetRoom, hex, decimal, refusedLine, lines, output}
 use Rattle.io.specs.Counts.{Counts}
 
--- the hex digits of 32,768 row bytes, and 4,096 newlines; a refused line has at most 71 bytes
+-- the hex digits of 32,768 row bytes, and 4,096 newlines; a refused line has at most 92 bytes
 abbrev pub textRoom : ℕ
 textRoom = 69632
 
 abbrev pub refusedRoom : ℕ
-refusedRoom = 71
+refusedRoom = 92
 
 -- a row in hex and a newline
 abbrev pub rowLine : List ℕ → List ℕ

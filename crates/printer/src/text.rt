@@ -78,7 +78,7 @@ fn put_number(n: u64, after: u8, out: &mut [u8], at: usize) -> usize
     end + 1
 }
 
-// The line of a refusal: the word, and its three numbers.
+// The line of a refusal: the word, and its four numbers.
 pub(crate) fn put_refused(r: Refusal, out: &mut [u8]) -> usize
     requires { ⌜ refusedRoom ≤ length (now out) ⌝ }
     ensures { λ x. ⌜ Wrote (refusedLine (refusalNumbers r)) 0 (now (out .entry)) (now (out .exit)) x ⌝ }
@@ -87,5 +87,6 @@ pub(crate) fn put_refused(r: Refusal, out: &mut [u8]) -> usize
     let first = put_bytes(b"refused ", out, 0);
     let second = put_number(numbers.0, b' ', out, first);
     let third = put_number(numbers.1, b' ', out, second);
-    put_number(numbers.2, b'\n', out, third)
+    let fourth = put_number(numbers.2, b' ', out, third);
+    put_number(numbers.3, b'\n', out, fourth)
 }

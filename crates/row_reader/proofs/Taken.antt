@@ -59,8 +59,8 @@ says-rest col row at a b e =
 
 -- ---- a row past its first field
 module _ (col : Column) (s : List ℕ) (x : Slot) (len : ℕ) (t : Took col s x len) (cols : List Column) where
-  pub past-fault : (r c : ℕ) → rowFault r c (col ∷ cols) s ≡ rowFault r (suc c) cols (drop len s)
-  past-fault r c = ap (λ (p : Parsed Slot). fieldCheck r c p (rowFault r (suc c) cols)) (t .is)
+  pub past-fault : (r n c : ℕ) → rowFault r n c (col ∷ cols) s ≡ rowFault r n (suc c) cols (drop len s)
+  past-fault r n c = ap (λ (p : Parsed Slot). fieldCheck r n c p (rowFault r n (suc c) cols)) (t .is)
 
   past-slots : rowSlots (col ∷ cols) s ≡ x ∷ rowSlots cols (drop len s)
   past-slots = ap (λ (p : Parsed Slot). slotRead p ∷ rowSlots cols (leftAfter p)) (t .is)

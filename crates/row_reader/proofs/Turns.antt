@@ -1,6 +1,6 @@
 -- The loops of `check_fields`: what holds at each head, and what each way on gives. Assumes nothing.
-use Prim.Native.Nat.{ℕ, zero, suc, _+_, _*_, _<_, _≤_}
-use mathlib.Core.Path.{_≡_, refl, ap, sym, subst, _∙_}
+use Prim.Native.Nat.{ℕ, zero, suc, _+_, _-_, _*_, _<_, _≤_}
+use mathlib.Core.Path.{_≡_, refl, ap, ap₂, sym, subst, _∙_}
 use mathlib.Core.List.{List, [], _∷_}
 use native.Mathlib.Numerals.{add-one}
 use native.Mathlib.Omega.{arith}
@@ -33,7 +33,7 @@ rowData cols s = rowAdded cols (rowSlots cols s)
 pub record Fields (cols : List Column) (row : List ℕ) (r bytes₀ bytes at c : ℕ) : Type 0 where
   pub inside : c ≤ length cols
   pub within : at ≤ length row
-  pub says : rowFault r c (drop c cols) (drop at row) ≡ rowFault r 0 cols row
+  pub says : rowFault r (length row) c (drop c cols) (drop at row) ≡ rowFault r (length row) 0 cols row
   pub adds : bytes + rowData (drop c cols) (drop at row) ≡ bytes₀ + rowData cols row
   pub small : bytes ≤ bytes₀ + maxSlot * c
 
@@ -58,15 +58,20 @@ module _ {cols : List Column} {row : List ℕ} {r bytes₀ bytes at c : ℕ} (t 
       record {
         inside = omega (arith, length-drop c cols, ap length here);
         within = omega (arith, k .inside, length-drop at row);
-        says = rw (add-one, ← e) (sym (past-fault col s x len k rest r c) ∙ ap (λ (l : List Column). rowFault r c l s) (sym here) ∙ t .says);
+        says =
+            rw (add-one, ← e)
+            (sym (past-fault col s x len k rest r (length row) c) ∙ ap (λ (l : List Column). rowFault r (length row) c l s) (sym here) ∙ t .says);
         adds = rw (add-one, ← e) (omega (arith, past-added col s x len k rest, ap (λ (l : List Column). rowData l s) here));
         small = omega (arith, added-small (columnShape col) (col .options) x (k .fits));
       }
 
   -- the field was refused: so is the row
-  pub broken : (f : RowFault) (l : ℕ) → readField (columnShape col) (col .options) s ≡ fault f l → rowFault r 0 cols row ≡ Refuse (Row f r c)
+  pub broken : (f : RowFault) (l : ℕ) → readField (columnShape col) (col .options) s ≡ fault f l
+      → rowFault r (length row) 0 cols row ≡ Refuse (Row f r c (length row - l))
   broken f l e =
-      sym (t .says) ∙ ap (λ (l : List Column). rowFault r c l s) here ∙ ap (λ (p : Parsed Slot). fieldCheck r c p (rowFault r (suc c) rest)) e
+      sym (t .says)
+      ∙ ap (λ (l : List Column). rowFault r (length row) c l s) here
+      ∙ ap (λ (p : Parsed Slot). fieldCheck r (length row) c p (rowFault r (length row) (suc c) rest)) e
 
 -- ---- past the last column
 module _ {cols : List Column} {row : List ℕ} {r bytes₀ bytes at c : ℕ} (t : Fields cols row r bytes₀ bytes at c)
@@ -74,25 +79,25 @@ module _ {cols : List Column} {row : List ℕ} {r bytes₀ bytes at c : ℕ} (t 
   none-left : drop c cols ≡ []
   none-left = drop-of-length-le cols {i = c} h
 
-  last-fault : rowFault r c [] (drop at row) ≡ rowFault r 0 cols row
-  last-fault = ap (λ (l : List Column). rowFault r c l (drop at row)) (sym none-left) ∙ t .says
+  last-fault : rowFault r (length row) c [] (drop at row) ≡ rowFault r (length row) 0 cols row
+  last-fault = ap (λ (l : List Column). rowFault r (length row) c l (drop at row)) (sym none-left) ∙ t .says
 
   -- bytes after the last field
-  pub longer : at < length row → rowFault r 0 cols row ≡ Refuse (Row Extra r (length cols))
-  longer l = sym last-fault ∙ go (drop at row) (omega (arith, length-drop at row))
+  pub longer : at < length row → rowFault r (length row) 0 cols row ≡ Refuse (Row Extra r (length cols) at)
+  longer l = sym last-fault ∙ go (drop at row) (length-drop at row)
     where
-      go : (s : List ℕ) → 0 < length s → rowFault r c [] s ≡ Refuse (Row Extra r (length cols))
+      go : (s : List ℕ) → length s ≡ length row - at → rowFault r (length row) c [] s ≡ Refuse (Row Extra r (length cols) at)
       go [] k = absurd (omega arith)
-      go (b ∷ s) k = ap (λ (c : ℕ). Refuse (Row Extra r c)) (omega (arith, t .inside))
+      go (b ∷ s) k = ap₂ {C = Check} (λ (c place : ℕ). Refuse (Row Extra r c place)) (omega (arith, t .inside)) (omega arith)
 
   -- none: the row is whole, and counted
   pub record Whole : Type 0 where
-    pub passes : rowFault r 0 cols row ≡ Pass
+    pub passes : rowFault r (length row) 0 cols row ≡ Pass
     pub adds : bytes ≡ bytes₀ + rowData cols row
 
   pub whole : length row ≤ at → Whole
   whole l = record {
-    passes = sym last-fault ∙ ap (rowFault r c []) (drop-of-length-le row {i = at} l);
+    passes = sym last-fault ∙ ap (rowFault r (length row) c []) (drop-of-length-le row {i = at} l);
     adds = omega (arith, ap (λ (l : List Column). rowData l (drop at row)) none-left);
   }
 
@@ -147,7 +152,7 @@ module _ {cols : List Column} {f : ℕ → List ℕ} {n bytes₀ r : ℕ} {row :
       go (suc k) counts a = (k, refl, subst (λ (z : List ℕ). A (z ∷ each (suc r) k f)) (sym (s .is)) a)
 
   -- it is refused, and so are they
-  pub faulty : {x : Refusal} → rowFault r 0 cols row ≡ Refuse x → Finds cols (each 0 n f) (record { check = Refuse x; bytes = bytes })
+  pub faulty : {x : Refusal} → rowFault r (length row) 0 cols row ≡ Refuse x → Finds cols (each 0 n f) (record { check = Refuse x; bytes = bytes })
   faulty {x} e =
       let k = first-left (λ rows. rowsFault r cols rows ≡ rowsFault 0 cols (each 0 n f)) (t .says) in
       let refused : Refuse x ≡ rowsFault 0 cols (each 0 n f)

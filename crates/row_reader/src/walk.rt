@@ -31,6 +31,7 @@ fn added_bytes(column: Column, value: usize) -> usize
 }
 
 // The first fault in row order, then column order; each field is read from the part of the row that the previous one left.
+// A fault's place in the row is the row's length less the bytes left from the bad byte on.
 pub fn check_fields(schema: Schema, n: usize, rows: &[u8], offsets: &[u64]) -> Checked
     requires { ⌜ n ≤ maxRows ⌝ }
     requires { ⌜ Limited schema ⌝ }
@@ -50,7 +51,8 @@ pub fn check_fields(schema: Schema, n: usize, rows: &[u8], offsets: &[u64]) -> C
         let mut c = 0;
         while c < count {
             let column = columns[c];
-            let read = read_field(&row[at..], column);
+            let rest = &row[at..];
+            let read = read_field(rest, column);
             match read {
                 FieldRead::Null(len) => {
                     at += len;
@@ -59,15 +61,16 @@ pub fn check_fields(schema: Schema, n: usize, rows: &[u8], offsets: &[u64]) -> C
                     at += len;
                     bytes += added_bytes(column, value);
                 }
-                FieldRead::Fault(fault, _) => {
-                    check = Check::Refuse(Refusal::Row(fault, r, c));
+                FieldRead::Fault(fault, left) => {
+                    let place = row.len() - left;
+                    check = Check::Refuse(Refusal::Row(fault, r, c, place));
                     break 'rows;
                 }
             }
             c += 1;
         }
         if at < row.len() {
-            check = Check::Refuse(Refusal::Row(RowFault::Extra, r, count));
+            check = Check::Refuse(Refusal::Row(RowFault::Extra, r, count, at));
             break 'rows;
         }
         r += 1;

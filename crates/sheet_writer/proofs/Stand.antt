@@ -116,13 +116,13 @@ row-before (col ∷ cols) (y ∷ ys) t h b =
 
 module _ (cols : List Column) (rows offsets : List ℕ) (b : Bytes rows) where
   -- a row that passes, from its offset on
-  row-stands : (r : ℕ) → rowFault r 0 cols (rowBytes rows offsets r) ≡ Pass
+  row-stands : (r : ℕ) → rowFault r (length (rowBytes rows offsets r)) 0 cols (rowBytes rows offsets r) ≡ Pass
       → Fields cols (drop (getD offsets r 0) rows) × (slotsFrom cols rows (getD offsets r 0) ≡ rowSlots cols (rowBytes rows offsets r))
   row-stands r e =
       let s : List ℕ = drop (getD offsets r 0) rows in
       let m : ℕ = getD offsets (suc r) 0 - getD offsets r 0 in
       let bs : Bytes s = bytes-drop (getD offsets r 0) rows b in
-      let p = passed-row r 0 cols (take m s) (bytes-take m s bs) e in
+      let p = passed-row r (length (take m s)) 0 cols (take m s) (bytes-take m s bs) e in
       let q : row cols (rowSlots cols (take m s)) ++ drop m s ≡ s = ap (λ (l : List ℕ). l ++ drop m s) (p .0) ∙ take-append-drop m s in
       let t = row-before cols (rowSlots cols (take m s)) (drop m s) (p .1) (bytes-drop m s bs) in
       (subst (Fields cols) q (t .0), ap (rowSlots cols) (sym q) ∙ t .1)
@@ -132,7 +132,7 @@ module _ (cols : List Column) (rows offsets : List ℕ) (b : Bytes rows) where
       × (map (slotsFrom cols rows) (each i k (λ r. getD offsets r 0)) ≡ map (rowSlots cols) (each i k (rowBytes rows offsets)))
   rows-stand i zero e = (tt, refl)
   rows-stand i (suc k) e =
-      let p = both-pass (rowFault i 0 cols (rowBytes rows offsets i)) _ e in
+      let p = both-pass (rowFault i (length (rowBytes rows offsets i)) 0 cols (rowBytes rows offsets i)) _ e in
       let now = row-stands i (p .0) in
       let later = rows-stand (suc i) k (p .1) in
       ((now .0, later .0), ap₂ {C = List (List Slot)} (λ x y. x ∷ y) (now .1) (later .1))

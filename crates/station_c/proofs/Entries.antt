@@ -18,7 +18,7 @@ use Rattle.format.specs.Sheet.{sheetSlots}
 use Rattle.format.specs.Numbers.{numbersOf}
 use Rattle.format.specs.Entries.{answer, sheetRows, encodeCheck}
 use Rattle.format.specs.Entries.{checkListAnswer, measureAnswer, encodeAnswer, encodeRows, encodeOffsets, decodeAnswer, decodeSheet}
-use Rattle.format.specs.Lent.{eights, eightBytes, numberBytes, answerBytes, unlessShort}
+use Rattle.format.specs.Lent.{eights, eightBytes, numberBytes, answerRoom, answerBytes, unlessShort}
 use Rattle.format.specs.Lent.{lentCheckList, lentMeasure, lentEncode, lentEncodeRows, lentEncodeOffsets, lentDecode, lentDecodeSheet}
 use Rattle.format.specs.Promises.{ListChecked, Measured, Encoded, Decoded, LentListChecked, LentMeasured, LentEncoded, LentDecoded}
 use Rattle.basics.proofs.Lists.{length-ends}
@@ -64,13 +64,13 @@ pub bytes-decoded : (list : List ℕ) (n : ℕ) (rows offsets sheet : List ℕ) 
     → Decoded list n rows os sheet r sheet′ → Decoded list n rows (firstEights k offsets) sheet r sheet′
 bytes-decoded list n rows offsets sheet k os r sheet′ e h = subst (λ (x : List ℕ). Decoded list n rows x sheet r sheet′) e h
 
--- ---- an answer that cannot hold the three numbers
-module _ (lent : List ℕ) (short : length lent < 24) where
+-- ---- an answer that cannot hold the four numbers
+module _ (lent : List ℕ) (short : length lent < answerRoom) where
   short-answer : (a : Answer) → lent ≡ answerBytes a lent
-  short-answer a = rw (lt-ltb (length lent) 24 short)
+  short-answer a = rw (lt-ltb (length lent) answerRoom short)
 
   short-kept : (new old : List ℕ) → old ≡ unlessShort lent new old
-  short-kept new old = rw (lt-ltb (length lent) 24 short)
+  short-kept new old = rw (lt-ltb (length lent) answerRoom short)
 
   pub list-short : (list : List ℕ) → LentListChecked list lent lent
   unfolding lentCheckList
@@ -96,12 +96,12 @@ module _ (lent : List ℕ) (short : length lent < 24) where
   }
 
 -- ---- one that can, and holds those of r
-module _ (lent lent′ : List ℕ) (r : Answer) (long : 24 ≤ length lent) (put : lent′ ≡ over (numberBytes (numbersOf r)) lent) where
+module _ (lent lent′ : List ℕ) (r : Answer) (long : answerRoom ≤ length lent) (put : lent′ ≡ over (numberBytes (numbersOf r)) lent) where
   long-answer : (a : Answer) → numbersOf r ≡ numbersOf a → lent′ ≡ answerBytes a lent
-  long-answer a e = rw (le-ltb (length lent) 24 long) (put ∙ ap (λ (x : Returned). over (numberBytes x) lent) e)
+  long-answer a e = rw (le-ltb (length lent) answerRoom long) (put ∙ ap (λ (x : Returned). over (numberBytes x) lent) e)
 
   long-new : (new′ new old : List ℕ) → new′ ≡ new → new′ ≡ unlessShort lent new old
-  long-new new′ new old e = rw (le-ltb (length lent) 24 long) e
+  long-new new′ new old e = rw (le-ltb (length lent) answerRoom long) e
 
   pub list-long : (list : List ℕ) → ListChecked list r → LentListChecked list lent lent′
   unfolding lentCheckList

@@ -9,7 +9,7 @@ use lib.Seq.{sets, drop-drop, length-take-le, getD-set-same, getD-set-other}
 use borrow.Author.Count.{below-more}
 use Rattle.format.specs.Lists.{Bytes, each, joined, over, lowBytes}
 use Rattle.format.specs.declared.Returned.{Returned}
-use Rattle.format.specs.Lent.{eightBytes, numberBytes}
+use Rattle.format.specs.Lent.{answerRoom, eightBytes, numberBytes}
 use Rattle.basics.proofs.Append.{Turns, over-sets, turns-more, turns-end}
 use Rattle.basics.proofs.Bytes.{bytes-take, bytes-drop}
 use Rattle.basics.proofs.Lists.{each-is, length-each, map-is}
@@ -27,11 +27,13 @@ eights-append [] ns = refl
 eights-append (m ∷ ms) ns =
     ap (λ (l : List ℕ). lowBytes 8 m ++ l) (eights-append ms ns) ∙ sym (append-assoc (lowBytes 8 m) (eightBytes ms) (eightBytes ns))
 
--- ---- stored: the three numbers of an answer
-pub three-stored : (x y : Returned) (l m n o : List ℕ) → x ≡ y → 24 ≤ length l
-    → m ≡ sets l 0 (lowBytes 8 (x .0)) → n ≡ sets m 8 (lowBytes 8 (x .1)) → o ≡ sets n 16 (lowBytes 8 (x .2)) → o ≡ over (numberBytes y) l
-three-stored x y l m n o e h p q r =
-    r ∙ ap (λ (z : List ℕ). sets z 16 (lowBytes 8 (x .2))) (q ∙ ap (λ (z : List ℕ). sets z 8 (lowBytes 8 (x .1))) p)
+-- ---- stored: the four numbers of an answer
+pub four-stored : (x y : Returned) (l m n o p : List ℕ) → x ≡ y → answerRoom ≤ length l
+    → m ≡ sets l 0 (lowBytes 8 (x .0)) → n ≡ sets m 8 (lowBytes 8 (x .1)) → o ≡ sets n 16 (lowBytes 8 (x .2)) → p ≡ sets o 24 (lowBytes 8 (x .3))
+    → p ≡ over (numberBytes y) l
+four-stored x y l m n o p e h a b c d =
+    d ∙ ap (λ (z : List ℕ). sets z 24 (lowBytes 8 (x .3)))
+    (c ∙ ap (λ (z : List ℕ). sets z 16 (lowBytes 8 (x .2))) (b ∙ ap (λ (z : List ℕ). sets z 8 (lowBytes 8 (x .1))) a))
     ∙ sym (over-sets (numberBytes x) l h) ∙ ap (λ (z : Returned). over (numberBytes z) l) e
 
 -- ---- stored: the numbers of a list, so many of them

@@ -10,8 +10,8 @@ use format::MAX_OFFSETS;
 mod bytes;
 mod version;
 
-// An answer is three numbers; one that cannot hold them, and no lent byte changes.
-const ANSWER_BYTES: usize = 24;
+// An answer is four numbers; one that cannot hold them, and no lent byte changes.
+const ANSWER_BYTES: usize = 32;
 
 // Checks a column list.
 #[no_mangle]

@@ -1,4 +1,4 @@
-// Document 01's cases to run, through the public entries. Each line is a case, its three numbers, and the whole of the lent buffers,
+// Document 01's cases to run, through the public entries. Each line is a case, its four numbers, and the whole of the lent buffers,
 // so that what is past the written part is seen to stay.
 use crate::show::end_line;
 use crate::show::show;

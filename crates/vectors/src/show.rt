@@ -10,7 +10,7 @@ pub fn end_line() {
     io::write_all(STDOUT_FILENO, b"\n");
 }
 
-// The case's name and its three numbers.
+// The case's name and its four numbers.
 pub fn show(name: &[u8], a: Answer) {
     let r = format::numbers(a);
     io::write_all(STDOUT_FILENO, name);
@@ -20,6 +20,8 @@ pub fn show(name: &[u8], a: Answer) {
     io::print_decimal(STDOUT_FILENO, r.1);
     space();
     io::print_decimal(STDOUT_FILENO, r.2);
+    space();
+    io::print_decimal(STDOUT_FILENO, r.3);
 }
 
 fn wide(x: u8) -> u64 {

@@ -33,10 +33,11 @@ fn main() -> ExitCode {
     refusals::rows(&mut judge, &mut rng);
     refusals::long_values(&mut judge);
     refusals::sheets(&mut judge, &mut rng);
+    refusals::required(&mut judge, &mut rng);
     refusals::rooms(&mut judge, &mut rng);
     refusals::empty(&mut judge);
     refusals::damaged(&mut judge, &mut rng, sheets);
 
-    // Every answer of the entries, 0 to 24, must have come up.
-    judge.finish(0..25)
+    // Every answer of the entries must have come up.
+    judge.finish((0..25).chain([27]))
 }

@@ -72,7 +72,7 @@ fn document() -> Vec<String> {
         encode("8 bytes", &[Some(b"abcdefgh")]),
         encode("9 bytes", &[Some(b"abcdefghi")]),
         format!(
-            "encode 65535 bytes: 0 {total} 0 0 {total} {:02x}",
+            "encode 65535 bytes: 0 {total} 0 0 0 {total} {:02x}",
             longest.rows[last]
         ),
         decode("65535 bytes", &longest.rows),

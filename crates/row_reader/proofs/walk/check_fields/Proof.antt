@@ -16,7 +16,7 @@ use Rattle.format.specs.declared.FieldRead.{FieldRead}
 use Rattle.format.specs.declared.FieldRead.the-variants.{Null, Value}
 use Rattle.format.specs.declared.Refusal.the-variants as refusal
 use Rattle.format.specs.declared.RowFault.the-variants.{Extra}
-use Rattle.format.specs.Kinds.{Slot}
+use Rattle.format.specs.Kinds.{Slot, columnShape}
 use Rattle.format.specs.Limits.{maxRows}
 use Rattle.format.specs.Lists.{Bytes}
 use Rattle.format.specs.Sheet.{layout}
@@ -26,6 +26,7 @@ use Rattle.format.specs.Cleared.{slotLength, added}
 use Rattle.format.specs.Passed.{Cuts}
 use Rattle.basics.proofs.Bytes.{bytes-of, bytes-take, bytes-drop}
 use Rattle.laws.proofs.Cuts.{offsets-passed, below-last}
+use Rattle.laws.proofs.FaultPlace.{fault-inside}
 use Rattle.laws.proofs.InUse.{Held, in-use, next-in-use}
 use Rattle.row_reader.proofs.Taken.{Says, says-rest, null-added}
 use Rattle.row_reader.proofs.Turns.{Fields, starts, taken, broken, longer, Rows, begins, ends, InRow, bytes-small, faulty, passed}
@@ -254,14 +255,14 @@ mul-column c = omega arith
 array-copy-out-column : tie.Need-array-copy-out-column Inv-loop μ-loop Inv-rows μ-rows
 array-copy-out-column c = omega arith
 
-sub-read-field : tie.Need-sub-read-field Inv-loop μ-loop Inv-rows μ-rows
-sub-read-field c = at-loop (c .before) .loop .inv .1 .within
+sub-rest : tie.Need-sub-rest Inv-loop μ-loop Inv-rows μ-rows
+sub-rest c = at-loop (c .before) .loop .inv .1 .within
 
-part-read-field-start : tie.Need-part-read-field-start Inv-loop μ-loop Inv-rows μ-rows
-part-read-field-start c = at-loop (c .before) .loop .inv .1 .within
+part-rest-start : tie.Need-part-rest-start Inv-loop μ-loop Inv-rows μ-rows
+part-rest-start c = at-loop (c .before) .loop .inv .1 .within
 
-part-read-field-end : tie.Need-part-read-field-end Inv-loop μ-loop Inv-rows μ-rows
-part-read-field-end c = omega arith
+part-rest-end : tie.Need-part-rest-end Inv-loop μ-loop Inv-rows μ-rows
+part-rest-end c = omega arith
 
 read-field-requires : tie.Need-read-field-requires Inv-loop μ-loop Inv-rows μ-rows
 read-field-requires c κs = search needs
@@ -297,6 +298,15 @@ add-bytes c =
 
 enum-known-read-3 : tie.Need-enum-known-read-3 Inv-loop μ-loop Inv-rows μ-rows
 enum-known-read-3 c = search needs
+
+sub-place : tie.Need-sub-place Inv-loop μ-loop Inv-rows μ-rows
+sub-place c =
+    let told = c .before in
+    let called = told .before .before in
+    let t = turn called in
+    let at = loop called .loop .at in
+    let left = fault-inside (columnShape (col t)) (col t .options) (drop at (bytes (row t))) _ _ (said called (told .read3 .given .1)) in
+    omega (arith, left, length-drop at (bytes (row t)))
 
 add-c : tie.Need-add-c Inv-loop μ-loop Inv-rows μ-rows
 add-c c = omega arith
@@ -346,7 +356,7 @@ returns-3 c =
     let at = c .before .before in
     let extra = longer (at .loop .inv .1) (all-read (c .before)) (c .if1 .taken) in
     faulty (stands (at .before)) (at .loop .inv .1)
-    (extra ∙ ap (λ (n : ℕ). Refuse (refusal.Row Extra (r (at .before)) n)) (full (start (at .before))))
+    (extra ∙ ap (λ (n : ℕ). Refuse (refusal.Row Extra (r (at .before)) n (at .loop .at))) (full (start (at .before))))
 
 pub check-fields-spec : {M : Type 1} → statement M
 check-fields-spec =
@@ -368,9 +378,9 @@ check-fields-spec =
     loop-holds
     mul-column
     array-copy-out-column
-    sub-read-field
-    part-read-field-start
-    part-read-field-end
+    sub-rest
+    part-rest-start
+    part-rest-end
     read-field-requires
     enum-known-read
     add-at
@@ -379,6 +389,7 @@ check-fields-spec =
     added-bytes-requires
     add-bytes
     enum-known-read-3
+    sub-place
     add-c
     loop-less
     loop-again

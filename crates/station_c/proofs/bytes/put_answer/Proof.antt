@@ -1,20 +1,28 @@
 -- `station_c::bytes::put_answer` meets its contract. Assumes nothing.
 use borrow.Author.Needs.{needs}
-use Rattle.station_c.proofs.NumberBytes.{three-stored}
+use Rattle.station_c.proofs.NumberBytes.{four-stored}
 use Rattle.station_c.proofs.bytes.put_answer.Statement.{statement}
 use Rattle.station_c.proofs.bytes.put_answer.Tie as tie
 
 returns : tie.Need-returns
 returns c =
-    let third = c .before .before in
+    let fourth = c .before .before in
+    let third = fourth .before .before .before .before in
     let second = third .before .before .before .before in
     let first = second .before .before .before .before in
     let made = first .before .before in
     let start = made .before .before in
-    three-stored (made .numbers .result) _ (start .args .lent .now) _ _ _ (made .numbers .ensures) (start .pre)
-    (first .put64 .ensures) (second .put642 .ensures) (third .put643 .ensures)
+    four-stored (made .numbers .result) _ (start .args .lent .now) _ _ _ _ (made .numbers .ensures) (start .pre)
+    (first .put64 .ensures) (second .put642 .ensures) (third .put643 .ensures) (fourth .put644 .ensures)
 
 pub put-answer-spec : {M : Type 1} → statement M
 put-answer-spec =
     tie.close
-    (tie.spec (λ c κs. search needs) (λ c κs. search needs) (λ c κs. search needs) (λ c κs. search needs) (λ c. search needs) returns)
+    (tie.spec
+    (λ c κs. search needs)
+    (λ c κs. search needs)
+    (λ c κs. search needs)
+    (λ c κs. search needs)
+    (λ c κs. search needs)
+    (λ c. search needs)
+    returns)
