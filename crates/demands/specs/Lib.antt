@@ -4,5 +4,6 @@ pub mod Raw
 pub mod RoundTrip
 pub mod Order
 pub mod Slices
+pub mod Folded
 pub mod Place
 pub mod JoinOrder
