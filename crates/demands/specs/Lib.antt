@@ -4,4 +4,5 @@ pub mod Raw
 pub mod RoundTrip
 pub mod Order
 pub mod Slices
+pub mod Folded
 pub mod Place
