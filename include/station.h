@@ -67,7 +67,7 @@
  *            11  bytes after the last column                place, 0
  *            12  rows over 16,777,216 bytes                 total, 0
  *            13  row buffer too small                       total, 0
- *            14  offset list under n+1, or order under the   n+1, or the rows of both, 0
+ *            14  offset list under n+1, or order under the  n+1, or the rows of both, 0
  *                rows of both passes
  *            15  first offset not 0, one falls, or the      its index, 0
  *                last passes the row bytes
@@ -86,7 +86,7 @@
  *          The fourth number is the place of a byte in the row, counted from the row's start, for 16 to 23:
  *          of 16 the first byte missing, so the row's length; of 17 the lead byte; of 18 and 21 the
  *          first byte that is not zero; of 19 the bool; of 20 and 23 the end byte of the block; of 22 the
- *          first byte after the last field; It is 0 for all other answers.
+ *          first byte after the last field. It is 0 for all other answers.
  *
  *          On a refusal only these 32 bytes change. On success the bytes past the written part stay.
  */
