@@ -48,6 +48,9 @@
  * offsets  n+1 numbers of eight bytes, low byte first: 0, then each row's end. A length that is no multiple
  *          of eight leaves a tail that does not count and stays.
  *
+ * order    Entries of eight bytes, low byte first, one for each row of two passes: 4,096 times the pass plus the
+ *          row. A tail as in offsets.
+ *
  * answer   Four numbers of eight bytes, low byte first, so 32 bytes; a shorter answer, and no lent byte
  *          changes. The first is 0 for done, and else the number of the refusal:
  *
@@ -65,7 +68,8 @@
  *            11  bytes after the last column                place, 0
  *            12  rows over 16,777,216 bytes                 total, 0
  *            13  row buffer too small                       total, 0
- *            14  offset list under n+1                      n+1, 0
+ *            14  offset list under n+1, or order under the  n+1, or the rows of both, 0
+ *                rows of both passes
  *            15  first offset not 0, one falls, or the      its index, 0
  *                last passes the row bytes
  *            16  field or block cut                         row, column
@@ -77,6 +81,7 @@
  *            22  bytes after the last field                 row, column count
  *            23  value over 65,535                          row, column
  *            24  sheet buffer too small                     bytes needed, 0
+ *            26  pass out of order                          pass, first row below the one before it
  *            27  null in a required column                  column, first null row
  *            28  float not folded where the column folds    row, column
  *
@@ -106,6 +111,7 @@ enum {
     STATION_MEASURE_STACK = 5120,
     STATION_ENCODE_STACK = 38912,
     STATION_DECODE_STACK = 67584,
+    STATION_JOIN_STACK = 132096,
     STATION_COMPARE_STACK = 64
 };
 
@@ -131,6 +137,12 @@ void station_encode(const uint8_t *list, size_t list_len, uint64_t n, const uint
 void station_decode(const uint8_t *list, size_t list_len, uint64_t n, const uint8_t *rows, size_t rows_len,
                     const uint8_t *offsets, size_t offsets_len, uint8_t *sheet, size_t sheet_len, uint8_t *answer,
                     size_t answer_len);
+
+/* Writes the joined order of two passes, whose rows are sorted as bytes: sorted, every row of both once, equal rows in
+ * their order, pass 0 first. Rows are not read as fields. Total: the rows of both, and no null slots. */
+void station_join(uint64_t n0, const uint8_t *rows0, size_t rows0_len, const uint8_t *offsets0, size_t offsets0_len,
+                  uint64_t n1, const uint8_t *rows1, size_t rows1_len, const uint8_t *offsets1, size_t offsets1_len,
+                  uint8_t *order, size_t order_len, uint8_t *answer, size_t answer_len);
 
 /* Compares any bytes, unsigned, a proper beginning first: -1, 0 or 1. */
 int32_t station_compare(const uint8_t *a, size_t a_len, const uint8_t *b, size_t b_len);

@@ -68,6 +68,12 @@ int main(void) {
     hold("decode of no rows", 0, 0, 0);
     station_decode(NULL, 0, 0, NULL, 0, NULL, 0, NULL, 0, NULL, 0);
 
+    station_join(0, NULL, 0, NULL, 0, 0, NULL, 0, NULL, 0, NULL, 0, answer, sizeof answer);
+    hold("join of nothing", 14, 1, 0);
+    station_join(0, NULL, 0, zero, sizeof zero, 0, NULL, 0, zero, sizeof zero, NULL, 0, answer, sizeof answer);
+    hold("join of no rows", 0, 0, 0);
+    station_join(0, NULL, 0, NULL, 0, 0, NULL, 0, NULL, 0, NULL, 0, NULL, 0);
+
     if (station_compare(NULL, 0, NULL, 0) != 0 || station_compare(NULL, 0, zero, 1) != -1 ||
         station_compare(zero, 1, NULL, 0) != 1) {
         printf("compare of nothing\n");

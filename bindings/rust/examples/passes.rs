@@ -2,7 +2,7 @@
 //!
 //!     cargo run --offline --example passes
 
-use std::collections::BTreeSet;
+use station::{Refusal, Rows};
 
 /// Plate (u32), glyph name (variable bytes), contour (u16), position (f64) and exposure (months,
 /// days, nanoseconds), all ascending with nulls first: a kind byte and an options byte each.
@@ -67,18 +67,30 @@ fn sheet(points: &[Point]) -> Vec<u8> {
     sheet
 }
 
-/// The rows of a pass; as a set of byte strings they stand in the order of the values.
-fn rows(points: &[Point]) -> Result<BTreeSet<Vec<u8>>, station::Refusal> {
+/// The rows of a pass, sorted as bytes: so they stand in the order of the values.
+fn rows(points: &[Point]) -> Result<Rows, Refusal> {
     let rows = station::encode_to_vec(&LIST, points.len() as u64, &sheet(points))?;
-    let rows = rows.iter().map(<[u8]>::to_vec).collect();
-    Ok(rows)
+    let mut sorted: Vec<&[u8]> = rows.iter().collect();
+    sorted.sort();
+    let bytes = sorted.concat();
+    let ends = sorted.iter().scan(0, |end, row| {
+        *end += row.len() as u64;
+        Some(*end)
+    });
+    let offsets = std::iter::once(0).chain(ends).collect();
+    let nulls = rows.nulls;
+    Ok(Rows {
+        bytes,
+        offsets,
+        nulls,
+    })
 }
 
 fn hex(row: &[u8]) -> String {
     row.iter().map(|b| format!("{b:02x}")).collect()
 }
 
-fn main() -> Result<(), station::Refusal> {
+fn main() -> Result<(), Refusal> {
     let first = [
         point(Some("ae"), 0, -2.0),
         point(Some("a"), 1, 1.5),
@@ -88,16 +100,26 @@ fn main() -> Result<(), station::Refusal> {
         point(Some("a"), 1, 1.5),
         point(Some("ae"), 0, -2.0),
         point(Some("ae"), 0, 3.0),
+        point(Some("ae"), 0, -2.0),
     ];
 
-    let (first, second) = (rows(&first)?, rows(&second)?);
-    for row in first.union(&second) {
-        let both = first.contains(row) && second.contains(row);
-        println!("{} {}", hex(row), if both { "ink" } else { "dust" });
+    // An entry is 4,096 times the pass plus the row; equal rows stand side by side, pass 0 first.
+    let passes = [rows(&first)?, rows(&second)?];
+    let order = station::join_to_vec(&passes[0], &passes[1])?;
+    let row = |entry: &u64| passes[(entry / 4096) as usize].row((entry % 4096) as usize);
+    for same in order.chunk_by(|a, b| row(a) == row(b)) {
+        let second = same.iter().filter(|&&entry| 4096 <= entry).count();
+        let first = same.len() - second;
+        let verdict = if first > 0 && second > 0 {
+            "ink"
+        } else {
+            "dust"
+        };
+        println!("{} {verdict} {first} {second}", hex(row(&same[0])));
     }
 
     // A damaged row is refused with its number and place, and read as nothing else.
-    let mut damaged = first.iter().next().expect("three rows").clone();
+    let mut damaged = passes[0].row(0).to_vec();
     damaged[5] = 0x03;
     let offsets = [0, damaged.len() as u64];
     let refusal = station::decode_to_vec(&LIST, 1, &damaged, &offsets).expect_err("damaged");

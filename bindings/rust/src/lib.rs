@@ -84,6 +84,23 @@ pub mod raw {
             answer: *mut u8,
             answer_len: usize,
         );
+        /// Writes the joined order of two sorted passes.
+        pub fn station_join(
+            n0: u64,
+            rows0: *const u8,
+            rows0_len: usize,
+            offsets0: *const u8,
+            offsets0_len: usize,
+            n1: u64,
+            rows1: *const u8,
+            rows1_len: usize,
+            offsets1: *const u8,
+            offsets1_len: usize,
+            order: *mut u8,
+            order_len: usize,
+            answer: *mut u8,
+            answer_len: usize,
+        );
         /// Compares two rows: -1, 0 or 1.
         pub fn station_compare(a: *const u8, a_len: usize, b: *const u8, b_len: usize) -> i32;
     }
@@ -153,9 +170,10 @@ pub const ANSWER_BYTES: usize = 32;
 /// What an entry counted when it did what was asked.
 #[derive(Clone, Copy, Debug, PartialEq, Eq)]
 pub struct Done {
-    /// Columns ([`check_list`]), row bytes ([`measure`], [`encode`]) or sheet bytes ([`decode`]).
+    /// Columns ([`check_list`]), row bytes ([`measure`], [`encode`]), sheet bytes ([`decode`]) or
+    /// entries ([`join`]).
     pub total: u64,
-    /// The null slots of all rows and columns; 0 from [`check_list`].
+    /// The null slots of all rows and columns; 0 from [`check_list`] and [`join`].
     pub nulls: u64,
 }
 
@@ -321,6 +339,52 @@ pub fn decode(list: &[u8], n: u64, rows: &[u8], offsets: &[u64], sheet: &mut [u8
     })
 }
 
+/// Writes the joined order of two sorted passes to the front of `order`, an entry a row: 4,096 times
+/// the pass plus the row. It is sorted by row bytes; equal rows keep their order, pass 0 first. Rows
+/// are not read as fields: any bytes between offsets may be joined.
+///
+/// ```
+/// let mut order = [9; 5];
+/// // Rows "b", "d" of pass 0 and "a", "b" of pass 1.
+/// let done = station::join(2, b"bd", &[0, 1, 2], 2, b"ab", &[0, 1, 2], &mut order)?;
+/// assert_eq!((done.total, done.nulls), (4, 0));
+/// assert_eq!(order, [4096, 0, 4097, 1, 9]);
+///
+/// // Row 1 of pass 1 is below the row before it.
+/// let refusal = station::join(0, b"", &[0], 2, b"ba", &[0, 1, 2], &mut order).unwrap_err();
+/// assert_eq!((refusal.number, refusal.second, refusal.third), (26, 1, 1));
+/// # Ok::<(), station::Refusal>(())
+/// ```
+pub fn join(
+    n0: u64,
+    rows0: &[u8],
+    offsets0: &[u64],
+    n1: u64,
+    rows1: &[u8],
+    offsets1: &[u64],
+    order: &mut [u64],
+) -> Answer {
+    // SAFETY: as in `encode`; the order is lent as the offsets are.
+    answered(|a| unsafe {
+        raw::station_join(
+            n0,
+            rows0.as_ptr(),
+            rows0.len(),
+            offsets0.as_ptr().cast(),
+            size_of_val(offsets0),
+            n1,
+            rows1.as_ptr(),
+            rows1.len(),
+            offsets1.as_ptr().cast(),
+            size_of_val(offsets1),
+            order.as_mut_ptr().cast(),
+            size_of_val(order),
+            a.as_mut_ptr(),
+            a.len(),
+        )
+    })
+}
+
 /// Compares two rows, or any bytes: unsigned, a proper beginning first.
 ///
 /// ```
@@ -368,6 +432,21 @@ pub fn decode_to_vec(
     };
     decode(list, n, rows, offsets, &mut sheet)?;
     Ok(sheet)
+}
+
+/// [`join`] into a list of exactly the right size.
+pub fn join_to_vec(first: &Rows, second: &Rows) -> Result<Vec<u64>, Refusal> {
+    let mut order = vec![0; first.len() + second.len()];
+    join(
+        first.len() as u64,
+        &first.bytes,
+        &first.offsets,
+        second.len() as u64,
+        &second.bytes,
+        &second.offsets,
+        &mut order,
+    )?;
+    Ok(order)
 }
 
 /// Lends an answer to `call` and reads the four numbers out of it.

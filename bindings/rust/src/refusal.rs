@@ -9,7 +9,7 @@ use std::fmt;
 /// and what they mean.
 #[derive(Clone, Copy, Debug, PartialEq, Eq, Hash)]
 pub struct Refusal {
-    /// The reason, 1 to 24, 27 or 28.
+    /// The reason, 1 to 24 or 26 to 28.
     pub number: u64,
     /// The first number that goes with it.
     pub second: u64,
@@ -61,12 +61,19 @@ impl fmt::Display for Refusal {
             ),
             12 => write!(f, "{a} row bytes, over 16,777,216"),
             13 => write!(f, "the row buffer is too small for {a} bytes"),
-            14 => write!(f, "the offset list is too short for {a} offsets"),
+            14 => write!(
+                f,
+                "the list of offsets or of the order is too short for {a} numbers"
+            ),
             15 => write!(
                 f,
                 "offset {a} is not 0 at the start, falls, or passes the row bytes"
             ),
             24 => write!(f, "the sheet buffer is too small for {a} bytes"),
+            26 => write!(
+                f,
+                "pass {a} is out of order: row {b} is below the row before it"
+            ),
             27 => write!(f, "column {a} is required, and null in row {b}"),
             _ => write!(
                 f,

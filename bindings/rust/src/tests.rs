@@ -202,3 +202,99 @@ fn the_archive_is_of_this_edition() {
     );
     assert_eq!(spelled, env!("CARGO_PKG_VERSION"));
 }
+
+/// Rows with their offsets, sorted.
+fn sorted(mut rows: Vec<Vec<u8>>) -> Rows {
+    rows.sort();
+    let mut offsets = vec![0];
+    for row in &rows {
+        offsets.push(offsets[offsets.len() - 1] + row.len() as u64);
+    }
+    Rows {
+        bytes: rows.concat(),
+        offsets,
+        nulls: 0,
+    }
+}
+
+/// The joined order by Rust's stable sort.
+fn order_of(first: &Rows, second: &Rows) -> Vec<u64> {
+    let entries = |pass: u64, rows: &Rows| (0..rows.len() as u64).map(move |i| 4096 * pass + i);
+    let row = |entry: &u64| {
+        let rows = if *entry < 4096 { first } else { second };
+        rows.row((entry % 4096) as usize).to_vec()
+    };
+    let mut order: Vec<u64> = entries(0, first).chain(entries(1, second)).collect();
+    order.sort_by_key(row);
+    order
+}
+
+#[test]
+fn a_join_is_the_stable_sort_of_both_passes() {
+    let mut state: u64 = 1;
+    let mut next = move |below: u64| {
+        state = state
+            .wrapping_mul(6364136223846793005)
+            .wrapping_add(1442695040888963407);
+        (state >> 33) % below
+    };
+    for count in (0..60).chain([4096]) {
+        let mut pass = |most: u64| {
+            let n = if count == 4096 { most } else { next(count + 1) };
+            sorted(
+                (0..n)
+                    .map(|_| (0..next(20)).map(|_| next(2) as u8).collect())
+                    .collect(),
+            )
+        };
+        let (first, second) = (pass(4096), pass(4096));
+        assert_eq!(join_to_vec(&first, &second), Ok(order_of(&first, &second)));
+    }
+}
+
+#[test]
+fn a_join_refuses_in_its_order_and_writes_nothing() {
+    let mut order = [9; 4];
+    let ends: &[u64] = &[0, 1, 2];
+    let mut check = |n0, rows0: &[u8], ends0: &[u64], n1, rows1: &[u8], ends1: &[u64], room| {
+        let answer = join(n0, rows0, ends0, n1, rows1, ends1, &mut order[..room]);
+        assert!(answer.is_ok() || order == [9; 4]);
+        answer
+    };
+    // Pass 0 before pass 1, and in each 6, 14, 15, 26.
+    assert_eq!(
+        check(4097, b"", &[], 4097, b"", &[], 0),
+        refused(6, 4097, 0)
+    );
+    assert_eq!(
+        check(2, b"ba", &[0, 1], 4097, b"", &[], 0),
+        refused(14, 3, 0)
+    );
+    assert_eq!(
+        check(2, b"ba", &[1, 1, 2], 4097, b"", &[], 0),
+        refused(15, 0, 0)
+    );
+    assert_eq!(
+        check(2, b"ba", &[0, 2, 1], 4097, b"", &[], 0),
+        refused(15, 2, 0)
+    );
+    assert_eq!(check(2, b"b", ends, 4097, b"", &[], 0), refused(15, 2, 0));
+    assert_eq!(check(2, b"ba", ends, 4097, b"", &[], 0), refused(26, 0, 1));
+    assert_eq!(
+        check(2, b"aa", ends, 4097, b"", &[], 0),
+        refused(6, 4097, 0)
+    );
+    assert_eq!(check(2, b"ab", ends, 2, b"ba", ends, 0), refused(26, 1, 1));
+    // 12 before 26, and then the list.
+    let many = vec![1; 16_777_217];
+    assert_eq!(
+        check(2, &many, &[0, 16_777_217, 16_777_217], 0, b"", &[0], 0),
+        refused(12, 16_777_217, 0)
+    );
+    assert_eq!(check(2, b"ab", ends, 2, b"ab", ends, 3), refused(14, 4, 0));
+    assert_eq!(
+        check(2, b"ab", ends, 2, b"ab", ends, 4),
+        Ok(Done { total: 4, nulls: 0 })
+    );
+    assert_eq!(order, [0, 4096, 1, 4097]);
+}

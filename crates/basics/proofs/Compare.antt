@@ -49,6 +49,12 @@ compare-gt m n h = tri-gt m n (compare m n) h (tri m n)
 pub compare-eq : (m n : ℕ) → m ≡ n → compare m n ≡ eq
 compare-eq m n h = tri-eq m n (compare m n) h (tri m n)
 
+-- a comparison that follows another: of the same pairs in order, the same answer
+pub compare-of : (m n : ℕ) (o : Ordering) → Tri m n o → compare m n ≡ o
+compare-of m n o (below h) = compare-lt m n h
+compare-of m n o (same h) = compare-eq m n h
+compare-of m n o (above h) = compare-gt m n h
+
 -- one number is below another, or not
 pub choose : (m n : ℕ) → (m < n) ⊎ (n ≤ m)
 choose m n = go (ltb m n) refl

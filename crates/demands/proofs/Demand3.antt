@@ -1,9 +1,8 @@
 -- Demand 3, on what encode writes, cut out by the offsets that it writes: comparing row bytes is comparing values, and a row begins
 -- another only where their values are equal. Assumes nothing.
-use Prim.Native.Nat.{ℕ, suc, _-_, _<_, Ordering}
+use Prim.Native.Nat.{ℕ, _<_, Ordering}
 use mathlib.Core.Path.{_≡_, ap, ap₂, _∙_}
 use mathlib.Core.List.{List, _++_}
-use native.Mathlib.Omega.{arith}
 use lib.ListN.{length, drop}
 use Rattle.format.specs.declared.Check.the-variants.{Pass}
 use Rattle.format.specs.declared.Column.{Column}
@@ -18,9 +17,11 @@ use Rattle.format.specs.Value.{rowOrder}
 use Rattle.format.specs.Entries.{sheetRows, encodeRows, encodeOffsets, rowBytes, sign, compareAnswer}
 use Rattle.laws.proofs.Sheets.{sheet-fits}
 use Rattle.laws.proofs.Turned.{rows-many}
-use Rattle.laws.proofs.Cuts.{written-cuts, written-row, below-last}
+use Rattle.laws.proofs.Cuts.{written-cuts, written-row}
 use Rattle.laws.proofs.Accept.{encoded, encode-rows, encode-offsets}
-use Rattle.demands.specs.Order.{Lies, Batch, batchFault, rowIn, valuesIn}
+use Rattle.joiner.specs.Rows.{Lies}
+use Rattle.joiner.proofs.Passes.{cuts-lie}
+use Rattle.demands.specs.Order.{Batch, batchFault, rowIn, valuesIn}
 use Rattle.demands.proofs.RowOrder.{row-order, row-begins, row-begun}
 use Rattle.demands.proofs.OneRow.{row-injective}
 use Rattle.demands.proofs.Turning.{row-at, row-fits}
@@ -56,11 +57,7 @@ module _ {list : List ℕ} {b : Batch} (w : Written list b) where
   module _ (r : ℕ) (l : r < b .n) where
     -- row r lies between its offsets
     pub row-lies : Lies (b .rows′) (b .offsets′) r
-    row-lies = record {
-      there = omega (arith, written-cut .there);
-      rises = written-cut .rising r l;
-      inside = omega (arith, written-cut .inside, below-last (b .n) (b .rows′) (b .offsets′) written-cut (b .n - suc r) (suc r) (omega arith));
-    }
+    row-lies = cuts-lie written-cut r l
 
     -- and is the row of its values
     pub row-is : rowIn b r ≡ row cols (valuesIn list b r)

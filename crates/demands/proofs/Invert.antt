@@ -9,9 +9,9 @@ use Rattle.format.specs.Field.{directed}
 use Rattle.format.specs.Key.{invert, inverted}
 use Rattle.format.specs.Lists.{Bytes}
 use Rattle.format.specs.Order.{cmp, swap, then}
-use Rattle.basics.proofs.Compare.{Tri, below, same, above, tri}
+use Rattle.basics.proofs.Compare.{Tri, below, same, above, tri, compare-of}
 use Rattle.demands.proofs.Sep.{sep, Ranks, ranks-even, ranks-cmp}
-use Rattle.demands.proofs.Orders.{compare-of, swap-then, swap-eq}
+use Rattle.demands.proofs.Orders.{swap-then, swap-eq}
 
 turned : (x y : ℕ) (o : Ordering) → x < 256 → y < 256 → Tri x y o → Tri (255 - x) (255 - y) (swap o)
 turned x y o hx hy (below h) = above (omega arith)

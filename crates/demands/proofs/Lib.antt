@@ -26,4 +26,7 @@ pub mod FieldPlace
 pub mod Place
 pub mod Front
 pub mod OutBytes
+pub mod Sorted
+pub mod Insertion
+pub mod JoinOrder
 pub mod Unique

@@ -3,16 +3,10 @@ use Prim.Native.Nat.{ℕ, compare, Ordering, Ordering·lt as lt, Ordering·eq as
 use mathlib.Core.Path.{_≡_, refl, sym}
 use native.Mathlib.Omega.{arith}
 use Rattle.format.specs.Order.{swap, then}
-use Rattle.basics.proofs.Compare.{Tri, below, same, above, tri, compare-lt, compare-gt, compare-eq}
+use Rattle.basics.proofs.Compare.{Tri, below, same, above, tri, compare-eq, compare-of}
 
 pub compare-self : (n : ℕ) → compare n n ≡ eq
 compare-self n = compare-eq n n refl
-
--- a comparison that follows another: of the same pairs in order, the same answer
-pub compare-of : (m n : ℕ) (o : Ordering) → Tri m n o → compare m n ≡ o
-compare-of m n o (below h) = compare-lt m n h
-compare-of m n o (same h) = compare-eq m n h
-compare-of m n o (above h) = compare-gt m n h
 
 turn : (m n : ℕ) (o : Ordering) → Tri m n o → Tri n m (swap o)
 turn m n o (below h) = above h

@@ -23,7 +23,8 @@ use Rattle.basics.proofs.Compare.{compare-lt, compare-gt}
 use Rattle.basics.proofs.Sorts.{AllPositive, Signs, ShapeSigns, signs}
 use Rattle.laws.proofs.Fields.{bytes-variable, Led, led-variable}
 use Rattle.demands.proofs.Invert.{ranks-directed}
-use Rattle.demands.proofs.KeyLaws.{unsigned-order, signed-order, float-order}
+use Rattle.laws.proofs.HighFirst.{unsigned-order}
+use Rattle.demands.proofs.KeyLaws.{signed-order, float-order}
 use Rattle.demands.proofs.Sep.{Ranks, ranks-self, ranks-append, ranks-even, ranks-cmp, ranks-begins, ranks-begun}
 use Rattle.demands.proofs.VariableOrder.{variable-ranks}
 use Rattle.demands.proofs.Orders.{lt≢eq, gt≢eq}

@@ -5,6 +5,7 @@ use mathlib.Core.Path.{_≡_}
 use mathlib.Core.List.{List}
 use lib.IntN.{ℤ}
 use Rattle.format.specs.declared.Answer.{Answer}
+use Rattle.format.specs.Promises.{Joined, LentJoined}
 use Rattle.format.specs.Promises.{ListChecked, Measured, Encoded, Decoded, Compared, LentListChecked, LentMeasured, LentEncoded, LentDecoded}
 use Rattle.laws.proofs.Numbers.{numbers-injective}
 
@@ -22,6 +23,11 @@ encode-unique {list} {n} {sheet} {rows} {offsets} {r} {r′} g h = (numbers-inje
 pub decode-unique : {list : List ℕ} {n : ℕ} {rows offsets sheet : List ℕ} {r r′ : Answer} {sheet₁ sheet₂ : List ℕ}
     → Decoded list n rows offsets sheet r sheet₁ → Decoded list n rows offsets sheet r′ sheet₂ → (r ≡ r′) × (sheet₁ ≡ sheet₂)
 decode-unique {list} {n} {rows} {offsets} {sheet} {r} {r′} g h = (numbers-injective r r′ (cc), cc)
+
+pub join-unique : {n₀ : ℕ} {rows₀ offsets₀ : List ℕ} {n₁ : ℕ} {rows₁ offsets₁ list : List ℕ} {r r′ : Answer} {list₁ list₂ : List ℕ}
+    → Joined n₀ rows₀ offsets₀ n₁ rows₁ offsets₁ list r list₁ → Joined n₀ rows₀ offsets₀ n₁ rows₁ offsets₁ list r′ list₂
+    → (r ≡ r′) × (list₁ ≡ list₂)
+join-unique {r} {r′} g h = (numbers-injective r r′ (cc), cc)
 
 pub compare-unique : {a b : List ℕ} {r r′ : ℤ} → Compared a b r → Compared a b r′ → r ≡ r′
 compare-unique g h = cc
@@ -43,3 +49,8 @@ pub lent-decode-unique : {list : List ℕ} {n : ℕ} {rows offsets sheet lent sh
     → LentDecoded list n rows offsets sheet lent sheet₁ lent₁ → LentDecoded list n rows offsets sheet lent sheet₂ lent₂
     → (lent₁ ≡ lent₂) × (sheet₁ ≡ sheet₂)
 lent-decode-unique g h = (cc, cc)
+
+pub lent-join-unique : {n₀ : ℕ} {rows₀ offsets₀ : List ℕ} {n₁ : ℕ} {rows₁ offsets₁ list lent list₁ list₂ lent₁ lent₂ : List ℕ}
+    → LentJoined n₀ rows₀ offsets₀ n₁ rows₁ offsets₁ list lent list₁ lent₁ → LentJoined n₀ rows₀ offsets₀ n₁ rows₁ offsets₁ list lent list₂ lent₂
+    → (lent₁ ≡ lent₂) × (list₁ ≡ list₂)
+lent-join-unique g h = (cc, cc)

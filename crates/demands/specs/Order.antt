@@ -1,11 +1,11 @@
 -- The order: what comparing two encoded rows answers, and that neither begins the other unless their values are equal.
-use Prim.Native.Nat.{ℕ, suc, _<_, _≤_}
+use Prim.Native.Nat.{ℕ, _<_}
 use mathlib.Core.Path.{_≡_}
 use mathlib.Core.Bool.{Bool, cond, _&&_}
 use mathlib.Core.List.{List}
 use lib.Dec.{ltb}
 use lib.IntN.{ℤ}
-use lib.ListN.{length, getD}
+use lib.ListN.{length}
 use Rattle.format.specs.declared.Check.{Check}
 use Rattle.format.specs.declared.Check.the-variants.{Pass, Refuse}
 use Rattle.format.specs.Check.{both}
@@ -16,12 +16,6 @@ use Rattle.format.specs.Value.{rowOrder}
 use Rattle.format.specs.Entries.{rowValues, encodeCheck, rowBytes, sign}
 use Rattle.demands.specs.declared.order.Ordered.{Ordered}
 use Rattle.demands.specs.declared.order.Ordered.the-variants.{Refused, NoRow, Is}
-
--- row r lies between its offsets, within the row bytes
-pub record Lies (bytes offsets : List ℕ) (r : ℕ) : Type 0 where
-  pub there : suc r < length offsets
-  pub rises : getD offsets r 0 ≤ getD offsets (suc r) 0
-  pub inside : getD offsets (suc r) 0 ≤ length bytes
 
 -- a sheet of n rows with the row buffer and the offsets lent for it, and these two at exit
 pub record Batch : Type 0 where

@@ -3,3 +3,4 @@ pub mod ListExamples
 pub mod SheetExamples
 pub mod RowExamples
 pub mod EntryExamples
+pub mod JoinExamples

@@ -1,4 +1,4 @@
--- The C entries: the same answers on lent bytes. Offsets and the answer are eight bytes a number, low byte first.
+-- The C entries: the same answers on lent bytes. Offsets, the order and the answer are eight bytes a number, low byte first.
 use Prim.Native.Nat.{ℕ, _*_, _/_}
 use mathlib.Core.Bool.{cond}
 use mathlib.Core.List.{List, [], _∷_, map}
@@ -9,6 +9,7 @@ use Rattle.format.specs.declared.Returned.{Returned}
 use Rattle.format.specs.Lists.{each, joined, over, low, lowBytes}
 use Rattle.format.specs.Numbers.{numbersOf}
 use Rattle.format.specs.Entries.{checkListAnswer, measureAnswer, encodeAnswer, encodeRows, encodeOffsets, decodeAnswer, decodeSheet}
+use Rattle.format.specs.Join.{joinAnswer, joinList}
 
 -- the numbers of lent bytes; a shorter tail does not count
 abbrev pub eights : List ℕ → List ℕ
@@ -53,3 +54,11 @@ lentDecode list n rows offsets sheetRoom lent = answerBytes (decodeAnswer list n
 
 unfoldable pub lentDecodeSheet : List ℕ → ℕ → List ℕ → List ℕ → List ℕ → List ℕ → List ℕ
 lentDecodeSheet list n rows offsets sheet lent = unlessShort lent (decodeSheet list n rows (eights offsets) sheet) sheet
+
+unfoldable pub lentJoin : ℕ → List ℕ → List ℕ → ℕ → List ℕ → List ℕ → List ℕ → List ℕ → List ℕ
+lentJoin n₀ rows₀ offsets₀ n₁ rows₁ offsets₁ list lent =
+    answerBytes (joinAnswer n₀ rows₀ (eights offsets₀) n₁ rows₁ (eights offsets₁) (length list / 8)) lent
+
+unfoldable pub lentJoinList : ℕ → List ℕ → List ℕ → ℕ → List ℕ → List ℕ → List ℕ → List ℕ → List ℕ
+lentJoinList n₀ rows₀ offsets₀ n₁ rows₁ offsets₁ list lent =
+    unlessShort lent (over (eightBytes (joinList n₀ rows₀ (eights offsets₀) n₁ rows₁ (eights offsets₁) (eights list))) list) list

@@ -18,6 +18,8 @@ pub mod Cleared
 pub mod Read
 pub mod Numbers
 pub mod Entries
+pub mod Batch
+pub mod Join
 pub mod Promises
 pub mod Program
 pub mod Lent

@@ -8,6 +8,8 @@ use lib.ListN.{length}
 use Rattle.format.specs.declared.Answer.{Answer}
 use Rattle.format.specs.Numbers.{numbersOf}
 use Rattle.format.specs.Entries.{checkListAnswer, measureAnswer, encodeAnswer, encodeRows, encodeOffsets, decodeAnswer, decodeSheet, compareAnswer}
+use Rattle.format.specs.Join.{joinAnswer, joinList}
+use Rattle.format.specs.Lent.{lentJoin, lentJoinList}
 use Rattle.format.specs.Lent.{lentCheckList, lentMeasure, lentEncode, lentEncodeRows, lentEncodeOffsets, lentDecode, lentDecodeSheet}
 
 -- check_list
@@ -28,6 +30,11 @@ pub record Encoded (list : List ℕ) (n : ℕ) (sheet rows offsets : List ℕ) (
 pub record Decoded (list : List ℕ) (n : ℕ) (rows offsets sheet : List ℕ) (r : Answer) (sheet′ : List ℕ) : Type 0 where
   pub answers : numbersOf r ≡ numbersOf (decodeAnswer list n rows offsets (length sheet))
   pub bytes : sheet′ ≡ decodeSheet list n rows offsets sheet
+
+-- join: the lent list at entry, and at exit
+pub record Joined (n₀ : ℕ) (rows₀ offsets₀ : List ℕ) (n₁ : ℕ) (rows₁ offsets₁ list : List ℕ) (r : Answer) (list′ : List ℕ) : Type 0 where
+  pub answers : numbersOf r ≡ numbersOf (joinAnswer n₀ rows₀ offsets₀ n₁ rows₁ offsets₁ (length list))
+  pub order : list′ ≡ joinList n₀ rows₀ offsets₀ n₁ rows₁ offsets₁ list
 
 -- compare
 pub record Compared (a b : List ℕ) (r : ℤ) : Type 0 where
@@ -53,3 +60,8 @@ pub record LentEncoded (list : List ℕ) (n : ℕ) (sheet rows offsets lent rows
 pub record LentDecoded (list : List ℕ) (n : ℕ) (rows offsets sheet lent sheet′ lent′ : List ℕ) : Type 0 where
   pub answers : lent′ ≡ lentDecode list n rows offsets (length sheet) lent
   pub bytes : sheet′ ≡ lentDecodeSheet list n rows offsets sheet lent
+
+-- station_join
+pub record LentJoined (n₀ : ℕ) (rows₀ offsets₀ : List ℕ) (n₁ : ℕ) (rows₁ offsets₁ list lent list′ lent′ : List ℕ) : Type 0 where
+  pub answers : lent′ ≡ lentJoin n₀ rows₀ offsets₀ n₁ rows₁ offsets₁ list lent
+  pub order : list′ ≡ lentJoinList n₀ rows₀ offsets₀ n₁ rows₁ offsets₁ list lent

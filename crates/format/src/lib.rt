@@ -99,6 +99,7 @@ pub enum Refusal {
     Row(RowFault, usize, usize, usize),
     SheetRoom(usize),
     Input,
+    OutOfOrder(usize, usize),
     Missing(usize, usize),
 }
 
@@ -229,6 +230,7 @@ pub fn refusal_numbers(r: Refusal) -> Returned
         }
         Refusal::SheetRoom(bytes) => Returned(24, bytes as u64, 0, 0),
         Refusal::Input => Returned(25, 0, 0, 0),
+        Refusal::OutOfOrder(pass, row) => Returned(26, pass as u64, row as u64, 0),
         Refusal::Missing(c, row) => Returned(27, c as u64, row as u64, 0),
     }
 }

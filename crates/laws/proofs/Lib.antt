@@ -1,5 +1,7 @@
 -- Laws of the definitions of crate format that the proofs of code cite.
 pub mod Numbers
+pub mod HighFirst
+pub mod Below
 pub mod Unkey
 pub mod TopWord
 pub mod Stream

@@ -3,5 +3,6 @@ mod check;
 pub mod compare;
 pub mod decode;
 pub mod encode;
+pub mod join;
 pub mod list;
 pub mod measure;

@@ -40,7 +40,7 @@ many-written Pass r new new′ old = refl
 many-written (Refuse s) r new new′ old = refl
 
 -- one or the other
-le-or-lt : (a b : ℕ) → (a ≤ b) ⊎ (b < a)
+pub le-or-lt : (a b : ℕ) → (a ≤ b) ⊎ (b < a)
 le-or-lt a b = by-test (ltb b a) refl
   where
     by-test : (t : Bool) → ltb b a ≡ t → (a ≤ b) ⊎ (b < a)
@@ -78,8 +78,8 @@ ends-fit list n sheet rowRoom k e =
     let many = rows-many n (columns list) (sheetSlots n (columns list) sheet) in
     omega (arith, length-ends 0 (sheetRows n (columns list) sheet), many, enough k (suc n) _ _ (q .1) .0)
 
--- the ends in front of the lent bytes, as the entry's definition has them: numbers in front of those that were there
-front : (m : Check) (new bs : List ℕ) → Bytes bs → (m ≡ Pass → length new ≤ length bs / 8)
+-- numbers in front of the lent bytes, as the entries' definitions have them: numbers in front of those that were there
+pub front : (m : Check) (new bs : List ℕ) → Bytes bs → (m ≡ Pass → length new ≤ length bs / 8)
     → written m (eightBytes new) bs ≡ over (eightBytes (written m new (eights bs))) bs
 front Pass new bs b l = sym (stored-back bs b new (length bs / 8) (l refl) (omega arith))
 front (Refuse r) new bs b l = sym (stored-back bs b [] (length bs / 8) (omega arith) (omega arith))
@@ -94,11 +94,11 @@ encode-ends list n sheet rowRoom bs k b u =
     (front (encodeCheck list n sheet rowRoom (length bs / 8)) ends bs b (ends-fit list n sheet rowRoom (length bs / 8)))
 
 -- ---- decode: offsets that agree up to index n
-record Agree (n : ℕ) (os os′ : List ℕ) : Type 0 where
-  room : ltb (length os) (suc n) ≡ ltb (length os′) (suc n)
-  at : (i : ℕ) → i ≤ n → getD os i 0 ≡ getD os′ i 0
+pub record Agree (n : ℕ) (os os′ : List ℕ) : Type 0 where
+  pub room : ltb (length os) (suc n) ≡ ltb (length os′) (suc n)
+  pub at : (i : ℕ) → i ≤ n → getD os i 0 ≡ getD os′ i 0
 
-agree : (bs : List ℕ) (n room k : ℕ) → Used n room k → n ≤ maxRows → Agree n (firstEights k bs) (firstEights room bs)
+pub agree : (bs : List ℕ) (n room k : ℕ) → Used n room k → n ≤ maxRows → Agree n (firstEights k bs) (firstEights room bs)
 agree bs n room k u h = record {
   room =
       ap (λ (a : ℕ). ltb a (suc n)) (length-each 0 k (eightAt bs)) ∙ reach n room k u h
@@ -112,10 +112,10 @@ module _ (n : ℕ) (bytes os os′ : List ℕ) (a : Agree n os os′) where
   falls i zero h = refl
   falls i (suc j) h = rw (a .at i (omega arith), a .at (suc i) (omega arith), falls (suc i) j (omega arith))
 
-  offsets-fault : offsetsFault n bytes os ≡ offsetsFault n bytes os′
+  pub offsets-fault : offsetsFault n bytes os ≡ offsetsFault n bytes os′
   offsets-fault = rw (a .room, a .at 0 (omega arith), falls 0 n (omega arith), a .at n (omega arith))
 
-  cuts : cutRows n bytes os ≡ cutRows n bytes os′
+  pub cuts : cutRows n bytes os ≡ cutRows n bytes os′
   cuts = each-same 0 n (rowBytes bytes os) (rowBytes bytes os′) (λ j p q. rw (a .at j (omega arith), a .at (suc j) (omega arith)))
 
 module _ (list : List ℕ) (n : ℕ) (bytes bs : List ℕ) (k : ℕ) (u : Used n (length bs / 8) k) where

@@ -33,7 +33,7 @@ pub part-long : (m k : ℕ) → k ≤ m → k ≡ length (take k (replicate {A =
 part-long m k h = sym (length-take-le k (replicate {A = ℕ} m 0) (omega (arith, length-replicate {A = ℕ} m 0)))
 
 -- ---- encode with offsets in bytes
-answer-refused : (m : Check) (a b : ℕ) (x : Refusal) → answer m a b ≡ Refused x → m ≡ Refuse x
+pub answer-refused : (m : Check) (a b : ℕ) (x : Refusal) → answer m a b ≡ Refused x → m ≡ Refuse x
 answer-refused Pass a b x e = absurd (let z : _≡_ {A = ℕ} 0 1 = cc in omega arith)
 answer-refused (Refuse y) a b x e = cc
 
@@ -66,10 +66,10 @@ bytes-decoded list n rows offsets sheet k os r sheet′ e h = subst (λ (x : Lis
 
 -- ---- an answer that cannot hold the four numbers
 module _ (lent : List ℕ) (short : length lent < answerRoom) where
-  short-answer : (a : Answer) → lent ≡ answerBytes a lent
+  pub short-answer : (a : Answer) → lent ≡ answerBytes a lent
   short-answer a = rw (lt-ltb (length lent) answerRoom short)
 
-  short-kept : (new old : List ℕ) → old ≡ unlessShort lent new old
+  pub short-kept : (new old : List ℕ) → old ≡ unlessShort lent new old
   short-kept new old = rw (lt-ltb (length lent) answerRoom short)
 
   pub list-short : (list : List ℕ) → LentListChecked list lent lent
@@ -97,10 +97,10 @@ module _ (lent : List ℕ) (short : length lent < answerRoom) where
 
 -- ---- one that can, and holds those of r
 module _ (lent lent′ : List ℕ) (r : Answer) (long : answerRoom ≤ length lent) (put : lent′ ≡ over (numberBytes (numbersOf r)) lent) where
-  long-answer : (a : Answer) → numbersOf r ≡ numbersOf a → lent′ ≡ answerBytes a lent
+  pub long-answer : (a : Answer) → numbersOf r ≡ numbersOf a → lent′ ≡ answerBytes a lent
   long-answer a e = rw (le-ltb (length lent) answerRoom long) (put ∙ ap (λ (x : Returned). over (numberBytes x) lent) e)
 
-  long-new : (new′ new old : List ℕ) → new′ ≡ new → new′ ≡ unlessShort lent new old
+  pub long-new : (new′ new old : List ℕ) → new′ ≡ new → new′ ≡ unlessShort lent new old
   long-new new′ new old e = rw (le-ltb (length lent) answerRoom long) e
 
   pub list-long : (list : List ℕ) → ListChecked list r → LentListChecked list lent lent′

@@ -2,3 +2,4 @@
 pub mod NumberBytes
 pub mod Enough
 pub mod Entries
+pub mod Joins

@@ -1,13 +1,17 @@
 // The C entries: a slice is a pointer and a length, and offsets and answers are lent as bytes, eight a number, low byte
 // first. Thin over crate `station`; include/station.h says how to call them.
-ghost use Rattle.format.specs.Promises.{LentListChecked, LentMeasured, LentEncoded, LentDecoded, Compared};
+ghost use Rattle.format.specs.Promises.{LentListChecked, LentMeasured, LentEncoded, LentDecoded, LentJoined, Compared};
 use crate::bytes::decode_bytes;
 use crate::bytes::encode_bytes;
 use crate::bytes::put_answer;
 use crate::bytes::used_offsets;
+use crate::order::MAX_ORDER;
+use crate::order::join_bytes;
+use crate::order::used_entries;
 use format::MAX_OFFSETS;
 
 mod bytes;
+mod order;
 mod version;
 
 // An answer is four numbers; one that cannot hold them, and no lent byte changes.
@@ -76,6 +80,45 @@ pub extern "C" fn station_decode(
     let mut numbers = [0u64; MAX_OFFSETS];
     let k = used_offsets(n, offsets.len());
     let r = decode_bytes(list, n, rows, offsets, sheet, &mut numbers[..k]);
+    put_answer(answer, r);
+}
+
+// Writes the joined order of two sorted passes.
+#[no_mangle]
+pub extern "C" fn station_join(
+    n0: u64,
+    rows0: &[u8],
+    offsets0: &[u8],
+    n1: u64,
+    rows1: &[u8],
+    offsets1: &[u8],
+    order: &mut [u8],
+    answer: &mut [u8],
+)
+    ensures { λ _. ⌜ LentJoined n0 (now (rows0 .entry)) (now (offsets0 .entry)) n1 (now (rows1 .entry)) (now (offsets1 .entry)) (now (order .entry))
+        (now (answer .entry)) (now (order .exit)) (now (answer .exit)) ⌝ }
+{
+    if answer.len() < ANSWER_BYTES {
+        return;
+    }
+    let mut first = [0u64; MAX_OFFSETS];
+    let mut second = [0u64; MAX_OFFSETS];
+    let mut list = [0u64; MAX_ORDER];
+    let f = used_offsets(n0, offsets0.len());
+    let s = used_offsets(n1, offsets1.len());
+    let k = used_entries(n0, n1, order.len());
+    let r = join_bytes(
+        n0,
+        rows0,
+        offsets0,
+        n1,
+        rows1,
+        offsets1,
+        order,
+        &mut first[..f],
+        &mut second[..s],
+        &mut list[..k],
+    );
     put_answer(answer, r);
 }
 

@@ -1,0 +1,2 @@
+-- Two byte strings that are alike so far.
+pub mod Alike
