@@ -9,6 +9,8 @@ pub mod VariableOrder
 pub mod Signs
 pub mod RowOrder
 pub mod OneRow
+pub mod FirstFields
+pub mod SideBySide
 pub mod Turning
 pub mod CutRows
 pub mod Raw
@@ -20,6 +22,7 @@ pub mod RowsBack
 pub mod Exact
 pub mod Demand2
 pub mod Demand3
+pub mod Prefix
 pub mod Calls
 pub mod NullSlots
 pub mod Front

@@ -3,3 +3,4 @@ pub mod Table
 pub mod Raw
 pub mod RoundTrip
 pub mod Order
+pub mod Prefix

@@ -1,0 +1,43 @@
+-- The first k fields: two encoded rows share them exactly when they share the first k values, they are the row of these values under
+-- the first k columns, and in a sorted batch the rows that share them stand side by side. For every k; past the columns it is all of them.
+use Prim.Native.Nat.{ℕ, suc, _<_, _≤_, Ordering·lt as lt}
+use mathlib.Core.Path.{_≡_}
+use mathlib.Core.Logic.{_↔_}
+use mathlib.Core.List.{List}
+use lib.ListN.{length, take}
+use Rattle.format.specs.declared.Check.{Check}
+use Rattle.format.specs.declared.Check.the-variants.{Pass}
+use Rattle.format.specs.Check.{both}
+use Rattle.format.specs.Kinds.{Slot}
+use Rattle.format.specs.Columns.{columns}
+use Rattle.format.specs.Order.{cmp}
+use Rattle.format.specs.Prefix.{firstFields, valuesLength}
+use Rattle.format.specs.Row.{row}
+use Rattle.demands.specs.Order.{Batch, batchFault, rowIn, valuesIn}
+
+-- the first k fields of row r of a batch, and the first k values of row r of its sheet
+abbrev pub fieldsIn : List ℕ → Batch → ℕ → ℕ → List ℕ
+fieldsIn list b k r = firstFields k (columns list) (rowIn b r)
+
+abbrev pub firstValues : List ℕ → Batch → ℕ → ℕ → List Slot
+firstValues list b k r = take k (valuesIn list b r)
+
+-- of n rows none is below the one before it
+abbrev pub Sorted : ℕ → (ℕ → List ℕ) → Type 0
+Sorted n rows = (i : ℕ) → suc i < n → ¬ (cmp (rows (suc i)) (rows i) ≡ lt)
+
+-- what rows i and l share, all rows between them share
+abbrev pub Together : {A : Type 0} → ℕ → (ℕ → A) → Type 0
+Together n f = (i j l : ℕ) → i ≤ j → j ≤ l → l < n → f i ≡ f l → f j ≡ f i
+
+-- the first k fields are the row of the first k values under the first k columns, and as long as these values say
+pub record Fields (list : List ℕ) (b : Batch) (k r : ℕ) : Type 0 where
+  pub spell : fieldsIn list b k r ≡ row (take k (columns list)) (firstValues list b k r)
+  pub long : length (fieldsIn list b k r) ≡ valuesLength k (columns list) (valuesIn list b r)
+
+-- two sheets encoded under one list
+pub record FieldsAgree (list : List ℕ) (b d : Batch) (x : Check) : Type 0 where
+  pub answers : x ≡ both (batchFault list b) (batchFault list d)
+  pub agree : x ≡ Pass → (k r q : ℕ) → r < b .n → q < d .n → firstValues list b k r ≡ firstValues list d k q ↔ fieldsIn list b k r ≡ fieldsIn list d k q
+  pub fields : x ≡ Pass → (k r : ℕ) → r < b .n → Fields list b k r
+  pub together : x ≡ Pass → Sorted (b .n) (rowIn b) → (k : ℕ) → Together (b .n) (fieldsIn list b k)
