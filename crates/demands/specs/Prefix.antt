@@ -1,19 +1,25 @@
 -- The first k fields: two encoded rows share them exactly when they share the first k values, they are the row of these values under
--- the first k columns, and in a sorted batch the rows that share them stand side by side. For every k; past the columns it is all of them.
+-- the first k columns, and in a sorted batch the rows that share them stand side by side. For every k; past the columns it is all.
 use Prim.Native.Nat.{ℕ, suc, _<_, _≤_, Ordering·lt as lt}
 use mathlib.Core.Path.{_≡_}
+use mathlib.Core.Bool.{_&&_}
 use mathlib.Core.Logic.{_↔_}
 use mathlib.Core.List.{List}
+use lib.Dec.{ltb}
+use lib.IntN.{ℤ}
 use lib.ListN.{length, take}
 use Rattle.format.specs.declared.Check.{Check}
 use Rattle.format.specs.declared.Check.the-variants.{Pass}
 use Rattle.format.specs.Check.{both}
 use Rattle.format.specs.Kinds.{Slot}
 use Rattle.format.specs.Columns.{columns}
-use Rattle.format.specs.Order.{cmp}
+use Rattle.format.specs.Order.{Begins, cmp}
 use Rattle.format.specs.Prefix.{firstFields, valuesLength}
 use Rattle.format.specs.Row.{row}
-use Rattle.demands.specs.Order.{Batch, batchFault, rowIn, valuesIn}
+use Rattle.format.specs.Value.{rowOrder}
+use Rattle.format.specs.Entries.{sign, compareAnswer}
+use Rattle.demands.specs.declared.order.Ordered.{Ordered}
+use Rattle.demands.specs.Order.{Batch, batchFault, rowIn, valuesIn, ordered}
 
 -- the first k fields of row r of a batch, and the first k values of row r of its sheet
 abbrev pub fieldsIn : List ℕ → Batch → ℕ → ℕ → List ℕ
@@ -41,3 +47,22 @@ pub record FieldsAgree (list : List ℕ) (b d : Batch) (x : Check) : Type 0 wher
   pub agree : x ≡ Pass → (k r q : ℕ) → r < b .n → q < d .n → firstValues list b k r ≡ firstValues list d k q ↔ fieldsIn list b k r ≡ fieldsIn list d k q
   pub fields : x ≡ Pass → (k r : ℕ) → r < b .n → Fields list b k r
   pub together : x ≡ Pass → Sorted (b .n) (rowIn b) → (k : ℕ) → Together (b .n) (fieldsIn list b k)
+
+-- row r of a batch, cut to the length of key q, compared with that key
+abbrev pub keyOrder : Batch → Batch → ℕ → ℕ → ℤ
+keyOrder b d r q = compareAnswer (take (length (rowIn d q)) (rowIn b r)) (rowIn d q)
+
+-- both sheets are encoded, the second under the first k columns, and both rows are there
+pub record KeyThere (list short : List ℕ) (b d : Batch) (k r q : ℕ) : Type 0 where
+  pub passes : both (batchFault list b) (batchFault short d) ≡ Pass
+  pub first : columns short ≡ take k (columns list)
+  pub row : r < b .n
+  pub key : q < d .n
+
+-- such a key stands to the row as to its first k values, and is its first k fields, and begins it, exactly where it has those values
+pub record KeyOrdered (list short : List ℕ) (b d : Batch) (r q : ℕ) (x : Ordered) : Type 0 where
+  pub answers : x ≡ ordered (both (batchFault list b) (batchFault short d)) (ltb r (b .n) && ltb q (d .n)) (keyOrder b d r q)
+  pub order : (k : ℕ) → KeyThere list short b d k r q
+      → keyOrder b d r q ≡ sign (rowOrder (take k (columns list)) (firstValues list b k r) (valuesIn short d q))
+  pub shares : (k : ℕ) → KeyThere list short b d k r q → firstValues list b k r ≡ valuesIn short d q ↔ fieldsIn list b k r ≡ rowIn d q
+  pub begins : (k : ℕ) → KeyThere list short b d k r q → firstValues list b k r ≡ valuesIn short d q ↔ Begins (rowIn d q) (rowIn b r)
