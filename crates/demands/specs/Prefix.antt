@@ -1,18 +1,18 @@
 -- The first k fields: two encoded rows share them exactly when they share the first k values, they are the row of these values under
 -- the first k columns, and in a sorted batch the rows that share them stand side by side. For every k; past the columns it is all.
-use Prim.Native.Nat.{ℕ, suc, _<_, _≤_, Ordering·lt as lt}
+use Prim.Native.Nat.{ℕ, zero, suc, _+_, _<_, _≤_, Ordering·lt as lt}
 use mathlib.Core.Path.{_≡_}
 use mathlib.Core.Bool.{_&&_}
 use mathlib.Core.Logic.{_↔_}
 use mathlib.Core.List.{List}
 use lib.Dec.{ltb}
 use lib.IntN.{ℤ}
-use lib.ListN.{length, take}
+use lib.ListN.{length, getD, take}
 use Rattle.format.specs.declared.Check.{Check}
 use Rattle.format.specs.declared.Check.the-variants.{Pass}
 use Rattle.format.specs.Check.{both}
 use Rattle.format.specs.Kinds.{Slot}
-use Rattle.format.specs.Columns.{columns}
+use Rattle.format.specs.Columns.{descriptionBytes, columns}
 use Rattle.format.specs.Order.{Begins, cmp}
 use Rattle.format.specs.Prefix.{firstFields, valuesLength}
 use Rattle.format.specs.Row.{row}
@@ -47,6 +47,17 @@ pub record FieldsAgree (list : List ℕ) (b d : Batch) (x : Check) : Type 0 wher
   pub agree : x ≡ Pass → (k r q : ℕ) → r < b .n → q < d .n → firstValues list b k r ≡ firstValues list d k q ↔ fieldsIn list b k r ≡ fieldsIn list d k q
   pub fields : x ≡ Pass → (k r : ℕ) → r < b .n → Fields list b k r
   pub together : x ≡ Pass → Sorted (b .n) (rowIn b) → (k : ℕ) → Together (b .n) (fieldsIn list b k)
+
+-- ---- keys under the first k columns
+
+-- where k descriptions end that begin at `at`
+abbrev pub listEnd : ℕ → List ℕ → ℕ → ℕ
+listEnd zero s at = at
+listEnd (suc k) s at = listEnd k s (at + descriptionBytes (getD s at 0))
+
+-- the first k descriptions of a list
+abbrev pub firstList : ℕ → List ℕ → List ℕ
+firstList k list = take (listEnd k list 0) list
 
 -- row r of a batch, cut to the length of key q, compared with that key
 abbrev pub keyOrder : Batch → Batch → ℕ → ℕ → ℤ
