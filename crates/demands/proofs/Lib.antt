@@ -9,6 +9,7 @@ pub mod VariableOrder
 pub mod Signs
 pub mod RowOrder
 pub mod OneRow
+pub mod PrefixRun
 pub mod FirstColumns
 pub mod FirstFields
 pub mod SideBySide
