@@ -10,6 +10,7 @@ pub mod Signs
 pub mod RowOrder
 pub mod OneRow
 pub mod PrefixRun
+pub mod Fronts
 pub mod FirstColumns
 pub mod FirstFields
 pub mod SideBySide
@@ -24,7 +25,7 @@ pub mod RowsBack
 pub mod Exact
 pub mod Demand2
 pub mod Demand3
-pub mod Prefix
+pub mod Plates
 pub mod Calls
 pub mod NullSlots
 pub mod Front

@@ -65,9 +65,9 @@ between (x ∷ f) r s (y ∷ b) h k = go (compare y x) (tri y x) (between f r s 
     go lt (below u) ih = absurd (h (heads y x b (f ++ r) lt (compare-lt y x u)))
     go eq (same u) ih =
         let g =
-            ih
-            (λ q. h (heads y x b (f ++ r) eq (compare-eq y x u) ∙ q))
-            (λ q. k (heads x y (f ++ s) b eq (compare-eq x y (sym u)) ∙ q)) in
+        ih
+        (λ q. h (heads y x b (f ++ r) eq (compare-eq y x u) ∙ q))
+        (λ q. k (heads x y (f ++ s) b eq (compare-eq x y (sym u)) ∙ q)) in
         (g .0, ap₂ {C = List ℕ} (λ p q. p ∷ q) (sym u) (g .1))
     go gt (above u) ih = absurd (k (heads x y (f ++ s) b lt (compare-lt x y u)))
 

@@ -1,8 +1,8 @@
 -- The first k fields: two encoded rows share them exactly when they share the first k values, they are the row of these values under
 -- the first k columns, and in a sorted batch the rows that share them stand side by side. For every k; past the columns it is all.
-use Prim.Native.Nat.{ℕ, zero, suc, _+_, _<_, _≤_, Ordering·lt as lt}
+use Prim.Native.Nat.{ℕ, zero, suc, _+_, _-_, _<_, _≤_, Ordering·lt as lt}
 use mathlib.Core.Path.{_≡_}
-use mathlib.Core.Bool.{_&&_}
+use mathlib.Core.Bool.{cond, _&&_}
 use mathlib.Core.Logic.{_↔_}
 use mathlib.Core.List.{List}
 use lib.Dec.{ltb}
@@ -58,6 +58,10 @@ listEnd (suc k) s at = listEnd k s (at + descriptionBytes (getD s at 0))
 -- the first k descriptions of a list
 abbrev pub firstList : ℕ → List ℕ → List ℕ
 firstList k list = take (listEnd k list 0) list
+
+-- where what stands from `from` up to `to` ends if it is cut to `size`
+abbrev pub frontEnd : ℕ → ℕ → ℕ → ℕ
+frontEnd from to size = cond (ltb size (to - from)) (from + size) to
 
 -- row r of a batch, cut to the length of key q, compared with that key
 abbrev pub keyOrder : Batch → Batch → ℕ → ℕ → ℤ

@@ -1,9 +1,10 @@
 // All rows of one plate: the first k fields of encoded rows.
 ghost use mathlib.Core.Path.{_≡_};
+ghost use Prim.Native.Nat.{_≤_};
 ghost use lib.ListN.{length, take};
 ghost use Rattle.format.specs.Entries.{rowBytes, compareAnswer};
 ghost use Rattle.demands.specs.Order.{batch, Lies};
-ghost use Rattle.demands.specs.Prefix.{FieldsAgree, KeyOrdered};
+ghost use Rattle.demands.specs.Prefix.{FieldsAgree, frontEnd, KeyOrdered};
 use crate::order::Ordered;
 use format::Answer;
 use format::Check;
@@ -38,15 +39,19 @@ pub fn encode_agree(
     Check::Pass
 }
 
+// Where what stands from `from` up to `to` ends if it is cut to `size`.
+fn front_end(from: usize, to: usize, size: usize) -> usize
+    requires { ⌜ from ≤ to ⌝ }
+    ensures { λ x. ⌜ x ≡ frontEnd from to size ⌝ }
+{
+    if size < to - from {
+        return from + size;
+    }
+    to
+}
+
 // Compares row r of one batch, cut to the length of row q of another, with that row.
-fn compare_front(
-    rows: &[u8],
-    offsets: &[u64],
-    r: usize,
-    keys: &[u8],
-    ends: &[u64],
-    q: usize,
-) -> i32
+fn compare_front(rows: &[u8], offsets: &[u64], r: usize, keys: &[u8], ends: &[u64], q: usize) -> i32
     requires { ⌜ Lies (now rows) (now offsets) r ⌝ }
     requires { ⌜ Lies (now keys) (now ends) q ⌝ }
     ensures { λ x. ⌜ x ≡ compareAnswer
@@ -57,11 +62,8 @@ fn compare_front(
     let to = offsets[r + 1] as usize;
     let start = ends[q] as usize;
     let end = ends[q + 1] as usize;
-    let size = end - start;
-    if to - from <= size {
-        return compare(&rows[from..to], &keys[start..end]);
-    }
-    compare(&rows[from..from + size], &keys[start..end])
+    let cut = front_end(from, to, end - start);
+    compare(&rows[from..cut], &keys[start..end])
 }
 
 // Encodes a sheet under a list, and keys under another: where that has the list's first k columns, how the first k values of row r

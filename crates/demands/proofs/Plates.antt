@@ -115,6 +115,14 @@ accepted-together list n bytes offsets room h e s k = side-by-side (columns list
         subst (HasValues cols) (each-at n (rowBytes bytes offsets) [] r l) (record { values = rowSlots cols (getD rs r []); fit = v .0; spell = v .1 })
 
 -- ---- what the functions of this crate answer
+
+-- what one of two checks refuses
+pub first-refused : (x y : Check) {r : Refusal} → x ≡ Refuse r → both x y ≡ Refuse r
+first-refused x y e = rw e
+
+pub second-refused : (x y : Check) {r : Refusal} → x ≡ Pass → y ≡ Refuse r → both x y ≡ Refuse r
+second-refused x y p e = rw (p, e)
+
 module _ {list : List ℕ} {b d : Batch} where
   pub agree-refused : (x : Refusal) → both (batchFault list b) (batchFault list d) ≡ Refuse x → FieldsAgree list b d (Refuse x)
   agree-refused x e = record {
