@@ -62,8 +62,10 @@ pub written-agree : {list : List ℕ} {b d : Batch} → Written list b → Writt
     → firstValues list b k r ≡ firstValues list d k q ↔ fieldsIn list b k r ≡ fieldsIn list d k q
 written-agree {list} {b} {d} v w k r q lr lq =
     let p = fields-agree k (columns list) (valuesIn list b r) (valuesIn list d q) (values-fit v r lr) (values-fit w q lq) in
-    let first : fieldsIn list b k r ≡ firstFields k (columns list) (row (columns list) (valuesIn list b r)) = ap (firstFields k (columns list)) (row-is v r lr) in
-    let second : fieldsIn list d k q ≡ firstFields k (columns list) (row (columns list) (valuesIn list d q)) = ap (firstFields k (columns list)) (row-is w q lq) in
+    let first : fieldsIn list b k r ≡ firstFields k (columns list) (row (columns list) (valuesIn list b r))
+    = ap (firstFields k (columns list)) (row-is v r lr) in
+    let second : fieldsIn list d k q ≡ firstFields k (columns list) (row (columns list) (valuesIn list d q))
+    = ap (firstFields k (columns list)) (row-is w q lq) in
     (λ e. first ∙ p .0 e ∙ sym second, λ e. p .1 (sym first ∙ e ∙ second))
 
 -- ---- a batch, and one of keys under the first k columns
@@ -80,23 +82,24 @@ module _ {list short : List ℕ} {b d : Batch} (v : Written list b) (w : Written
   key-fits = subst (λ (c : List Column). RowFits c (valuesIn short d q)) first (values-fit w q lq)
 
   -- it stands to the row as to its first k values
-  pub written-key : keyOrder b d r q ≡ sign (rowOrder (take k cols) (firstValues list b k r) (valuesIn short d q))
+  pub written-key-order : keyOrder b d r q ≡ sign (rowOrder (take k cols) (firstValues list b k r) (valuesIn short d q))
   unfolding compareAnswer
-  written-key =
-      ap sign (ap₂ {C = Ordering} (λ (f s : List ℕ). cmp (take (length f) s) f) key-is (row-is v r lr ∙ row-parts k cols (valuesIn list b r) (values-fit v r lr))
+  written-key-order =
+      ap sign (ap₂ {C = Ordering} (λ (f s : List ℕ). cmp (take (length f) s) f) key-is
+      (row-is v r lr ∙ row-parts k cols (valuesIn list b r) (values-fit v r lr))
       ∙ row-front (take k cols) (firstValues list b k r) (valuesIn short d q) (row (drop k cols) (drop k (valuesIn list b r)))
       (fits-first k cols (valuesIn list b r) (values-fit v r lr)) key-fits)
 
   -- it is the first k fields exactly where it has the first k values
-  pub written-shares : firstValues list b k r ≡ valuesIn short d q ↔ fieldsIn list b k r ≡ rowIn d q
-  written-shares =
+  pub written-key-shares : firstValues list b k r ≡ valuesIn short d q ↔ fieldsIn list b k r ≡ rowIn d q
+  written-key-shares =
       let p = key-shared k cols (valuesIn list b r) (valuesIn short d q) (values-fit v r lr) key-fits in
       let e : fieldsIn list b k r ≡ firstFields k cols (row cols (valuesIn list b r)) = ap (firstFields k cols) (row-is v r lr) in
       (λ h. e ∙ p .0 h ∙ sym key-is, λ h. p .1 (sym e ∙ h ∙ key-is))
 
   -- and begins the row exactly there
-  pub written-begun : firstValues list b k r ≡ valuesIn short d q ↔ Begins (rowIn d q) (rowIn b r)
-  written-begun =
+  pub written-key-begins : firstValues list b k r ≡ valuesIn short d q ↔ Begins (rowIn d q) (rowIn b r)
+  written-key-begins =
       let p = key-begins k cols (valuesIn list b r) (valuesIn short d q) (values-fit v r lr) key-fits in
       (λ h. rw (key-is, row-is v r lr) (p .0 h), λ h. p .1 (rw (key-is, row-is v r lr) at h))
 
@@ -159,7 +162,7 @@ module _ {list short : List ℕ} {b d : Batch} (r q : ℕ) where
     pub key-ordered : r < b .n → q < d .n → (x y : ℤ) → x ≡ y → y ≡ keyOrder b d r q → KeyOrdered list short b d r q (Is x)
     key-ordered h l x y s e = record {
       answers = rw (v .passes, w .passes, lt-ltb r (b .n) h, lt-ltb q (d .n) l) (ap Is (s ∙ e));
-      order = λ k t. written-key v w k r q h l (t .first);
-      shares = λ k t. written-shares v w k r q h l (t .first);
-      begins = λ k t. written-begun v w k r q h l (t .first);
+      order = λ k t. written-key-order v w k r q h l (t .first);
+      shares = λ k t. written-key-shares v w k r q h l (t .first);
+      begins = λ k t. written-key-begins v w k r q h l (t .first);
     }

@@ -93,7 +93,8 @@ begun k cols s = take-append-drop (firstLength k cols s) s
 shares : (k : ℕ) (cols : List Column) (f g : List ℕ) → HasValues cols f → HasValues cols g → Begins (firstFields k cols f) g
     → firstFields k cols g ≡ firstFields k cols f
 shares k cols f g v w h =
-    let is : firstFields k cols f ≡ row (take k cols) (take k (v .values)) = ap (firstFields k cols) (sym (v .spell)) ∙ first-fields k cols (v .values) (v .fit) in
+    let is : firstFields k cols f ≡ row (take k cols) (take k (v .values))
+    = ap (firstFields k cols) (sym (v .spell)) ∙ first-fields k cols (v .values) (v .fit) in
     let bytes : Bytes (firstFields k cols f ++ h .0) = subst Bytes (w .spell ∙ sym (h .1)) (bytes-row cols (w .values) (w .fit)) in
     ap (firstFields k cols) (sym (h .1) ∙ ap (λ (z : List ℕ). z ++ h .0) is)
     ∙ first-row k cols (take k (v .values)) (h .0) (fits-first k cols (v .values) (v .fit)) (bytes-right (firstFields k cols f) (h .0) bytes)

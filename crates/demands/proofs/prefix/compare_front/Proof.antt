@@ -23,7 +23,8 @@ front-end-requires : tie.Need-front-end-requires
 front-end-requires c κs = rw (add-one (start c .args .r)) (start c .pre .0 .rises)
 
 -- the first row, cut
-front : (c : tie.After-front-end) → let a = start (c .before) .args in Front (a .rows .now) (a .offsets .now) (a .r) (a .keys .now) (a .ends .now) (a .q) (c .front-end .result)
+front : (c : tie.After-front-end)
+    → let a = start (c .before) .args in Front (a .rows .now) (a .offsets .now) (a .r) (a .keys .now) (a .ends .now) (a .q) (c .front-end .result)
 front c =
     let s = start (c .before) in
     front-is _ _ _ _ _ _ _ (s .pre .0) (s .pre .1) (rw (add-one (s .args .r), add-one (s .args .q)) at (c .front-end .ensures))
