@@ -6,3 +6,4 @@ pub mod Order
 pub mod Slices
 pub mod Place
 pub mod JoinOrder
+pub mod Prefix
