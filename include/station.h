@@ -18,7 +18,8 @@
  *
  * list     For each column a byte of kind and a byte of options, and for kind 15 also the width in two
  *          bytes, low byte first (0 to 1,024). Options: bit 0 descending, bit 1 nulls first, bit 2 required
- *          (no slot is null), the others zero. 1 to 16 columns.
+ *          (no slot is null), and for kinds 10 to 12 bit 3 fold (every NaN is 7E00, 7FC00000 or
+ *          7FF8000000000000, and -0 is +0); the others zero. 1 to 16 columns.
  *
  *            kind                  values                                         value bytes
  *            1                     bool                                           1
@@ -40,7 +41,7 @@
  *                       bytes as the last end says, value i between ends i and i+1; bytes before the first
  *                       end mean nothing
  *          Spare bits are zero. A null slot may hold anything. Decode writes the cleared sheet: zeros, and
- *          length 0, in null slots, and first ends of 0.
+ *          length 0, in null slots, first ends of 0, and folded floats where the column folds.
  *
  * rows     The rows, joined. Together at most 16,777,216 bytes.
  *
@@ -56,7 +57,7 @@
  *            0   done                                       total, null slots
  *            1   list empty, or a body cut                  place of the kind byte, 0
  *            2   unknown kind                               the same
- *            3   other option bits set                      the same
+ *            3   other option bits set, or fold elsewhere   the same
  *            4   width over 1,024                           the same
  *            5   a 17th column begins                       the same
  *            6   over 4,096 rows                            n, 0
@@ -82,11 +83,12 @@
  *            24  sheet buffer too small                     bytes needed, 0
  *            26  pass out of order                          pass, first row below the one before it
  *            27  null in a required column                  column, first null row
+ *            28  float not folded where the column folds    row, column
  *
- *          The fourth number is the place of a byte in the row, counted from the row's start, for 16 to 23:
- *          of 16 the first byte missing, so the row's length; of 17 the lead byte; of 18 and 21 the
+ *          The fourth number is the place of a byte in the row, counted from the row's start, for 16 to 23
+ *          and 28: of 16 the first byte missing, so the row's length; of 17 the lead byte; of 18 and 21 the
  *          first byte that is not zero; of 19 the bool; of 20 and 23 the end byte of the block; of 22 the
- *          first byte after the last field; It is 0 for all other answers.
+ *          first byte after the last field; of 28 the first value byte. It is 0 for all other answers.
  *
  *          On a refusal only these 32 bytes change. On success the bytes past the written part stay.
  */

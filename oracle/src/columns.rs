@@ -8,6 +8,8 @@ pub const VARIABLE: u8 = 16;
 pub const I128: u8 = 17;
 pub const I256: u8 = 18;
 
+pub const FLOATS: std::ops::RangeInclusive<u8> = 10..=12;
+
 /// The kinds, 1 to 18.
 pub const KINDS: std::ops::RangeInclusive<u8> = BOOL..=I256;
 
@@ -20,6 +22,8 @@ pub struct Column {
     pub nulls_first: bool,
     /// No slot may be null.
     pub required: bool,
+    /// Floats are folded.
+    pub fold: bool,
 }
 
 impl Column {
@@ -39,12 +43,16 @@ impl Column {
             descending: options & 1 != 0,
             nulls_first: options & 2 != 0,
             required: options & 4 != 0,
+            fold: options & 8 != 0,
         }
     }
 
-    /// The options byte: bit 0 descending, bit 1 nulls first, bit 2 required.
+    /// The options byte: bit 0 descending, bit 1 nulls first, bit 2 required, bit 3 fold.
     pub fn options(&self) -> u8 {
-        self.descending as u8 | (self.nulls_first as u8) << 1 | (self.required as u8) << 2
+        let bits = [self.descending, self.nulls_first, self.required, self.fold];
+        bits.iter()
+            .rev()
+            .fold(0, |byte, bit| byte << 1 | *bit as u8)
     }
 
     /// The column's bytes in a list: kind, options, and for fixed binary the width.
@@ -54,6 +62,14 @@ impl Column {
             bytes.extend((self.width as u16).to_le_bytes());
         }
         bytes
+    }
+}
+
+/// The option bits that a kind knows: only floats fold.
+pub fn known_options(kind: u8) -> u8 {
+    match FLOATS.contains(&kind) {
+        true => 0b1111,
+        false => 0b0111,
     }
 }
 

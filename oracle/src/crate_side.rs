@@ -36,8 +36,9 @@ fn kind(column: Column) -> Kind {
     }
 }
 
-/// The columns as the crate takes them.
+/// The columns as the crate takes them: it does not fold, so it is given folded values.
 pub fn columns(table: &Table) -> Vec<driver::Column> {
+    let table = table.folded();
     let columns = table.columns.iter().zip(&table.slots).zip(&table.before);
     columns
         .map(|((column, slots), before)| {

@@ -12,8 +12,8 @@ use crate::table::{Slot, Table};
 /// A kind with its options, a value's bytes in the sheet (none: null), and the field.
 type Written = (u8, u8, Option<&'static [u8]>, &'static [u8]);
 
-/// Lines 1 to 9 of the table; and -1 in the kinds of document 02.
-const FIELDS: [Written; 19] = [
+/// Lines 1 to 9 of the table; -1 in the kinds of document 02, and its folded floats.
+const FIELDS: [Written; 24] = [
     (4, 2, Some(&[0xFF; 4]), &[0x01, 0x7F, 0xFF, 0xFF, 0xFF]),
     (4, 3, Some(&[0xFF; 4]), &[0x01, 0x80, 0x00, 0x00, 0x00]),
     (3, 1, None, &[0xFF, 0x00, 0x00]),
@@ -58,6 +58,26 @@ const FIELDS: [Written; 19] = [
     (I128, 3, Some(&[0xFF; 16]), &minus_one::<17>(0x00)),
     (I256, 2, Some(&[0xFF; 32]), &minus_one::<33>(0xFF)),
     (I256, 1, None, &null_last::<33>()),
+    (10, 10, Some(&[0x01, 0xFC]), &[0x01, 0xFE, 0x00]),
+    (10, 10, Some(&[0x00, 0xFC]), &[0x01, 0x03, 0xFF]),
+    (
+        11,
+        10,
+        Some(&[0, 0, 0, 0x80]),
+        &[0x01, 0x80, 0x00, 0x00, 0x00],
+    ),
+    (
+        11,
+        11,
+        Some(&[0, 0, 0xC0, 0xFF]),
+        &[0x01, 0x00, 0x3F, 0xFF, 0xFF],
+    ),
+    (
+        12,
+        14,
+        Some(&[1, 0, 0, 0, 0, 0, 0xF0, 0x7F]),
+        &[0x01, 0xFF, 0xF8, 0, 0, 0, 0, 0, 0],
+    ),
 ];
 
 /// 01, then bytes that are all this one but for the top bit.
@@ -166,6 +186,11 @@ fn hold_refusals(judge: &mut Judge) {
     for (list, row) in MISSING {
         let call = Call::decode(&list, 1, row, &eights(&[0, row.len() as u64]), 64);
         hold_numbers(judge, call, [17, 0, 0, 0]);
+    }
+    // -0 and a NaN of sign 1, under a column that folds.
+    for row in [&[1, 0x7F, 0xFF, 0xFF, 0xFF], &[1, 0x00, 0x3F, 0xFF, 0xFF]] {
+        let call = Call::decode(&[11, 10], 1, row, &eights(&[0, 5]), 64);
+        hold_numbers(judge, call, [28, 0, 0, 1]);
     }
     // Null in row 1 of column 1; the values may be cut, and a spare bit comes first.
     for (bits, number) in [(0b101, 27), (0b1101, 8)] {

@@ -12,8 +12,8 @@ use crate::yard::Yard;
 use std::process::ExitCode;
 use std::time::{Duration, Instant};
 
-/// The numbers that an entry may answer with: 0, and refusals 1 to 24 and 27.
-const ANSWERS: usize = 28;
+/// The numbers that an entry may answer with: 0, and refusals 1 to 24, 27 and 28.
+const ANSWERS: usize = 29;
 /// Pairs of rows that are compared in each table.
 const PAIRS: usize = 64;
 
@@ -151,8 +151,9 @@ impl Judge {
         hold_model(table, &rows, &offsets)?;
         self.hold_entries(table, &rows, &offsets)?;
         hold_bindings(table, &rows, &offsets)?;
-        hold_crate_decoders(table, &rows, &offsets)?;
-        self.hold_order(table, &rows, &offsets)
+        let folded = table.folded();
+        hold_crate_decoders(&folded, &rows, &offsets)?;
+        self.hold_order(&folded, &rows, &offsets)
     }
 
     /// The C entries, each slice fenced, with exact room and with a little more; row bytes past the

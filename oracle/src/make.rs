@@ -1,7 +1,8 @@
 //! Tables to try: every kind, lengths and row counts around each boundary, values around each edge.
 
 use crate::columns::{
-    Column, BOOL, DAY_TIME, FIXED_BINARY, I128, I256, KINDS, MONTH_DAY_NANO, VARIABLE,
+    known_options, Column, BOOL, DAY_TIME, FIXED_BINARY, I128, I256, KINDS, MONTH_DAY_NANO,
+    VARIABLE,
 };
 use crate::rng::Rng;
 use crate::table::{Slot, Table};
@@ -22,11 +23,12 @@ pub const LONG_LENGTHS: [usize; 15] = [
 pub const WIDTHS: [usize; 6] = [0, 1, 2, 16, 1023, 1024];
 /// Bytes before the first end of a sliced column; what a slot may hold is no limit to them.
 pub const FIRST_ENDS: [usize; 7] = [1, 7, 8, 33, 255, 256, 65_537];
-/// Descending, nulls first and required, in all eight ways.
-pub const OPTIONS: std::ops::Range<u8> = 0..8;
+/// Descending, nulls first, required and fold, in all ways.
+pub const OPTIONS: std::ops::Range<u8> = 0..16;
 /// Descending and nulls first, in all four ways.
 pub const ORDERS: std::ops::Range<u8> = 0..4;
 pub const REQUIRED: u8 = 4;
+pub const FOLD: u8 = 8;
 
 /// Which slots of a column are null.
 #[derive(Clone, Copy, Debug)]
@@ -58,19 +60,24 @@ impl Nulls {
     }
 }
 
-/// Every kind, with each width of fixed binary, under the given options.
+/// Every kind that knows the given options, with each width of fixed binary.
 pub fn every_column(options: u8) -> Vec<Column> {
-    let kinds = KINDS.filter(|kind| *kind != FIXED_BINARY);
-    let columns = kinds.map(|kind| Column::new(kind, options));
-    let binary = WIDTHS.map(|width| Column::fixed_binary(width, options));
-    columns.chain(binary).collect()
+    let kinds = KINDS.filter(|kind| options & !known_options(*kind) == 0);
+    let columns = kinds.flat_map(|kind| match kind {
+        FIXED_BINARY => WIDTHS
+            .map(|width| Column::fixed_binary(width, options))
+            .to_vec(),
+        _ => vec![Column::new(kind, options)],
+    });
+    columns.collect()
 }
 
-/// So many kinds side by side, from `first` on; the first kind comes after the last.
+/// So many kinds side by side, from `first` on, each with those of the options that it knows; the
+/// first kind comes after the last.
 pub fn columns_from(first: u8, count: usize, options: u8) -> Vec<Column> {
     let column = |kind| match kind {
-        FIXED_BINARY => Column::fixed_binary(3, options),
-        _ => Column::new(kind, options),
+        FIXED_BINARY => Column::fixed_binary(3, options & known_options(kind)),
+        _ => Column::new(kind, options & known_options(kind)),
     };
     let kinds = KINDS.cycle().skip(first as usize - 1);
     kinds.take(count).map(column).collect()
@@ -235,7 +242,10 @@ fn any_column(rng: &mut Rng, tall: bool) -> Column {
         FIXED_BINARY if tall => Column::fixed_binary(rng.pick(&WIDTHS[..4]), options),
         FIXED_BINARY if rng.once_in(8) => Column::fixed_binary(rng.below(1025), options),
         FIXED_BINARY => Column::fixed_binary(rng.pick(&WIDTHS), options),
-        kind => Column::new(kind, options),
+        kind => {
+            let fold = rng.pick(&[0, FOLD]) & known_options(kind);
+            Column::new(kind, options | fold)
+        }
     }
 }
 

@@ -1,7 +1,8 @@
 //! Document 01 as a plain program, written from the document: slow, and easy to hold against it.
 
 use crate::columns::{
-    value_bytes, Column, BOOL, DAY_TIME, FIXED_BINARY, I128, I256, KINDS, MONTH_DAY_NANO, VARIABLE,
+    value_bytes, Column, BOOL, DAY_TIME, FIXED_BINARY, FLOATS, I128, I256, KINDS, MONTH_DAY_NANO,
+    VARIABLE,
 };
 use crate::table::{Slot, Table};
 
@@ -52,7 +53,7 @@ fn read_column(list: &[u8]) -> Result<Column, u64> {
         return Err(1);
     }
     let options = list[1];
-    if options > 7 {
+    if options > if FLOATS.contains(&kind) { 15 } else { 7 } {
         return Err(3);
     }
     let width = match kind {
@@ -68,6 +69,7 @@ fn read_column(list: &[u8]) -> Result<Column, u64> {
         descending: options & 1 == 1,
         nulls_first: options & 2 == 2,
         required: options & 4 == 4,
+        fold: options & 8 == 8,
     })
 }
 
@@ -196,6 +198,27 @@ fn float_key(value: &[u8]) -> Vec<u8> {
     let mut bits = value.to_vec();
     invert_below_sign(&mut bits);
     signed_key(&bits)
+}
+
+/// A value as it is encoded: in a column that folds every NaN is 7E00, 7FC00000 or 7FF8000000000000,
+/// and -0 is +0.
+fn folded(column: Column, value: &[u8]) -> Vec<u8> {
+    let number = |bytes: &[u8]| bytes.iter().rev().fold(0u64, |x, b| x << 8 | *b as u64);
+    let (infinity, nan) = match column.width {
+        2 => (0x7C00, 0x7E00),
+        4 => (0x7F80_0000, 0x7FC0_0000),
+        _ => (0x7FF0_0000_0000_0000, 0x7FF8_0000_0000_0000u64),
+    };
+    if !column.fold {
+        return value.to_vec();
+    }
+    let sign = 1 << (8 * column.width - 1);
+    let bits = match number(value) {
+        bits if bits & !sign > infinity => nan,
+        bits if bits == sign => 0,
+        bits => bits,
+    };
+    bits.to_le_bytes()[..column.width].to_vec()
 }
 
 /// A value of a fixed kind to its value bytes, or back, given how a signed number and a float go:
@@ -347,7 +370,8 @@ pub fn encode(
     let (mut rows, mut offsets) = (Vec::new(), vec![0]);
     for r in 0..n as usize {
         for (column, slots) in measured.columns.iter().zip(&measured.slots) {
-            rows.extend(field(*column, slots[r]));
+            let value = slots[r].map(|value| folded(*column, value));
+            rows.extend(field(*column, value.as_deref()));
         }
         offsets.push(rows.len() as u64);
     }
@@ -395,7 +419,7 @@ fn inverted_back(column: Column, bytes: &[u8]) -> Vec<u8> {
     bytes
 }
 
-/// After a lead byte that is allowed: fixed rest 16, 18, 19.
+/// After a lead byte that is allowed: fixed rest 16, 18, 19, 28.
 fn read_fixed(column: Column, reader: &mut Reader) -> Result<Option<Vec<u8>>, Fault> {
     let start = reader.at;
     let lead = reader.take(1)?[0];
@@ -413,7 +437,11 @@ fn read_fixed(column: Column, reader: &mut Reader) -> Result<Option<Vec<u8>>, Fa
     if column.kind == BOOL && key[0] > 1 {
         return Err((19, start + 1));
     }
-    Ok(Some(turned(column, &key, signed_unkey, float_unkey)))
+    let value = turned(column, &key, signed_unkey, float_unkey);
+    match folded(column, &value) == value {
+        true => Ok(Some(value)),
+        false => Err((28, start + 1)),
+    }
 }
 
 /// The number whose signed key this is.
@@ -560,6 +588,8 @@ mod tests {
         assert_eq!(refused(read_list(&[4, 0, 16])), [1, 2, 0]);
         assert_eq!(refused(read_list(&[19])), [2, 0, 0]);
         assert_eq!(refused(read_list(&[1, 7, 15, 8, 1, 4])), [3, 2, 0]);
+        assert_eq!(refused(read_list(&[12, 15, 9, 8])), [3, 2, 0]);
+        assert_eq!(refused(read_list(&[10, 8, 11, 16])), [3, 2, 0]);
         assert_eq!(refused(read_list(&[15, 0, 1, 4])), [4, 0, 0]);
         assert_eq!(
             refused(read_list(&[&[1, 0].repeat(16)[..], &[99]].concat())),
@@ -612,6 +642,23 @@ mod tests {
             assert_eq!(read(&[6, options], &[null]), [17, 0, 0]);
             assert_eq!(read(&[16, options], &[null]), [17, 0, 0]);
         }
+    }
+
+    #[test]
+    fn floats_are_folded() {
+        let rows = |list: &[u8], sheet: &[u8]| match encode(list, 1, sheet, 99, 2) {
+            Ok(encoded) => encoded.rows,
+            Err(numbers) => panic!("{numbers:?}"),
+        };
+        assert_eq!(rows(&[10, 10], &[1, 1, 0xFC]), [1, 0xFE, 0]);
+        assert_eq!(rows(&[10, 10], &[1, 0, 0xFC]), [1, 3, 0xFF]);
+        assert_eq!(rows(&[10, 11], &[1, 0, 0x80]), [1, 0x7F, 0xFF]);
+        assert_eq!(rows(&[10, 2], &[1, 0, 0x80]), [1, 0x7F, 0xFF]);
+        let read = |row: &[u8]| refused_row(decode(&[10, 10], 1, row, &[0, row.len() as u64], 99));
+        assert_eq!(read(&[1, 0x7F, 0xFF]), [28, 0, 0, 1]);
+        assert_eq!(read(&[1, 0xFE, 1, 7]), [28, 0, 0, 1]);
+        assert_eq!(read(&[1, 0x7F]), [16, 0, 0, 2]);
+        assert_eq!(read(&[2, 0x7F, 0xFF]), [17, 0, 0, 0]);
     }
 
     #[test]

@@ -2,7 +2,7 @@
 //! model's four numbers and leave every other byte as it was.
 
 use crate::call::Call;
-use crate::columns::{Column, BOOL, FIXED_BINARY, VARIABLE};
+use crate::columns::{Column, BOOL, FIXED_BINARY, FLOATS, VARIABLE};
 use crate::damage::{self, Good};
 use crate::document::one_slot_each;
 use crate::judge::Judge;
@@ -18,10 +18,12 @@ pub fn lists(judge: &mut Judge) {
             judge.call(Call::check_list(&[a, b]));
         }
     }
-    let faults: [&[u8]; 10] = [
+    let faults: [&[u8]; 12] = [
         &[0, 0],
         &[19, 0],
         &[1, 8],
+        &[9, 8],
+        &[12, 16],
         &[1],
         &[FIXED_BINARY, 0, 0],
         &[FIXED_BINARY, 8, 1, 4],
@@ -48,7 +50,7 @@ pub fn lists(judge: &mut Judge) {
 pub fn rows(judge: &mut Judge, rng: &mut Rng) {
     for options in make::OPTIONS {
         for column in make::every_column(options) {
-            judge.progress("damaged rows", options as usize, 8);
+            judge.progress("damaged rows", options as usize, 16);
             let lengths = match column.kind {
                 VARIABLE if column.required => &[1, 9][..],
                 VARIABLE => &[1, 8, 9, 32, 33, 65][..],
@@ -154,6 +156,27 @@ pub fn required(judge: &mut Judge, rng: &mut Rng) {
                 let (list, n, sheet) = (table.list(), n as u64, table.sheet());
                 judge.call(Call::measure(&list, n, &sheet));
                 judge.call(Call::measure(&list, n, &sheet[..n.div_ceil(8) as usize]));
+            }
+        }
+    }
+}
+
+/// Rows of floats that are not folded, or only happen to be, under a list that folds; whole, cut, and
+/// with a byte after them.
+pub fn unfolded(judge: &mut Judge, rng: &mut Rng) {
+    for kind in FLOATS {
+        for options in make::ORDERS {
+            for _ in 0..200 {
+                let column = Column::new(kind, options);
+                let good = Good::of(&make::one_column(rng, column, 3, Nulls::Random, &[]));
+                let list = [kind, options | make::FOLD];
+                let (whole, row) = (good.decode(), good.row(2));
+                let cut = good.decode_with_row(2, &row[..row.len() - 1]);
+                let long = good.decode_with_row(2, &[row, &[0]].concat());
+                for mut call in [whole, cut, long] {
+                    call.given[0] = list.to_vec();
+                    judge.call(call);
+                }
             }
         }
     }

@@ -81,7 +81,7 @@ fn tables(rng: &mut Rng) -> Vec<Table> {
         tables.push(make::one_column(rng, column, 1, nulls, &[]));
     }
     for count in 1..=16 {
-        let columns = make::columns_from(count, count as usize, count % 4);
+        let columns = make::columns_from(count, count as usize, count % 16);
         tables.push(make::table_with(rng, 2, columns, Nulls::Random, &[0, 1, 9]));
     }
     tables
@@ -89,12 +89,14 @@ fn tables(rng: &mut Rng) -> Vec<Table> {
 
 /// Every fault of a list at the first, the second, the sixteenth and the seventeenth column.
 fn lists() -> Vec<Call> {
-    let faults: [&[u8]; 7] = [
+    let faults: [&[u8]; 9] = [
         &[0, 0],
         &[19, 0],
         &[1],
         &[FIXED_BINARY, 0, 0],
         &[1, 8],
+        &[9, 8],
+        &[12, 16],
         &[FIXED_BINARY, 0, 1, 4],
         &[FIXED_BINARY, 3, 0xFF, 0xFF],
     ];
@@ -155,7 +157,7 @@ fn sort(call: &Call) -> Option<Sort> {
     };
     let column = match number {
         7..=10 | 27 => b,
-        16..=21 => c,
+        16..=21 | 28 => c,
         _ => u64::MAX,
     };
     let columns = model::read_list(&call.given[0]).unwrap_or_default();

@@ -14,7 +14,7 @@ use crate::table::Table;
 pub fn kinds(judge: &mut Judge, rng: &mut Rng, tall: bool) {
     for options in make::OPTIONS {
         for column in make::every_column(options) {
-            judge.progress("kinds", options as usize, 8);
+            judge.progress("kinds", options as usize, 16);
             for nulls in make::nulls_of(options) {
                 let mut row_counts = make::ROW_COUNTS.to_vec();
                 if tall || column.width <= 2 {
@@ -60,10 +60,22 @@ pub fn slices(judge: &mut Judge, rng: &mut Rng) {
     }
 }
 
+/// Every f16 there is, folded.
+pub fn halves(judge: &mut Judge) {
+    for options in [make::FOLD, make::FOLD | 3] {
+        for start in (0..=u16::MAX).step_by(MAX_ROWS as usize) {
+            judge.progress("halves", start as usize, u16::MAX as usize);
+            let values: Vec<[u8; 2]> = (start..=start + 4095).map(u16::to_le_bytes).collect();
+            let values: Vec<Option<&[u8]>> = values.iter().map(|value| Some(&value[..])).collect();
+            judge.table(&one_slot_each(Column::new(10, options), &values));
+        }
+    }
+}
+
 /// Tables of one to sixteen kinds together, then random ones.
 pub fn tables(judge: &mut Judge, rng: &mut Rng, count: usize) {
     for count in 1..=16 {
-        let columns = make::columns_from(count, count as usize, count % 4);
+        let columns = make::columns_from(count, count as usize, count % 16);
         judge.table(&make::table_of(rng, 17, columns));
     }
     for i in 0..count {
@@ -75,8 +87,8 @@ pub fn tables(judge: &mut Judge, rng: &mut Rng, count: usize) {
 /// As many rows as there may be, of sixteen kinds together, and of all in two tables: what every entry takes of its stack then is
 /// seen in the end ([`crate::stack`]).
 pub fn full(judge: &mut Judge, rng: &mut Rng) {
-    for options in make::OPTIONS {
-        judge.progress("4,096 rows", options as usize, 8);
+    for options in [0, 7, 9, 14] {
+        judge.progress("4,096 rows", options as usize, 16);
         for first in [1, 3] {
             let columns = make::columns_from(first, 16, options);
             judge.table(&make::table_of(rng, MAX_ROWS as usize, columns));

@@ -60,9 +60,21 @@ impl Table {
         sheet
     }
 
-    /// The same table with zeros, and length 0, in its null slots, and nothing before a first end.
-    pub fn cleared(&self) -> Table {
+    /// The same table with the values of columns that fold folded. Null slots stay.
+    pub fn folded(&self) -> Table {
         let mut table = self.clone();
+        for (column, slots) in table.columns.iter().zip(&mut table.slots) {
+            for slot in slots.iter_mut().filter(|slot| column.fold && slot.valid) {
+                slot.bytes = one_float(&slot.bytes);
+            }
+        }
+        table
+    }
+
+    /// What decode gives: the same table folded, with zeros, and length 0, in its null slots, and
+    /// nothing before a first end.
+    pub fn cleared(&self) -> Table {
+        let mut table = self.folded();
         table.before.iter_mut().for_each(Vec::clear);
         for (column, slots) in table.columns.iter().zip(&mut table.slots) {
             for slot in slots.iter_mut().filter(|slot| !slot.valid) {
@@ -76,6 +88,34 @@ impl Table {
     pub fn row(&self, r: usize) -> impl Iterator<Item = (Column, Option<&[u8]>)> {
         let columns = self.columns.iter().copied();
         columns.zip(self.slots.iter().map(move |slots| slots[r].value()))
+    }
+}
+
+/// A float's bits, or those that stand for it: one NaN for all, and +0 for -0.
+fn one_float(bytes: &[u8]) -> Vec<u8> {
+    if let Ok(bytes) = bytes.try_into() {
+        let x = f64::from_le_bytes(bytes);
+        // To add +0 changes -0 alone.
+        return match x.is_nan() {
+            true => f64::from_bits(0x7FF8 << 48),
+            false => x + 0.0,
+        }
+        .to_le_bytes()
+        .to_vec();
+    }
+    if let Ok(bytes) = bytes.try_into() {
+        let x = f32::from_le_bytes(bytes);
+        return match x.is_nan() {
+            true => f32::from_bits(0x7FC0 << 16),
+            false => x + 0.0,
+        }
+        .to_le_bytes()
+        .to_vec();
+    }
+    match bytes {
+        [0, 0x80] => vec![0, 0],
+        [low, high] if high & 0x7C == 0x7C && (high & 3 != 0 || *low != 0) => vec![0, 0x7E],
+        _ => bytes.to_vec(),
     }
 }
 

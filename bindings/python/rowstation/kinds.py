@@ -82,17 +82,19 @@ OPTIONS = {
     "nulls_last": Option(1, False, "nulls after all values"),
     "nullable": Option(2, False, "nulls may stand in the column (this is so unless said)"),
     "required": Option(2, True, "no value may be null"),
+    "unfolded": Option(3, False, "floats as they are (this is so unless said)"),
+    "fold": Option(3, True, "floats only: every NaN becomes one, and -0 becomes 0"),
 }
 
-#: The options byte of a column that names no option: ascending, nulls first, nullable.
+#: The options byte of a column that names no option: ascending, nulls first, nullable, unfolded.
 NO_OPTION = 0b10
 
 
 def option_names(options: int) -> Tuple[str, ...]:
     """The names to write for an options byte: those that are not so unless said.
 
-    >>> option_names(0b101)
-    ('descending', 'nulls_last', 'required')
+    >>> option_names(0b1101)
+    ('descending', 'nulls_last', 'required', 'fold')
     >>> option_names(NO_OPTION)
     ()
     """

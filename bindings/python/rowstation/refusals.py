@@ -21,7 +21,7 @@ class Reason(NamedTuple):
 REASONS = {
     1: Reason("the list is empty or cut in the column at byte {second}", "place"),
     2: Reason("unknown kind at byte {second} of the list", "place"),
-    3: Reason("unknown option bits in the column at byte {second} of the list", "place"),
+    3: Reason("option bits unknown, or not for this kind, in the column at byte {second} of the list", "place"),
     4: Reason("a width over 1,024 in the column at byte {second} of the list", "place"),
     5: Reason("a 17th column begins at byte {second} of the list", "place"),
     6: Reason("{second} rows, over 4,096", "rows"),
@@ -44,6 +44,7 @@ REASONS = {
     23: Reason("row {second}, column {third}, byte {fourth}: the value is over 65,535 bytes", "row", "column", "byte"),
     24: Reason("the sheet buffer is too small for {second} bytes", "bytes"),
     27: Reason("column {second} is required, and null in row {third}", "column", "row"),
+    28: Reason("row {second}, column {third}, byte {fourth}: the float is not folded", "row", "column", "byte"),
 }
 
 #: Answers that this package acts on itself.

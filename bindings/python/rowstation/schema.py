@@ -71,6 +71,11 @@ class Column:
         return bool(self.options & 4)
 
     @property
+    def fold(self) -> bool:
+        """Whether floats are folded."""
+        return bool(self.options & 8)
+
+    @property
     def null_byte(self) -> int:
         """The lead byte of a null in a row."""
         return 0x00 if self.options & 2 else 0xFF

@@ -33,6 +33,9 @@ class _Bad(Exception):
 
 MAX_VALUE = 65_535
 
+#: The bits of infinity, of a float of so many bytes.
+INFINITIES = {2: 0x7C00, 4: 0x7F80_0000, 8: 0x7FF0_0000_0000_0000}
+
 
 def _blocks(row: bytes, at: int, column: Column) -> Iterator[Part]:
     """The blocks of a value that is not empty: four of 8, then of 32, each with an end byte."""
@@ -114,6 +117,16 @@ def _sized(row: bytes, at: int, column: Column) -> Iterator[Part]:
         raise _Bad(18, at + 1 + next(i for i, byte in enumerate(rest) if byte))
     if not null and column.kind.layout == "bits" and rest[0] ^ (0xFF if column.descending else 0) > 1:
         raise _Bad(19, at + 1)
+    if not null and column.fold and not _is_folded(column, rest):
+        raise _Bad(28, at + 1)
+
+
+def _is_folded(column: Column, key: bytes) -> bool:
+    """Whether the value bytes of a float are of a number, but -0, or of the one NaN."""
+    sign, infinity = 1 << 8 * len(key) - 1, INFINITIES[len(key)]
+    bits = int.from_bytes(key, "big") ^ (2 * sign - 1 if column.descending else 0)
+    bits ^= sign if bits & sign else 2 * sign - 1
+    return bits != sign and (bits & ~sign <= infinity or bits == infinity | infinity >> 1)
 
 
 def explain(schema: Schema, row: bytes) -> Tuple[List[Part], Optional[Fault]]:

@@ -23,7 +23,7 @@ def value_bytes(column: Column, value) -> bytes:
     if name == "fixed":
         return value
     if name[0] == "f":
-        data = struct.pack(">" + STRUCTS[name], value)
+        data = struct.pack(">" + STRUCTS[name], folded(column, value))
         return bytes(b ^ 0xFF for b in data) if data[0] & 0x80 else bytes([data[0] ^ 0x80]) + data[1:]
     if name[0] == "u":
         return struct.pack(">" + STRUCTS[name], value)
@@ -36,6 +36,13 @@ def value_bytes(column: Column, value) -> bytes:
         data = struct.pack(">" + code, part)
         out += bytes([data[0] ^ 0x80]) + data[1:]
     return out
+
+
+def folded(column: Column, value):
+    """The value that stands for this one: itself, unless the column folds."""
+    if not column.fold or value is None:
+        return value
+    return float("nan") if value != value else value + 0.0
 
 
 def field(column: Column, value) -> bytes:
@@ -74,6 +81,8 @@ def some_value(rnd: random.Random, column: Column):
             return "".join(rnd.choice("abß\0") for _ in range(length))
         return bytes(rnd.choice([0, 1, 97, 255]) for _ in range(length))
     if name[0] == "f":
+        if column.fold and rnd.random() < 0.2:
+            return float("nan")
         return rnd.choice([0.0, -0.0, 1.5, -1.5, 2.0**-14, 1024.0, -65504.0, float("inf"), float("-inf")])
     if name in LONG:
         top = 1 << 8 * LONG[name] - 1
@@ -93,6 +102,7 @@ def some_schema(rnd: random.Random, kinds) -> Schema:
     for index in range(rnd.choice([1, 2, 3, 5])):
         kind = rnd.choice(list(kinds))
         width = [rnd.choice([0, 1, 3, 16])] if kind == "fixed" else []
-        options = [rnd.choice(pair) for pair in (("ascending", "descending"), ("nulls_first", "nulls_last"), ("nullable", "required"))]
+        folds = ("fold", "unfolded") if kind in ("f16", "f32", "f64") else ("unfolded",)
+        options = [rnd.choice(pair) for pair in (("ascending", "descending"), ("nulls_first", "nulls_last"), ("nullable", "required"), folds)]
         columns.append((f"c{index}", kind, *width, *options))
     return Schema(columns)

@@ -38,7 +38,8 @@ class Model(unittest.TestCase):
             with self.subTest(schema=str(schema), trial=trial):
                 rows = station.encode(schema, columns_of(schema, values))
                 self.assertEqual(list(rows), [model.row(schema, row) for row in values])
-                self.assertEqual(repr(back(schema, station.decode(schema, rows))), repr(values))
+                folded = [tuple(map(model.folded, schema, row)) for row in values]
+                self.assertEqual(repr(back(schema, station.decode(schema, rows))), repr(folded))
                 self.assertEqual(station.encode(schema, station.decode(schema, rows)), rows)
                 self.assertEqual(list(rows.sort()), sorted(rows))
 
@@ -58,6 +59,24 @@ class Model(unittest.TestCase):
             patterns[:4] = [0, 1 << (8 * dtype.itemsize - 1), 2 ** (8 * dtype.itemsize) - 1, 2 ** (8 * dtype.itemsize - 1) - 1]
             rows = station.encode(station.Schema([("x", kind)]), {"x": patterns.view(dtype)})
             self.assertTrue((station.decode(rows.schema, rows)["x"].data.view(bits) == patterns).all())
+
+
+    def test_floats_fold(self):
+        for kind, bits, one in (("f16", "<u2", 0x7E00), ("f32", "<u4", 0x7FC00000), ("f64", "<u8", 0x7FF8000000000000)):
+            dtype = KINDS[kind].dtype
+            patterns = np.random.default_rng(4).integers(0, 2 ** (8 * dtype.itemsize), 5000, np.uint64).astype(bits)
+            patterns[:3] = [0, 1 << (8 * dtype.itemsize - 1), 2 ** (8 * dtype.itemsize) - 1]
+            patterns[3:2000] |= one
+            wanted = np.where(np.isnan(patterns.view(dtype)), one, np.where(patterns == patterns[1], 0, patterns)).astype(bits)
+            rows = station.encode(station.Schema([("x", kind, "fold")]), {"x": patterns.view(dtype)})
+            self.assertTrue((rows.decode()["x"].data.view(bits) == wanted).all())
+            plain = station.encode(station.Schema([("x", kind)]), {"x": patterns.view(dtype)})
+            with self.assertRaises(station.Refused) as caught:
+                station.decode(rows.schema, list(plain))
+            self.assertEqual(caught.exception.numbers, (28, 1, 0, 1))
+        with self.assertRaises(station.Refused) as caught:
+            station.Schema("x:u32:fold")
+        self.assertEqual(caught.exception.numbers, (3, 0, 0, 0))
 
 
 class Batches(unittest.TestCase):

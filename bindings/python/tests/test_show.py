@@ -56,7 +56,19 @@ class Explained(unittest.TestCase):
             lines, refusal = told(schema, row, 3)
             self.assertEqual(fault is None, refusal is None)
             self.assertTrue(lines[-1].startswith("accepted" if fault is None else "refused"))
-        self.assertEqual(seen, {0, 16, 17, 18, 19, 20, 21, 22})
+        self.assertEqual(seen, {0, 16, 17, 18, 19, 20, 21, 22, 28})
+
+    def test_every_half(self):
+        for options, flip in (("ascending", 0), ("descending", 0xFFFF)):
+            schema = station.Schema([("x", "f16", "fold", options)])
+            for bits in range(1 << 16):
+                row = b"\1" + bits.to_bytes(2, "big")
+                top = bits ^ flip
+                value = top ^ (0x8000 if top & 0x8000 else 0xFFFF)
+                folded = value != 0x8000 and (value & 0x7FFF <= 0x7C00 or value == 0x7E00)
+                self.assertEqual(explain(schema, row)[1], None if folded else (28, 0, 1))
+                if bits % 257 == 0 or not folded and bits % 17 == 0:
+                    self.agree(schema, row)
 
     def test_too_long_a_value(self):
         schema = station.Schema("a:bytes")

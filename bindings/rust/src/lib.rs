@@ -160,6 +160,8 @@ pub mod option {
     pub const NULLS_FIRST: u8 = 2;
     /// No slot is null.
     pub const REQUIRED: u8 = 4;
+    /// Floats only: every NaN is encoded as one, and -0 as +0.
+    pub const FOLD: u8 = 8;
 }
 
 /// The bytes of an answer: four numbers of eight bytes.
@@ -303,7 +305,7 @@ pub fn encode(list: &[u8], n: u64, sheet: &[u8], rows: &mut [u8], offsets: &mut 
 }
 
 /// Writes the cleared sheet of rows to the front of `sheet`: zeros, and length 0, in null slots, and
-/// first ends of 0.
+/// first ends of 0. Floats are folded where their column folds.
 ///
 /// ```
 /// let mut sheet = [0; 3];

@@ -9,13 +9,13 @@ use std::fmt;
 /// and what they mean.
 #[derive(Clone, Copy, Debug, PartialEq, Eq, Hash)]
 pub struct Refusal {
-    /// The reason, 1 to 24, 26 or 27.
+    /// The reason, 1 to 24 or 26 to 28.
     pub number: u64,
     /// The first number that goes with it.
     pub second: u64,
     /// The second number that goes with it; 0 where the reason has one only.
     pub third: u64,
-    /// In a refusal of a row, 16 to 23: the bad byte, counted from the row's start; where the
+    /// In a refusal of a row, 16 to 23 and 28: the bad byte, counted from the row's start; where the
     /// row is cut, 16, its length. 0 in all others.
     pub place: u64,
 }
@@ -43,7 +43,7 @@ impl fmt::Display for Refusal {
             2 => write!(f, "unknown kind at byte {a} of the list"),
             3 => write!(
                 f,
-                "unknown option bits in the column at byte {a} of the list"
+                "option bits unknown, or not for this kind, in the column at byte {a} of the list"
             ),
             4 => write!(
                 f,
@@ -84,7 +84,7 @@ impl fmt::Display for Refusal {
     }
 }
 
-/// What is wrong in a row: 16 to 23.
+/// What is wrong in a row: 16 to 23, and 28.
 fn row_reason(number: u64) -> &'static str {
     match number {
         16 => "the field or block is cut",
@@ -95,6 +95,7 @@ fn row_reason(number: u64) -> &'static str {
         21 => "padding is not zero",
         22 => "bytes follow the last field",
         23 => "the value is over 65,535 bytes",
+        28 => "the float is not folded",
         _ => "unknown reason",
     }
 }

@@ -126,8 +126,24 @@ fn a_required_column_has_no_null() {
 }
 
 #[test]
+fn floats_are_folded() {
+    let list = [kind::F32, option::NULLS_FIRST | option::FOLD];
+    let sheet = |values: [f32; 3]| [&[0b111][..], &values.map(f32::to_le_bytes).concat()].concat();
+    let folded = sheet([0.0, f32::from_bits(0x7FC0_0000), -1.0]);
+    let rows = encode_to_vec(&list, 3, &sheet([-0.0, f32::from_bits(0xFF80_0001), -1.0])).unwrap();
+    assert_eq!(rows, encode_to_vec(&list, 3, &folded).unwrap());
+    assert_eq!(
+        decode_to_vec(&list, 3, &rows.bytes, &rows.offsets),
+        Ok(folded)
+    );
+    let read = decode(&list, 1, &[1, 0x7F, 0xFF, 0xFF, 0xFF], &[0, 5], &mut [0; 5]);
+    assert_eq!(read, refused_at(28, 0, 0, 1));
+    assert_eq!(check_list(&[kind::U32, option::FOLD]), refused(3, 0, 0));
+}
+
+#[test]
 fn every_reason_reads_well() {
-    for number in (1..=24).chain([27]) {
+    for number in (1..=24).chain([27, 28]) {
         let text = refused_at(number, 5, 6, 7).unwrap_err().to_string();
         assert!(text.starts_with(&format!("refused {number} 5 6 7: ")));
         assert!(!text.contains("unknown reason"), "{text}");

@@ -1,11 +1,11 @@
--- The three sorts of kinds: bool, values of one width, and variable bytes; that every number with a sign has a byte for it; and
--- the last arm of a match on a kind, which takes those that no arm before it names. Assumes nothing.
-use Prim.Native.Nat.{ℕ, _<_}
+-- The three sorts of kinds: bool, values of one width, and variable bytes; that every number with a sign has a byte for it, and every
+-- float a width that folds; and the last arm of a match on a kind, which takes those that no arm before it names. Assumes nothing.
+use Prim.Native.Nat.{ℕ, _^_, _<_}
 use mathlib.Core.Path.{_≡_, refl, sym, ap, subst, _∙_}
-use mathlib.Core.Bool.{Bool as Truth, true, false, not}
+use mathlib.Core.Bool.{Bool as Truth, true, false, not, true≢false}
 use mathlib.Core.List.{List, [], _∷_, _++_}
 use native.Mathlib.Omega.{arith}
-use lib.Dec.{T}
+use lib.Dec.{T, lit<}
 use mir.Val.{hasKey}
 use types.Run.{OneOf, miss}
 use denote.Enum.Declared.{tagOf}
@@ -14,6 +14,8 @@ use Rattle.format.specs.declared.Kind.{Kind}
 use Rattle.format.specs.declared.Kind.the-variants.{Bool, I8, I16, I32, I64, U8, U16, U32, U64, F16, F32, F64, DayTime, MonthDayNano, FixedBinary, Variable, I128, I256}
 use Rattle.format.specs.Lists.{each}
 use Rattle.format.specs.Kinds.{Fixed, bool, plain, number, integer, float, parts, Shape, fixed, variable, shape, shapeBytes, width, valueBytes}
+use Rattle.format.specs.Value.{half}
+use Rattle.format.specs.Fold.{infinity, oneNaN, folds}
 use Rattle.format.specs.Sheet.{layoutFor, wide}
 use Rattle.basics.specs.Wide.{WideKind, WideShape}
 
@@ -35,10 +37,38 @@ abbrev pub ShapeSigns : Shape → Type 0
 ShapeSigns (fixed k) = Signs k
 ShapeSigns variable = Unit {0}
 
+-- what folding a float of n bytes rests on: the one NaN is above infinity and below the sign, which n bytes hold
+pub record Foldable (n : ℕ) : Type 0 where
+  pub above : infinity n < oneNaN n
+  pub below : oneNaN n < half n
+  pub holds : half n < 256 ^ n
+
+-- every float has such a width
+abbrev pub Folding : Fixed → Type 0
+Folding bool = Unit {0}
+Folding (plain n) = Unit {0}
+Folding (number n) = Unit {0}
+Folding (integer n) = Unit {0}
+Folding (float n) = Foldable n
+Folding (parts ns) = Unit {0}
+
+abbrev pub ShapeFolding : Shape → Type 0
+ShapeFolding (fixed k) = Folding k
+ShapeFolding variable = Unit {0}
+
+-- the places of the kinds of one width that never fold, in the order of the table: bool is 0, the floats are 9 to 11, variable bytes 15
+abbrev pub plainKeys : List ℕ
+plainKeys = each 1 8 (λ k. k) ++ each 12 3 (λ k. k) ++ each 16 2 (λ k. k)
+
+-- values of a kind never fold, or they are floats, whose kinds stand elsewhere
+data Folds (kind : Kind) (k : Fixed) : Type 0 where
+  never : ((b : Truth) → folds k b ≡ false) → Folds kind k
+  floats : Folding k → T (not (hasKey plainKeys (tagOf the-type kind))) → Folds kind k
+
 -- a kind is one of the three
 data Sort (kind : Kind) : Type 0 where
   bools : kind ≡ Bool → Sort kind
-  wides : (w : WideKind kind) → Signs (w .k) → Sort kind
+  wides : (w : WideKind kind) → Signs (w .k) → Folds kind (w .k) → Sort kind
   variables : kind ≡ Variable → Sort kind
 
 -- whether fixed values are bools, which alone are packed bits
@@ -51,29 +81,29 @@ isBool (float w) = false
 isBool (parts ws) = false
 
 -- the second sort
-of-width : {kind : Kind} (k : Fixed) → shape kind ≡ fixed k → isBool k ≡ false → Signs k → Sort kind
-of-width k e h s = wides (record { k = k; says = e; other = λ q. let z : _≡_ {A = ℕ} 0 1 = cc (ap isBool q) in omega arith }) s
+of-width : {kind : Kind} (k : Fixed) → shape kind ≡ fixed k → isBool k ≡ false → Signs k → Folds kind k → Sort kind
+of-width k e h s f = wides (record { k = k; says = e; other = λ q. let z : _≡_ {A = ℕ} 0 1 = cc (ap isBool q) in omega arith }) s f
 
 -- the table of kinds, by sort: what is proved of every kind is proved from here
 sort : (kind : Kind) → Sort kind
 sort Bool = bools refl
-sort I8 = of-width (integer 1) refl refl (omega arith)
-sort I16 = of-width (integer 2) refl refl (omega arith)
-sort I32 = of-width (integer 4) refl refl (omega arith)
-sort I64 = of-width (integer 8) refl refl (omega arith)
-sort U8 = of-width (number 1) refl refl tt
-sort U16 = of-width (number 2) refl refl tt
-sort U32 = of-width (number 4) refl refl tt
-sort U64 = of-width (number 8) refl refl tt
-sort F16 = of-width (float 2) refl refl (omega arith)
-sort F32 = of-width (float 4) refl refl (omega arith)
-sort F64 = of-width (float 8) refl refl (omega arith)
-sort DayTime = of-width (parts (4 ∷ 4 ∷ [])) refl refl (omega arith)
-sort MonthDayNano = of-width (parts (4 ∷ 4 ∷ 8 ∷ [])) refl refl (omega arith)
-sort (FixedBinary w) = of-width (plain w) refl refl tt
+sort I8 = of-width (integer 1) refl refl (omega arith) (never (λ b. refl))
+sort I16 = of-width (integer 2) refl refl (omega arith) (never (λ b. refl))
+sort I32 = of-width (integer 4) refl refl (omega arith) (never (λ b. refl))
+sort I64 = of-width (integer 8) refl refl (omega arith) (never (λ b. refl))
+sort U8 = of-width (number 1) refl refl tt (never (λ b. refl))
+sort U16 = of-width (number 2) refl refl tt (never (λ b. refl))
+sort U32 = of-width (number 4) refl refl tt (never (λ b. refl))
+sort U64 = of-width (number 8) refl refl tt (never (λ b. refl))
+sort F16 = of-width (float 2) refl refl (omega arith) (floats (record { above = lit< tt; below = lit< tt; holds = lit< tt }) tt)
+sort F32 = of-width (float 4) refl refl (omega arith) (floats (record { above = lit< tt; below = lit< tt; holds = lit< tt }) tt)
+sort F64 = of-width (float 8) refl refl (omega arith) (floats (record { above = lit< tt; below = lit< tt; holds = lit< tt }) tt)
+sort DayTime = of-width (parts (4 ∷ 4 ∷ [])) refl refl (omega arith) (never (λ b. refl))
+sort MonthDayNano = of-width (parts (4 ∷ 4 ∷ 8 ∷ [])) refl refl (omega arith) (never (λ b. refl))
+sort (FixedBinary w) = of-width (plain w) refl refl tt (never (λ b. refl))
 sort Variable = variables refl
-sort I128 = of-width (integer 16) refl refl (omega arith)
-sort I256 = of-width (integer 32) refl refl (omega arith)
+sort I128 = of-width (integer 16) refl refl (omega arith) (never (λ b. refl))
+sort I256 = of-width (integer 32) refl refl (omega arith) (never (λ b. refl))
 
 -- in every kind
 pub signs : (kind : Kind) → ShapeSigns (shape kind)
@@ -81,7 +111,24 @@ signs kind = go (sort kind)
   where
     go : Sort kind → ShapeSigns (shape kind)
     go (bools e) = rw e tt
-    go (wides w s) = rw (w .says) s
+    go (wides w s f) = rw (w .says) s
+    go (variables e) = rw e tt
+
+pub foldable : (kind : Kind) → ShapeFolding (shape kind)
+foldable kind = go (sort kind)
+  where
+    folding : (k : Fixed) → Folds kind k → Folding k
+    folding k (floats f e) = f
+    folding bool (never h) = tt
+    folding (plain n) (never h) = tt
+    folding (number n) (never h) = tt
+    folding (integer n) (never h) = tt
+    folding (float n) (never h) = absurd (true≢false (h true))
+    folding (parts ns) (never h) = tt
+
+    go : Sort kind → ShapeFolding (shape kind)
+    go (bools e) = rw e tt
+    go (wides w s f) = rw (w .says) (folding (w .k) f)
     go (variables e) = rw e tt
 
 -- ---- values of one width
@@ -133,7 +180,7 @@ neither kind b v = go (sort kind)
   where
     go : Sort kind → WideKind kind
     go (bools e) = absurd (b e)
-    go (wides w s) = w
+    go (wides w s f) = w
     go (variables e) = absurd (v e)
 
 -- the places after that of variable bytes
@@ -154,6 +201,16 @@ wideKeys = each 1 14 (λ k. k) ++ later
 pub wide-arm : (kind : Kind) → OneOf wideKeys (tagOf the-type kind) → WideKind kind
 wide-arm kind h = neither kind (elsewhere wideKeys kind Bool h tt) (elsewhere wideKeys kind Variable h tt)
 
+-- after these and the arms of the floats
+pub plain-arm : (kind : Kind) → OneOf plainKeys (tagOf the-type kind) → (w : WideKind kind) × ((b : Truth) → folds (w .k) b ≡ false)
+plain-arm kind h = go (sort kind)
+  where
+    go : Sort kind → (w : WideKind kind) × ((b : Truth) → folds (w .k) b ≡ false)
+    go (bools e) = absurd (elsewhere plainKeys kind Bool h tt e)
+    go (wides w s (never f)) = (w, f)
+    go (wides w s (floats f e)) = absurd (miss plainKeys (tagOf the-type kind) e h)
+    go (variables e) = absurd (elsewhere plainKeys kind Variable h tt e)
+
 -- after a test for each
 pub wide-left : (kind : Kind) → OneOf fixedKeys (tagOf the-type kind) → OneOf otherKeys (tagOf the-type kind) → WideKind kind
 wide-left kind v b = neither kind (elsewhere otherKeys kind Bool b tt) (elsewhere fixedKeys kind Variable v tt)
@@ -164,5 +221,5 @@ fixed-arm P kind b w h = go (sort kind)
   where
     go : Sort kind → P kind
     go (bools e) = subst P (sym e) b
-    go (wides k s) = w k
+    go (wides k s f) = w k
     go (variables e) = absurd (elsewhere fixedKeys kind Variable h tt e)

@@ -9,7 +9,7 @@ use lib.Dec.{ltb, eqb}
 use lib.ListN.{length, getD}
 use Rattle.format.specs.declared.Column.{Column}
 use Rattle.format.specs.declared.RowFault.{RowFault}
-use Rattle.format.specs.declared.RowFault.the-variants.{Cut, Lead, NullRest, BoolByte, EndByte, Padding, Extra, TooLong}
+use Rattle.format.specs.declared.RowFault.the-variants.{Cut, Lead, NullRest, BoolByte, EndByte, Padding, Extra, TooLong, Unfolded}
 use Rattle.format.specs.declared.Check.{Check}
 use Rattle.format.specs.declared.Check.the-variants.{Pass, Refuse}
 use Rattle.format.specs.declared.Refusal.{Refusal}
@@ -18,7 +18,7 @@ use Rattle.format.specs.Limits.{maxRows, maxWidth, maxTotal}
 use Rattle.format.specs.Check.{both, failIf}
 use Rattle.format.specs.Lists.{Bytes}
 use Rattle.format.specs.Kinds.{lastKind, Slot, columnShape}
-use Rattle.format.specs.Columns.{descriptionBytes, descriptionFault, listFaultFrom, listFault, widthAt}
+use Rattle.format.specs.Columns.{mostOptions, descriptionBytes, descriptionFault, listFaultFrom, listFault, widthAt}
 use Rattle.format.specs.Fits.{RowFits, HasValues}
 use Rattle.format.specs.Row.{row}
 use Rattle.format.specs.Read.{Parsed, got, fault, readField, fieldCheck, rowFault, rowSlots, rowsFault}
@@ -29,7 +29,7 @@ use Rattle.basics.proofs.Checks.{refuse-pass, pass-both}
 use Rattle.laws.proofs.ReadRow.{passed-row}
 use Rattle.demands.proofs.OneRow.{row-passes, refused-none}
 
--- ---- refusals by content: 16 to 23
+-- ---- refusals by content: 16 to 23, and 28
 
 -- the faults of a row are
 pub row-content : (f : RowFault) (r c place : ℕ) → byContent (Row f r c place) ≡ true
@@ -41,6 +41,7 @@ row-content EndByte r c place = refl
 row-content Padding r c place = refl
 row-content Extra r c place = refl
 row-content TooLong r c place = refl
+row-content Unfolded r c place = refl
 
 -- a check that refuses nothing by content
 abbrev pub Outer : Check → Type 0
@@ -63,7 +64,7 @@ outer-description : (s : List ℕ) (at : ℕ) → Outer (descriptionFault s at)
 outer-description s at =
     outer-if (ltb (getD s at 0) 1 || ltb lastKind (getD s at 0)) _ _ refl
     (outer-if (ltb (length s - at) (descriptionBytes (getD s at 0))) _ _ refl
-    (outer-if (ltb 7 (getD s (at + 1) 0)) _ _ refl
+    (outer-if (ltb (mostOptions (getD s at 0)) (getD s (at + 1) 0)) _ _ refl
     (outer-if (ltb maxWidth (widthAt s at)) _ _ refl tt)))
 
 outer-list-from : (room : ℕ) (s : List ℕ) (at : ℕ) → Outer (listFaultFrom room s at)

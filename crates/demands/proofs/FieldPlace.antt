@@ -15,7 +15,8 @@ use Rattle.format.specs.declared.RowFault.the-variants.{NullRest, BoolByte, End
 use Rattle.format.specs.declared.SortOptions.{SortOptions}
 use Rattle.format.specs.Limits.{maxSlot}
 use Rattle.format.specs.Kinds.{Fixed, bool, plain, number, integer, float, parts, Shape, fixed, variable, Slot, width}
-use Rattle.format.specs.Key.{allowed, inverted}
+use Rattle.format.specs.Key.{allowed, inverted, unkey}
+use Rattle.format.specs.Fold.{isFolded}
 use Rattle.format.specs.Field.{blockSize, directed}
 use Rattle.format.specs.Read.{Parsed, got, fault, after, allZero, fromBad, nullLead, readBlock, readBlocks, readBytes, readField, readFixed, readKey, readNull, readValue, readVariable, valueSlot}
 use Rattle.laws.proofs.Directed.{length-directed}
@@ -121,11 +122,26 @@ right-key bool o b (x ∷ s) l h = go (o .descending) h
     go true h = (refl, omega arith, omega arith, ltb-false (255 - x) 2 h)
     go false h = (refl, omega arith, omega arith, ltb-false x 2 h)
 
-right-bytes : (k : Fixed) (o : SortOptions) (b : ℕ) (s : List ℕ) → FixedRight k o (b ∷ s) (readBytes k (o .descending) s)
+right-bytes : (k : Fixed) (o : SortOptions) (b : ℕ) (s : List ℕ) → FixedRight k o (b ∷ s) (readBytes k o s)
 right-bytes k o b s =
     by-test (FixedRight k o (b ∷ s)) (ltb (length s) (width k)) _ _ (λ q. omega arith) (λ q.
-    by-test (FixedRight k o (b ∷ s)) (allowed k (directed (o .descending) (take (width k) s))) _ _ (λ h. tt)
-    (right-key k o b s (ltb-false (length s) (width k) q)))
+    let long = ltb-false (length s) (width k) q in
+    by-test (FixedRight k o (b ∷ s)) (allowed k f) _ _
+    (λ h. by-test (FixedRight k o (b ∷ s)) (isFolded k (o .fold) (unkey k f)) _ _ (λ g. tt) (λ g. (first long, omega arith, g)))
+    (right-key k o b s long))
+  where
+    f : List ℕ
+    f = directed (o .descending) (take (width k) s)
+
+    -- the value bytes stand after the lead
+    first : width k ≤ length s → suc (length s) - (length (directed (o .descending) (take (width k) s)) + length (drop (width k) s)) ≡ 1
+    first l =
+        omega (
+          arith,
+          length-directed (o .descending) (take (width k) s),
+          length-take-le (width k) s l,
+          length-drop (width k) s,
+        )
 
 right-fixed : (k : Fixed) (o : SortOptions) (s : List ℕ) → FixedRight k o s (readFixed k o s)
 right-fixed k o [] = refl

@@ -26,6 +26,7 @@ pub mod Demand2
 pub mod Demand3
 pub mod Plates
 pub mod NullSlots
+pub mod FoldedRows
 pub mod Calls
 pub mod FieldPlace
 pub mod Place

@@ -1,5 +1,5 @@
 -- A null slot may hold anything within the limits, and so may what is before a first end: whatever they hold, a sheet of the same values is
--- accepted and encoded alike; and a cleared sheet is its own cleared sheet, so that it comes back byte for byte. Assumes nothing.
+-- accepted and encoded alike; and a cleared sheet of folded floats is its own cleared sheet, so that it comes back byte for byte. Assumes nothing.
 use Prim.Native.Nat.{ℕ, _≤_}
 use mathlib.Core.Path.{_≡_, refl, ap, ap₂, sym, subst, _∙_}
 use mathlib.Core.Bool.{Bool, true, false}
@@ -13,6 +13,8 @@ use Rattle.format.specs.declared.Column.{Column}
 use Rattle.format.specs.Limits.{maxTotal}
 use Rattle.format.specs.Lists.{Bytes, joined, over}
 use Rattle.format.specs.Kinds.{Slot, columnShape}
+use Rattle.format.specs.Fold.{foldedSlot}
+use Rattle.format.specs.Fits.{AllSlots}
 use Rattle.format.specs.Columns.{columns}
 use Rattle.format.specs.Row.{row}
 use Rattle.format.specs.Sheet.{Layout, bits, ended, wide, layout, packed, bit, valueAt, slotIf, columnBytes, slotAt, sheetFault, sheetSlots, nulls, turned}
@@ -21,7 +23,7 @@ use Rattle.format.specs.Numbers.{three, numbersOf}
 use Rattle.format.specs.Entries.{measureCheck, encodeCheck}
 use Rattle.basics.proofs.Lists.{each-same, map-each}
 use Rattle.laws.proofs.Accept.{measured, encoded}
-use Rattle.demands.specs.Raw.{Raw, RawColumn, slotOf, slotsOf, rawSheet, AllRaw, EndFits, ColumnFits, RawFits, rawAt, rawColumns, Resliced, DiffersBefore, cleared, IsCleared}
+use Rattle.demands.specs.Raw.{Raw, RawColumn, slotOf, takenFrom, rawSheet, AllRaw, EndFits, ColumnFits, RawFits, rawAt, rawColumns, Resliced, DiffersBefore, cleared, IsCleared, IsFolded}
 use Rattle.demands.specs.RoundTrip.{clearedOf, CameBack, Alike}
 use Rattle.demands.proofs.Raw.{raw-passes, raw-slots}
 use Rattle.demands.proofs.RawBack.{sheet-raw}
@@ -31,16 +33,18 @@ use Rattle.demands.proofs.Demand2.{same-slots-alike}
 
 -- ---- whatever null slots hold, and whatever is before a first end
 
--- the slots of a sheet are those that its raw columns are
-raws-slots : (n : ℕ) (cols : List Column) (s : List ℕ) → map slotsOf (rawColumns n cols s) ≡ sheetSlots n cols s
+-- the slots of a sheet are those that encode takes of its raw columns
+raws-slots : (n : ℕ) (cols : List Column) (s : List ℕ) → takenFrom cols (rawColumns n cols s) ≡ sheetSlots n cols s
 raws-slots n [] s = refl
 raws-slots n (col ∷ cols) s =
-    ap₂ {C = List (List Slot)} (λ x y. x ∷ y) (map-each slotOf 0 n (rawAt (layout col) n s)) (raws-slots n cols (drop (columnBytes (layout col) n s) s))
+    ap₂ {C = List (List Slot)} (λ x y. x ∷ y) (ap (map (foldedSlot (columnShape col) (col .options))) (map-each slotOf 0 n (rawAt (layout col) n s)))
+    (raws-slots n cols (drop (columnBytes (layout col) n s) s))
 
--- raw columns within the limits that are the slots of an accepted sheet make an accepted sheet, which is encoded alike. Those of the
--- sheet itself make the sheet (`sheet-raw`), so that its null slots, and what is before its first ends, may be changed at will
+-- raw columns within the limits of which encode takes the slots of an accepted sheet make an accepted sheet, which is encoded alike. Those of the
+-- sheet itself make the sheet (`sheet-raw`), so that its null slots, and what is before its first ends, may be changed at will,
+-- and a float for one that is folded to the same
 pub null-slots-free : (list : List ℕ) (n : ℕ) (s rows offsets : List ℕ) (cs : List RawColumn) → measureCheck list n s ≡ Pass → RawFits n (columns list) cs
-    → map slotsOf cs ≡ sheetSlots n (columns list) s
+    → takenFrom (columns list) cs ≡ sheetSlots n (columns list) s
     → (measureCheck list n (rawSheet n (columns list) cs) ≡ Pass) × Alike list n s (rawSheet n (columns list) cs) rows offsets
 null-slots-free list n s rows offsets cs e fits same =
     let cols : List Column = columns list in
@@ -72,17 +76,22 @@ resliced-fits n (col ∷ cols) (c ∷ cs) (d ∷ ds) r h = (column-kept (r .0) (
     column-kept : d .slots ≡ c .slots → length (d .before) ≡ length (c .before) → Bytes (d .before) → ColumnFits n col c → ColumnFits n col d
     column-kept same long b f = record {
       many = ap length same ∙ f .many;
-      all = subst (AllRaw (columnShape col) (col .options)) (sym same) (f .all);
+      all = subst (AllRaw (columnShape col)) (sym same) (f .all);
+      fit = subst (λ (rs : List Raw). AllSlots (columnShape col) (col .options) (map (foldedSlot (columnShape col) (col .options)) (map slotOf rs)))
+          (sym same) (f .fit);
       below = b;
       end-fits = subst (λ (rs : List Raw). EndFits (layout col) (d .before) (map (λ r. r .bytes) rs)) (sym same)
           (end-kept (layout col) (c .before) (d .before) (map (λ r. r .bytes) (c .slots)) long (f .end-fits));
     }
 
-resliced-slots : (cs ds : List RawColumn) → Resliced cs ds → map slotsOf ds ≡ map slotsOf cs
-resliced-slots [] [] r = refl
-resliced-slots [] (d ∷ ds) r = absurd r
-resliced-slots (c ∷ cs) [] r = absurd r
-resliced-slots (c ∷ cs) (d ∷ ds) r = ap₂ {C = List (List Slot)} (λ x y. x ∷ y) (ap (map slotOf) (r .0)) (resliced-slots cs ds (r .3))
+resliced-slots : (cols : List Column) (cs ds : List RawColumn) → Resliced cs ds → takenFrom cols ds ≡ takenFrom cols cs
+resliced-slots [] cs ds r = refl
+resliced-slots (col ∷ cols) [] [] r = refl
+resliced-slots (col ∷ cols) [] (d ∷ ds) r = absurd r
+resliced-slots (col ∷ cols) (c ∷ cs) [] r = absurd r
+resliced-slots (col ∷ cols) (c ∷ cs) (d ∷ ds) r =
+    ap₂ {C = List (List Slot)} (λ x y. x ∷ y) (ap (λ (rs : List Raw). map (foldedSlot (columnShape col) (col .options)) (map slotOf rs)) (r .0))
+    (resliced-slots cols cs ds (r .3))
 
 -- so a sheet that differs from an accepted one only in bytes before a first end is accepted, and encoded alike
 pub sliced-alike : (list : List ℕ) (n : ℕ) (s t rows offsets : List ℕ) → Bytes s → measureCheck list n s ≡ Pass → DiffersBefore n (columns list) s t
@@ -91,38 +100,42 @@ sliced-alike list n s t rows offsets b e d =
     let cols : List Column = columns list in
     let m = measured list n s e in
     let fits = resliced-fits n cols (rawColumns n cols s) (d .others) (d .resliced) (sheet-raw n cols s b (m .1 .passes) .1) in
-    let same = resliced-slots (rawColumns n cols s) (d .others) (d .resliced) ∙ raws-slots n cols s in
+    let same = resliced-slots cols (rawColumns n cols s) (d .others) (d .resliced) ∙ raws-slots n cols s in
     subst (λ (z : List ℕ). (measureCheck list n z ≡ Pass) × Alike list n s z rows offsets) (sym (d .is))
     (null-slots-free list n s rows offsets (d .others) e fits same)
 
--- ---- a cleared sheet
+-- ---- a cleared sheet, whose floats are folded where their column folds
 
 -- a raw slot that is clear is that of its slot in the cleared sheet
 clear-raw : (ly : Layout) (b : Bool) (v : List ℕ) → (b ≡ false → v ≡ cleared ly) → clearedRaw ly (slotIf b v) ≡ record { valid = b; bytes = v }
 clear-raw ly true v h = refl
 clear-raw ly false v h = ap (λ (x : List ℕ). record { valid = false; bytes = x }) (sym (h refl))
 
-clear-raws : (n : ℕ) (cols : List Column) (s : List ℕ) → IsCleared n cols s → clearedRaws cols (sheetSlots n cols s) ≡ rawColumns n cols s
-clear-raws n [] s h = refl
-clear-raws n (col ∷ cols) s h =
+clear-raws : (n : ℕ) (cols : List Column) (s : List ℕ) → IsCleared n cols s → IsFolded n cols s
+    → clearedRaws cols (sheetSlots n cols s) ≡ rawColumns n cols s
+clear-raws n [] s h f = refl
+clear-raws n (col ∷ cols) s h f =
     let ly : Layout = layout col in
     ap₂ {C = List RawColumn} (λ x y. x ∷ y)
     (ap₂ {C = RawColumn} (λ (a : List ℕ) (rs : List Raw). record { before = a; slots = rs }) (sym (h .0 .starts))
-    (map-each (clearedRaw ly) 0 n (slotAt ly n s)
+    (ap (map (clearedRaw ly))
+    (map-each (foldedSlot (columnShape col) (col .options)) 0 n (slotAt ly n s) ∙ each-same 0 n _ _ (λ i x y. f .0 i (omega arith)))
+    ∙ map-each (clearedRaw ly) 0 n (slotAt ly n s)
     ∙ each-same 0 n _ _ (λ i x y. clear-raw ly (bit s i) (valueAt ly n (drop (packed n) s) i) (h .0 .slots-clear i (omega arith)))))
-    (clear-raws n cols (drop (columnBytes ly n s) s) (h .1))
+    (clear-raws n cols (drop (columnBytes ly n s) s) (h .1) (f .1))
 
 -- a cleared sheet that passes is the cleared sheet of its slots
-pub cleared-kept : (n : ℕ) (cols : List Column) (s : List ℕ) → Bytes s → sheetFault n cols s ≡ Pass → IsCleared n cols s
+pub cleared-kept : (n : ℕ) (cols : List Column) (s : List ℕ) → Bytes s → sheetFault n cols s ≡ Pass → IsCleared n cols s → IsFolded n cols s
     → clearedSheet n cols (sheetSlots n cols s) ≡ s
-cleared-kept n cols s b e h = cleared-raw n cols (sheetSlots n cols s) ∙ ap (rawSheet n cols) (clear-raws n cols s h) ∙ sheet-raw n cols s b e .0
+cleared-kept n cols s b e h f = cleared-raw n cols (sheetSlots n cols s) ∙ ap (rawSheet n cols) (clear-raws n cols s h f) ∙ sheet-raw n cols s b e .0
 
 -- so, encoded and decoded, it comes back byte for byte
 pub byte-for-byte : (list : List ℕ) (n : ℕ) (sheet rows offsets back : List ℕ) (r : Answer) (back′ : List ℕ) → CameBack list n sheet rows offsets back r back′
-    → Bytes sheet → encodeCheck list n sheet (length rows) (length offsets) ≡ Pass → IsCleared n (columns list) sheet → length sheet ≤ length back
+    → Bytes sheet → encodeCheck list n sheet (length rows) (length offsets) ≡ Pass → IsCleared n (columns list) sheet
+    → IsFolded n (columns list) sheet → length sheet ≤ length back
     → (numbersOf r ≡ three 0 (length sheet) (nulls (sheetSlots n (columns list) sheet))) × (back′ ≡ over sheet back)
-byte-for-byte list n sheet rows offsets back r back′ h b e clear room =
+byte-for-byte list n sheet rows offsets back r back′ h b e clear folded room =
     let same : clearedOf list n sheet ≡ sheet
-    = cleared-kept n (columns list) sheet b (encoded list n sheet (length rows) (length offsets) e .1 .passes) clear in
+    = cleared-kept n (columns list) sheet b (encoded list n sheet (length rows) (length offsets) e .1 .passes) clear folded in
     let fits = le-ltb (length back) (length sheet) room in
     (h .answers ∙ rw (e, same, fits), h .writes ∙ rw (e, same, fits))

@@ -1,15 +1,17 @@
 -- The null total is the number of clear bits among the validity bits of all rows and columns. Assumes nothing.
 use Prim.Native.Nat.{ℕ, zero, suc, _+_}
-use mathlib.Core.Path.{_≡_, refl, ap, sym, _∙_}
+use mathlib.Core.Path.{_≡_, refl, ap, ap₂, sym, _∙_}
 use mathlib.Core.Bool.{Bool, true, false, cond}
 use mathlib.Core.List.{List, [], _∷_}
 use native.Mathlib.Omega.{arith}
 use lib.ListN.{length, getD, drop}
 use Rattle.format.specs.declared.Column.{Column}
 use Rattle.format.specs.Lists.{each, sum}
+use Rattle.format.specs.Kinds.{columnShape}
 use Rattle.format.specs.Schemas.{noColumn}
 use Rattle.format.specs.Sheet.{Layout, layout, packed, bit, valueAt, slotIf, columnBytes, slotAt, columnSlots, placeFrom, place, sheetSlots, nullsIn, nulls, clearBits}
 use Rattle.basics.proofs.Lists.{each-next, each-same}
+use Rattle.laws.proofs.Folding.{fold-nulls}
 use Rattle.laws.proofs.Places.{past-column}
 
 -- column by column
@@ -18,7 +20,7 @@ nulls-from : (n at : ℕ) (cols : List Column) (s : List ℕ) (d : Column)
     ≡ sum (each 0 (length cols) (λ c. nullsIn (columnSlots (layout (getD cols c d)) n (drop (placeFrom n at cols s c) s))))
 nulls-from n at [] s d = refl
 nulls-from n at (col ∷ cols) s d =
-    ap (λ (k : ℕ). nullsIn (columnSlots (layout col) n (drop at s)) + k)
+    ap₂ _+_ (fold-nulls (columnShape col) (col .options) (columnSlots (layout col) n (drop at s)))
     (ap (λ (z : List ℕ). nulls (sheetSlots n cols z)) (past-column (layout col) n at s)
     ∙ nulls-from n (at + columnBytes (layout col) n (drop at s)) cols s d
     ∙ ap sum (sym (each-next 0 (length cols) (λ c. nullsIn (columnSlots (layout (getD (col ∷ cols) c d)) n (drop (placeFrom n at (col ∷ cols) s c) s))))))

@@ -1,15 +1,14 @@
 -- What encode and decode write is bytes, whatever they answer. Assumes nothing.
-use Prim.Native.Nat.{ℕ, zero, suc, _/_, _<_, _≤_}
+use Prim.Native.Nat.{ℕ, zero, suc, _<_, _≤_}
 use mathlib.Core.Path.{_≡_, refl, sym, subst}
-use mathlib.Core.Bool.{Bool}
+use mathlib.Core.Bool.{Bool, false}
 use mathlib.Core.List.{List, [], _∷_, _++_, map}
-use native.Mathlib.Nat.{mod-lt, pow-le-pow-right}
+use native.Mathlib.Nat.{pow-le-pow-right}
 use native.Mathlib.Omega.{arith}
-use lib.Dec.{eqb, lit<}
+use lib.Dec.{eqb}
 use lib.ListN.{length, getD, take, drop, length-take}
 use Rattle.format.specs.declared.Check.{Check}
 use Rattle.format.specs.declared.Check.the-variants.{Pass, Refuse}
-use Rattle.format.specs.declared.SortOptions.{SortOptions}
 use Rattle.format.specs.declared.Column.{Column}
 use Rattle.format.specs.Limits.{maxRows, maxSlot}
 use Rattle.format.specs.Lists.{Bytes, endsFrom, joined, lowBytes}
@@ -22,6 +21,7 @@ use Rattle.format.specs.Cleared.{byteOf, pack, clearedSheet}
 use Rattle.format.specs.Entries.{written, sheetRows, encodeCheck, encodeRows, cutRows, rowsSlots, decodedSheet, decodeCheck, decodeSheet}
 use Rattle.bits.proofs.Flags.{byte-small}
 use Rattle.basics.proofs.Bytes.{bytes-append, bytes-drop}
+use Rattle.basics.proofs.LowBytes.{bytes-lowBytes}
 use Rattle.laws.proofs.Fields.{bytes-row}
 use Rattle.laws.proofs.Sheets.{sheet-fits}
 use Rattle.laws.proofs.Accept.{encoded}
@@ -46,13 +46,9 @@ pub bytes-pack : (m : ℕ) (fs : List Bool) → Bytes (pack m fs)
 bytes-pack zero fs = tt
 bytes-pack (suc m) fs = (eight-flags fs, bytes-pack m (drop 8 fs))
 
-bytes-low : (n x : ℕ) → Bytes (lowBytes n x)
-bytes-low zero x = tt
-bytes-low (suc n) x = (mod-lt x (lit< tt), bytes-low n (x / 256))
-
 all-low : (es : List ℕ) → Every Bytes (map (lowBytes 4) es)
 all-low [] = tt
-all-low (e ∷ es) = (bytes-low 4 e, all-low es)
+all-low (e ∷ es) = (bytes-lowBytes 4 e, all-low es)
 
 -- whatever its slots hold
 standing-bytes : (ly : Layout) (n : ℕ) (a : List ℕ) (xs : List (List ℕ)) → Bytes a → Every Bytes xs → Bytes (standing ly n a xs)
@@ -63,13 +59,13 @@ standing-bytes ended n a xs b h =
     (bytes-joined (map (lowBytes 4) (endsFrom (length a) xs)) (all-low (endsFrom (length a) xs)))
     (bytes-append a (joined xs) b (bytes-joined xs h))
 
-fits-bytes : (sh : Shape) (x : List ℕ) → Fits maxSlot sh x → Bytes x
+fits-bytes : (sh : Shape) (x : List ℕ) → Fits maxSlot sh false x → Bytes x
 fits-bytes (fixed k) x h = h .0
 fits-bytes variable x h = h .0
 
-all-bytes : (sh : Shape) (o : SortOptions) (rs : List Raw) → AllRaw sh o rs → Every Bytes (map (λ r. r .bytes) rs)
-all-bytes sh o [] h = tt
-all-bytes sh o (r ∷ rs) h = (fits-bytes sh (r .bytes) (h .0), all-bytes sh o rs (h .2))
+all-bytes : (sh : Shape) (rs : List Raw) → AllRaw sh rs → Every Bytes (map (λ r. r .bytes) rs)
+all-bytes sh [] h = tt
+all-bytes sh (r ∷ rs) h = (fits-bytes sh (r .bytes) (h .0), all-bytes sh rs (h .1))
 
 raw-bytes : (n : ℕ) (cols : List Column) (cs : List RawColumn) → RawFits n cols cs → Bytes (rawSheet n cols cs)
 raw-bytes n [] [] h = tt
@@ -80,7 +76,7 @@ raw-bytes n (col ∷ cols) (c ∷ cs) h =
     let xs : List (List ℕ) = map (λ r. r .bytes) (c .slots) in
     bytes-append (rawColumn (layout col) n c) (rawSheet n cols cs)
     (bytes-append (pack (packed n) flags) (standing (layout col) n (c .before) xs) (bytes-pack (packed n) flags)
-    (standing-bytes (layout col) n (c .before) xs (h .0 .below) (all-bytes (columnShape col) (col .options) (c .slots) (h .0 .all))))
+    (standing-bytes (layout col) n (c .before) xs (h .0 .below) (all-bytes (columnShape col) (c .slots) (h .0 .all))))
     (raw-bytes n cols cs (h .1))
 
 cleared-bytes : (n : ℕ) (cols : List Column) (sss : List (List Slot)) → n ≤ maxRows → SheetFits n cols sss → Bytes (clearedSheet n cols sss)

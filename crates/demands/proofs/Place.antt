@@ -1,6 +1,7 @@
 -- The place that a refusal by content names: decode answers the byte of the row that is bad, and 16 the row's length. Assumes nothing.
-use Prim.Native.Nat.{ℕ, suc, _+_, _-_, _<_, _≤_}
+use Prim.Native.Nat.{ℕ, zero, suc, _+_, _-_, _<_, _≤_}
 use mathlib.Core.Path.{_≡_, refl, ap, sym, _∙_, subst}
+use mathlib.Core.Bool.{Bool, true, false, true≢false}
 use mathlib.Core.List.{List, [], _∷_, _++_, append-assoc}
 use native.Mathlib.Omega.{arith}
 use lib.ListN.{length, take, drop, getD, length-append}
@@ -10,12 +11,14 @@ use Rattle.format.specs.declared.Column.{Column}
 use Rattle.format.specs.declared.Refusal.{Refusal}
 use Rattle.format.specs.declared.Refusal.the-variants.{Row}
 use Rattle.format.specs.declared.RowFault.{RowFault}
-use Rattle.format.specs.declared.RowFault.the-variants.{Cut, Lead, NullRest, BoolByte, EndByte, Padding, Extra, TooLong}
+use Rattle.format.specs.declared.RowFault.the-variants.{Cut, Lead, NullRest, BoolByte, EndByte, Padding, Extra, TooLong, Unfolded}
 use Rattle.format.specs.declared.SortOptions.{SortOptions}
-use Rattle.format.specs.Kinds.{Shape, fixed, variable, Slot, columnShape}
+use Rattle.format.specs.Kinds.{Fixed, bool, plain, number, integer, float, parts, Shape, fixed, variable, Slot, width, columnShape}
 use Rattle.format.specs.Lists.{Bytes}
 use Rattle.format.specs.Columns.{columns}
-use Rattle.format.specs.Field.{field}
+use Rattle.format.specs.Field.{directed, field}
+use Rattle.format.specs.Fold.{isFolded}
+use Rattle.format.specs.Key.{unkey}
 use Rattle.format.specs.Fits.{SlotFits}
 use Rattle.format.specs.Limits.{maxSlot}
 use Rattle.format.specs.Row.{row}
@@ -153,6 +156,22 @@ cut-place cols s c place t = omega (arith, length-rest t, go (drop c cols) (t .b
     go [] h = absurd (omega (arith, ap faultNumber (h .0)))
     go (col ∷ rest) h = field-cut (columnShape col) (col .options) (t .rest) (t .p) h
 
+-- a value of no bytes is folded
+some-width : (k : Fixed) (o : SortOptions) (s : List ℕ) → isFolded k (o .fold) (unkey k (directed (o .descending) (take (width k) s))) ≡ false → 0 < width k
+some-width bool o s h = omega arith
+some-width (plain n) o s h = absurd (true≢false h)
+some-width (number n) o s h = absurd (true≢false h)
+some-width (integer n) o s h = absurd (true≢false h)
+some-width (parts ns) o s h = absurd (true≢false h)
+some-width (float (suc n)) o s h = omega arith
+some-width (float zero) o s h = absurd (true≢false (sym (none (o .fold) (o .descending)) ∙ h))
+  where
+    none : (fold d : Bool) → isFolded (float 0) fold (unkey (float 0) (directed d [])) ≡ true
+    none true true = refl
+    none true false = refl
+    none false true = refl
+    none false false = refl
+
 field-byte : (sh : Shape) (o : SortOptions) (f : RowFault) (s : List ℕ) (p : ℕ) → (f ≡ Cut → ⊥) → FieldBad sh o f s p → p < length s
 field-byte sh o Cut s p other h = absurd (other refl)
 field-byte (fixed k) o Lead s p other h = omega (arith, h .0, h .1)
@@ -162,12 +181,14 @@ field-byte (fixed k) o EndByte s p other h = absurd h
 field-byte (fixed k) o Padding s p other h = absurd h
 field-byte (fixed k) o Extra s p other h = absurd h
 field-byte (fixed k) o TooLong s p other h = absurd h
+field-byte (fixed k) o Unfolded s p other h = omega (arith, h .0, h .1, some-width k o (drop 1 s) (h .2))
 field-byte variable o Lead s p other h = omega (arith, h .0, h .1, length-directed (o .descending) s)
 field-byte variable o NullRest s p other h = absurd h
 field-byte variable o BoolByte s p other h = absurd h
 field-byte variable o EndByte s p other h = omega (arith, h .1 .whole, h .2, length-directed (o .descending) s)
 field-byte variable o Padding s p other h = omega (arith, h .2 .before, h .2 .there, length-directed (o .descending) s)
 field-byte variable o Extra s p other h = absurd h
+field-byte variable o Unfolded s p other h = absurd h
 field-byte variable o TooLong s p other h = omega (arith, h .1 .whole, h .2, length-directed (o .descending) s)
 
 pub byte-place : (cols : List Column) (s : List ℕ) (f : RowFault) (c place : ℕ) → (f ≡ Cut → ⊥) → BadAt cols s f c place → place < length s

@@ -1,10 +1,10 @@
--- The sheet of raw columns within the limits passes and has the slots that they are, whatever its null slots hold and whatever is
+-- The sheet of raw columns within the limits passes and has the slots that encode takes of them, whatever its null slots hold and whatever is
 -- before its first ends. Assumes nothing.
-use Prim.Native.Nat.{ℕ, zero, suc, _+_, _-_, _*_, _/_, _%_, _^_, _<_, _≤_}
+use Prim.Native.Nat.{ℕ, zero, suc, _+_, _-_, _*_, _^_, _<_, _≤_}
 use mathlib.Core.Path.{_≡_, refl, ap, ap₂, sym, _∙_}
-use mathlib.Core.Bool.{Bool, true, false, true≢false}
+use mathlib.Core.Bool.{Bool, false, true, true≢false}
 use mathlib.Core.List.{List, [], _∷_, _++_, map, append-assoc}
-use native.Mathlib.Nat.{pow-suc, zero-add}
+use native.Mathlib.Nat.{zero-add}
 use native.Mathlib.Omega.{arith}
 use lib.Dec.{eqb, ltb→lt}
 use lib.ListN.{length, getD, take, drop, length-append, length-map, List·getD-map}
@@ -15,25 +15,26 @@ use Rattle.format.specs.declared.Column.{Column}
 use Rattle.format.specs.Limits.{maxRows, maxSlot}
 use Rattle.format.specs.Lists.{endsFrom, joined, low, lowBytes}
 use Rattle.format.specs.Kinds.{Fixed, bool, plain, number, integer, float, parts, Shape, fixed, variable, Slot, width, columnShape}
-use Rattle.format.specs.Fits.{Fits, SlotFits}
-use Rattle.format.specs.Sheet.{Layout, bits, ended, wide, layoutFor, layout, packed, bitsFault, requiredFault, firstClear, end, endsFault}
-use Rattle.format.specs.Sheet.{valuesFault, valuesBytes, boolByte, valueAt, slotIf, columnFault, columnBytes, slotAt, columnSlots}
-use Rattle.format.specs.Sheet.{sheetFaultFrom, sheetFault, sheetSlots}
+use Rattle.format.specs.Fold.{foldedSlot}
+use Rattle.format.specs.Fits.{Fits, SlotFits, AllSlots}
+use Rattle.format.specs.Sheet.{Layout, bits, ended, wide, layoutFor, layout, packed, end, endsFault, valuesFault, valuesBytes, boolByte}
+use Rattle.format.specs.Sheet.{valueAt, slotIf, columnFault, columnBytes, slotAt, columnSlots, sheetFaultFrom, sheetFault, sheetSlots, bitsFault, requiredFault, firstClear}
 use Rattle.format.specs.Passed.{Step}
 use Rattle.format.specs.Cleared.{pack}
 use Rattle.bits.proofs.Bits.{length-pack, bit-before, bits-pass}
 use Rattle.bits.proofs.Clear.{Set, clear-none}
 use Rattle.basics.proofs.Lists.{Every, every-at, each-is, length-joined, long-at, endAt, length-ends, end-next, end-last, end-most, cut-at}
+use Rattle.basics.proofs.LowBytes.{low-lowBytes}
 use Rattle.basics.proofs.Checks.{pass-enough, pass-both}
 use Rattle.laws.proofs.Room.{all-four}
-use Rattle.demands.specs.Raw.{Raw, RawColumn, slotOf, slotsOf, standing, rawColumn, rawSheet, AllRaw, EndFits, ColumnFits, RawFits}
+use Rattle.demands.specs.Raw.{Raw, RawColumn, slotOf, takenFrom, standing, rawColumn, rawSheet, AllRaw, EndFits, ColumnFits, RawFits}
 
 -- ---- the values of a column
 
 -- the bytes of its raw slots fit
-pub raw-fits : (sh : Shape) (o : SortOptions) (rs : List Raw) → AllRaw sh o rs → Every (Fits maxSlot sh) (map (λ r. r .bytes) rs)
-raw-fits sh o [] h = tt
-raw-fits sh o (r ∷ rs) h = (h .0, raw-fits sh o rs (h .2))
+pub raw-fits : (sh : Shape) (rs : List Raw) → AllRaw sh rs → Every (Fits maxSlot sh false) (map (λ r. r .bytes) rs)
+raw-fits sh [] h = tt
+raw-fits sh (r ∷ rs) h = (h .0, raw-fits sh rs (h .1))
 
 -- values before t: nothing is refused, they take their bytes, and each is read back
 record Reads (ly : Layout) (n c : ℕ) (a : List ℕ) (xs : List (List ℕ)) (t : List ℕ) : Type 0 where
@@ -45,7 +46,7 @@ record Reads (ly : Layout) (n c : ℕ) (a : List ℕ) (xs : List (List ℕ)) (t 
 abbrev isSet : List ℕ → Bool
 isSet x = eqb (getD x 0 0) 1
 
-bool-back : (x : List ℕ) → Fits maxSlot (fixed bool) x → boolByte (isSet x) ≡ x
+bool-back : (x : List ℕ) → Fits maxSlot (fixed bool) false x → boolByte (isSet x) ≡ x
 bool-back [] h = absurd (h .2)
 bool-back (b ∷ x) h = go b x (ltb→lt b 2 (h .2)) (h .1)
   where
@@ -55,21 +56,21 @@ bool-back (b ∷ x) h = go b x (ltb→lt b 2 (h .2)) (h .1)
     go (suc (suc b)) [] l e = absurd (omega arith)
     go b (y ∷ x) l e = absurd (omega arith)
 
-bools-read : (n c : ℕ) (a : List ℕ) (xs : List (List ℕ)) (t : List ℕ) → length xs ≡ n → Every (Fits maxSlot (fixed bool)) xs → Reads bits n c a xs t
+bools-read : (n c : ℕ) (a : List ℕ) (xs : List (List ℕ)) (t : List ℕ) → length xs ≡ n → Every (Fits maxSlot (fixed bool) false) xs → Reads bits n c a xs t
 bools-read n c a xs t e h = record {
   passes = bits-pass n c (map isSet xs) t (length-map xs isSet ∙ e);
   bytes = sym (length-pack (packed n) (map isSet xs));
   back = λ i l.
       ap boolByte (bit-before (packed n) (map isSet xs) t i (omega arith) ∙ List·getD-map isSet xs i [])
-      ∙ bool-back (getD xs i []) (every-at (Fits maxSlot (fixed bool)) xs [] i h (omega arith));
+      ∙ bool-back (getD xs i []) (every-at (Fits maxSlot (fixed bool) false) xs [] i h (omega arith));
 }
 
 -- values of w bytes
-all-long : (k : Fixed) (xs : List (List ℕ)) → Every (Fits maxSlot (fixed k)) xs → Every (λ x. length x ≡ width k) xs
+all-long : (k : Fixed) (xs : List (List ℕ)) → Every (Fits maxSlot (fixed k) false) xs → Every (λ x. length x ≡ width k) xs
 all-long k [] h = tt
 all-long k (x ∷ xs) h = (h .0 .1, all-long k xs (h .1))
 
-wide-read : (k : Fixed) (n c : ℕ) (a : List ℕ) (xs : List (List ℕ)) (t : List ℕ) → length xs ≡ n → Every (Fits maxSlot (fixed k)) xs
+wide-read : (k : Fixed) (n c : ℕ) (a : List ℕ) (xs : List (List ℕ)) (t : List ℕ) → length xs ≡ n → Every (Fits maxSlot (fixed k) false) xs
     → Reads (wide (width k)) n c a xs t
 wide-read k n c a xs t e h =
     let len : length (joined xs) ≡ n * width k = length-joined (width k) xs (all-long k xs h) ∙ ap (λ (m : ℕ). m * width k) e in
@@ -79,13 +80,8 @@ wide-read k n c a xs t e h =
       back = λ i l. long-at (width k) xs t i [] (all-long k xs h) (omega arith);
     }
 
--- variable bytes: a number that n bytes can spell is read back
-low-lowBytes : (n x : ℕ) → x < 256 ^ n → low (lowBytes n x) ≡ x
-low-lowBytes zero x h = omega arith
-low-lowBytes (suc n) x h = ap (λ (y : ℕ). x % 256 + 256 * y) (low-lowBytes n (x / 256) (omega (arith, pow-suc 256 n))) ∙ omega arith
-
--- what n slots within the limit come to
-pub data-short : (xs : List (List ℕ)) → Every (Fits maxSlot variable) xs → length (joined xs) ≤ length xs * maxSlot
+-- variable bytes: what n slots within the limit come to
+pub data-short : (xs : List (List ℕ)) → Every (Fits maxSlot variable false) xs → length (joined xs) ≤ length xs * maxSlot
 data-short [] h = omega arith
 data-short (x ∷ xs) h = omega (arith, length-append x (joined xs), data-short xs (h .1), h .0 .1)
 
@@ -97,7 +93,7 @@ ends-pass c s i (suc k) h =
     (pass-enough maxSlot (end s (suc i) - end s i) _ _ (now .short) (ends-pass c s (suc i) k (λ j l m. h j (omega arith) (omega arith))))
 
 module _ (n c : ℕ) (a : List ℕ) (xs : List (List ℕ)) (t : List ℕ) (many : length xs ≡ n) (fits : length a + length (joined xs) < 256 ^ 4)
-    (h : Every (Fits maxSlot variable) xs) where
+    (h : Every (Fits maxSlot variable false) xs) where
   abbrev from : ℕ
   from = length a
 
@@ -127,7 +123,7 @@ module _ (n c : ℕ) (a : List ℕ) (xs : List (List ℕ)) (t : List ℕ) (many 
 
   step-is : (i : ℕ) → i < n → Step s i
   step-is i l =
-      let short = every-at (Fits maxSlot variable) xs [] i h (omega arith) .1 in
+      let short = every-at (Fits maxSlot variable false) xs [] i h (omega arith) .1 in
       let d = end-next from xs i (omega arith) in
       let a = end-is i (omega arith) in
       let b = end-is (suc i) l in
@@ -161,7 +157,7 @@ module _ (n c : ℕ) (a : List ℕ) (xs : List (List ℕ)) (t : List ℕ) (many 
         ∙ cut-past i l;
   }
 
-values-read : (sh : Shape) (n c : ℕ) (a : List ℕ) (xs : List (List ℕ)) (t : List ℕ) → length xs ≡ n → Every (Fits maxSlot sh) xs
+values-read : (sh : Shape) (n c : ℕ) (a : List ℕ) (xs : List (List ℕ)) (t : List ℕ) → length xs ≡ n → Every (Fits maxSlot sh false) xs
     → EndFits (layoutFor sh) a xs → Reads (layoutFor sh) n c a xs t
 values-read (fixed bool) n c a xs t e h fits = bools-read n c a xs t e h
 values-read (fixed (plain w)) n c a xs t e h fits = wide-read (plain w) n c a xs t e h
@@ -171,16 +167,16 @@ values-read (fixed (float w)) n c a xs t e h fits = wide-read (float w) n c a xs
 values-read (fixed (parts ws)) n c a xs t e h fits = wide-read (parts ws) n c a xs t e h
 values-read variable n c a xs t e h fits = ended-read n c a xs t e fits h
 
--- ---- the validity of a required column: every raw slot that fits is valid
-valid-asked : (sh : Shape) (o : SortOptions) (b : Bool) (v : List ℕ) → SlotFits maxSlot sh o (slotIf b v) → o .required ≡ true → b ≡ true
+-- ---- the validity of a required column: every slot that fits is valid
+valid-asked : (sh : Shape) (o : SortOptions) (b : Bool) (v : List ℕ) → SlotFits maxSlot sh o (foldedSlot sh o (slotIf b v)) → o .required ≡ true → b ≡ true
 valid-asked sh o true v h q = refl
 valid-asked sh o false v h q = absurd (true≢false (sym q ∙ h))
 
-all-valid : (sh : Shape) (o : SortOptions) (rs : List Raw) → AllRaw sh o rs → o .required ≡ true → (i : ℕ) → i < length rs
+all-valid : (sh : Shape) (o : SortOptions) (rs : List Raw) → AllSlots sh o (map (foldedSlot sh o) (map slotOf rs)) → o .required ≡ true → (i : ℕ) → i < length rs
     → getD (map (λ r. r .valid) rs) i false ≡ true
 all-valid sh o [] h q i l = absurd (omega arith)
-all-valid sh o (r ∷ rs) h q zero l = valid-asked sh o (r .valid) (r .bytes) (h .1) q
-all-valid sh o (r ∷ rs) h q (suc i) l = all-valid sh o rs (h .2) q i (omega arith)
+all-valid sh o (r ∷ rs) h q zero l = valid-asked sh o (r .valid) (r .bytes) (h .0) q
+all-valid sh o (r ∷ rs) h q (suc i) l = all-valid sh o rs (h .1) q i (omega arith)
 
 -- and so it is not refused
 none-missing : (q : Bool) (n c : ℕ) (s : List ℕ) → (q ≡ true → Set s 0 n) → requiredFault q n c s ≡ Pass
@@ -205,7 +201,7 @@ module _ (col : Column) (n c : ℕ) (raw : RawColumn) (t : List ℕ) (h : Column
   xs = map (λ r. r .bytes) rs
 
   r : Reads (layout col) n c (raw .before) (map (λ r. r .bytes) (raw .slots)) t
-  r = values-read (columnShape col) n c (raw .before) xs t (length-map rs _ ∙ e) (raw-fits (columnShape col) (col .options) rs (h .all)) (h .end-fits)
+  r = values-read (columnShape col) n c (raw .before) xs t (length-map rs _ ∙ e) (raw-fits (columnShape col) rs (h .all)) (h .end-fits)
 
   abbrev p : List ℕ
   p = pack (packed n) flags
@@ -222,14 +218,17 @@ module _ (col : Column) (n c : ℕ) (raw : RawColumn) (t : List ℕ) (h : Column
   column-bytes : columnBytes ly n (rawColumn ly n raw ++ t) ≡ length (rawColumn ly n raw)
   column-bytes = rw split (rw rest (omega (arith, r .bytes, length-append p (standing ly n (raw .before) xs), length-pack (packed n) flags)))
 
+  abbrev required : Bool
+  required = col .options .required
+
   all-set : col .options .required ≡ true → Set (p ++ q) 0 n
-  all-set asked i l m = bit-before (packed n) flags q i (omega arith) ∙ all-valid (columnShape col) (col .options) rs (h .all) asked i (omega arith)
+  all-set asked i l m = bit-before (packed n) flags q i (omega arith) ∙ all-valid (columnShape col) (col .options) rs (h .fit) asked i (omega (arith, e))
 
   column-passes : columnFault (col .options .required) ly n c (rawColumn ly n raw ++ t) ≡ Pass
   column-passes =
       rw split
       (pass-both (bitsFault n c (p ++ q)) _ (bits-pass n c flags q (length-map rs _ ∙ e))
-      (pass-both (requiredFault (col .options .required) n c (p ++ q)) _ (none-missing (col .options .required) n c (p ++ q) all-set) (rw rest (r .passes))))
+      (pass-both (requiredFault required n c (p ++ q)) _ (none-missing required n c (p ++ q) all-set) (rw rest (r .passes))))
 
   -- past the column
   column-past : drop (columnBytes ly n (rawColumn ly n raw ++ t)) (rawColumn ly n raw ++ t) ≡ t
@@ -254,19 +253,18 @@ passes-from n c at (col ∷ cols) [] h = absurd h
 passes-from n c at (col ∷ cols) (x ∷ cs) h =
     let t : List ℕ = rawSheet n cols cs in
     let k : ℕ = columnBytes (layout col) n (rawColumn (layout col) n x ++ t) in
-    pass-both (columnFault (col .options .required) (layout col) n c (rawColumn (layout col) n x ++ t)) _
-    (column-passes col n c x t (h .0))
+    pass-both (columnFault (col .options .required) (layout col) n c (rawColumn (layout col) n x ++ t)) _ (column-passes col n c x t (h .0))
     (ap (sheetFaultFrom n (suc c) (at + k) cols) (column-past col n c x t (h .0)) ∙ passes-from n (suc c) (at + k) cols cs (h .1))
 
 pub raw-passes : (n : ℕ) (cols : List Column) (cs : List RawColumn) → RawFits n cols cs → sheetFault n cols (rawSheet n cols cs) ≡ Pass
 unfolding sheetFault
 raw-passes n cols cs h = passes-from n 0 0 cols cs h
 
-pub raw-slots : (n : ℕ) (cols : List Column) (cs : List RawColumn) → RawFits n cols cs → sheetSlots n cols (rawSheet n cols cs) ≡ map slotsOf cs
+pub raw-slots : (n : ℕ) (cols : List Column) (cs : List RawColumn) → RawFits n cols cs → sheetSlots n cols (rawSheet n cols cs) ≡ takenFrom cols cs
 raw-slots n [] [] h = refl
 raw-slots n [] (x ∷ cs) h = absurd h
 raw-slots n (col ∷ cols) [] h = absurd h
 raw-slots n (col ∷ cols) (x ∷ cs) h =
     let t : List ℕ = rawSheet n cols cs in
-    ap₂ {C = List (List Slot)} (λ x y. x ∷ y) (column-slots col n 0 x t (h .0))
+    ap₂ {C = List (List Slot)} (λ x y. x ∷ y) (ap (map (foldedSlot (columnShape col) (col .options))) (column-slots col n 0 x t (h .0)))
     (ap (sheetSlots n cols) (column-past col n 0 x t (h .0)) ∙ raw-slots n cols cs (h .1))

@@ -5,20 +5,20 @@ use mathlib.Core.Path.{_≡_, refl, ap, ap₂, sym, subst, _∙_}
 use mathlib.Core.Bool.{Bool, false, cond}
 use mathlib.Core.Logic.{_⊎_, inl, inr}
 use mathlib.Core.List.{List, [], _∷_, _++_, map}
-use native.Mathlib.Nat.{mod-lt, pow-suc, zero-add}
+use native.Mathlib.Nat.{mod-lt, zero-add}
 use native.Mathlib.Omega.{arith}
 use lib.Dec.{eqb, lit<}
 use lib.ListN.{length, getD, take, drop, length-append, length-take, length-drop, take-append-drop, List·getD-eq-default}
 use lib.Pow.{shr-shr}
 use lib.Seq.{length-take-le, take-add, take-all, drop-drop, ext-getD}
 use Rattle.format.specs.declared.Check.the-variants.{Pass}
-use Rattle.format.specs.declared.SortOptions.{SortOptions}
 use Rattle.format.specs.declared.Column.{Column}
 use Rattle.format.specs.Limits.{maxSlot}
 use Rattle.format.specs.Lists.{Bytes, each, endsFrom, joined, low, lowBytes}
-use Rattle.format.specs.Kinds.{Shape, columnShape}
+use Rattle.format.specs.Kinds.{Shape, Slot, columnShape}
+use Rattle.format.specs.Fold.{foldedSlot}
 use Rattle.format.specs.Sheet.{Layout, bits, ended, wide, layout, packed, bit, anyBit, spareSet, bitsFault, end, variableFault, valuesFault, valuesBytes, valueAt, columnFault, columnBytes, sheetFaultFrom, sheetFault}
-use Rattle.format.specs.Fits.{Fits, SlotFits}
+use Rattle.format.specs.Fits.{Fits, AllSlots}
 use Rattle.format.specs.Cleared.{pack}
 use Rattle.format.specs.Entries.{rowBytes, cutRows}
 use Rattle.format.specs.Passed.{Ended}
@@ -26,11 +26,13 @@ use Rattle.bits.proofs.Bits.{length-pack, bit-pack, bit-take}
 use Rattle.bits.proofs.Flags.{flag-eq}
 use Rattle.bits.proofs.Nulls.{bits-passed}
 use Rattle.basics.proofs.Bytes.{bytes-take, bytes-drop}
+use Rattle.basics.proofs.LowBytes.{lowBytes-low, low-small}
+use Rattle.basics.proofs.Sorts.{foldable}
 use Rattle.basics.proofs.Checks.{enough, both-pass}
 use Rattle.basics.proofs.Compare.{choose}
 use Rattle.basics.proofs.Lists.{each-at, each-same, length-each, map-each}
 use Rattle.laws.proofs.Parsed.{or-false}
-use Rattle.laws.proofs.Sheets.{last-end, variable-passed, column-passed, value-fits, slot-fits}
+use Rattle.laws.proofs.Sheets.{last-end, variable-passed, column-passed, value-fits, column-fits}
 use Rattle.demands.specs.Raw.{Raw, slotOf, standing, rawColumn, rawSheet, AllRaw, EndFits, ColumnFits, RawFits, beforeFirst, rawAt, columnOf, rawColumns}
 use Rattle.demands.proofs.CutRows.{joined-from, ends-from}
 use Rattle.demands.proofs.OutBytes.{bytes-pack}
@@ -123,19 +125,6 @@ parts-back w n s = parts-from w 0 n s ∙ ap (λ (m : ℕ). take (n * w) (drop m
 
 -- ---- variable bytes
 
--- a number is spelled by the bytes that it was read from
-low-back : (x : List ℕ) → Bytes x → lowBytes (length x) (low x) ≡ x
-low-back [] b = refl
-low-back (y ∷ x) b =
-    let now : (y + 256 * low x) % 256 ≡ y = omega (arith, b .0) in
-    let rest : (y + 256 * low x) / 256 ≡ low x = omega (arith, b .0) in
-    ap₂ {C = List ℕ} (λ (a z : ℕ). a ∷ lowBytes (length x) z) now rest ∙ ap (λ (z : List ℕ). y ∷ z) (low-back x (b .1))
-
--- and is one of as many bytes
-low-small : (x : List ℕ) → Bytes x → low x < 256 ^ length x
-low-small [] b = omega arith
-low-small (y ∷ x) b = omega (arith, b .0, low-small x (b .1), pow-suc 256 (length x))
-
 module _ (n c : ℕ) (s : List ℕ) (b : Bytes s) (e : variableFault n c s ≡ Pass) where
   abbrev between : List ℕ
   between = drop (4 * suc n) s
@@ -197,7 +186,7 @@ module _ (n c : ℕ) (s : List ℕ) (b : Bytes s) (e : variableFault n c s ≡ P
       let x : List ℕ = take 4 (drop (i * 4) s) in
       ap (λ (j : ℕ). lowBytes 4 (low (take 4 (drop j s)))) p
       ∙ ap (λ (k : ℕ). lowBytes k (low x)) (sym (four i l))
-      ∙ low-back x (bytes-take 4 (drop (i * 4) s) (bytes-drop (i * 4) s b))
+      ∙ lowBytes-low x (bytes-take 4 (drop (i * 4) s) (bytes-drop (i * 4) s b))
 
   -- the last end is one of four bytes, and so is what the column holds
   past-small : length before + length (joined values) < 256 ^ 4
@@ -243,12 +232,9 @@ column-back q ly n c s b e =
     (ap (standing ly n (beforeFirst ly n rest)) (map-each (λ (r : Raw). r .bytes) 0 n (rawAt ly n s)) ∙ values-back ly n c rest (bytes-drop (packed n) s b) (p .1))
     ∙ sym (take-add (packed n) (valuesBytes ly n rest) s)
 
-raws-fit : (sh : Shape) (o : SortOptions) (i k : ℕ) (f : ℕ → Raw)
-    → ((j : ℕ) → i ≤ j → j < i + k → Fits maxSlot sh (f j .bytes) × SlotFits maxSlot sh o (slotOf (f j))) → AllRaw sh o (each i k f)
-raws-fit sh o i zero f h = tt
-raws-fit sh o i (suc k) f h =
-    let now = h i (omega arith) (omega arith) in
-    (now .0, now .1, raws-fit sh o (suc i) k f (λ j a b. h j (omega arith) (omega arith)))
+raws-fit : (sh : Shape) (i k : ℕ) (f : ℕ → Raw) → ((j : ℕ) → i ≤ j → j < i + k → Fits maxSlot sh false (f j .bytes)) → AllRaw sh (each i k f)
+raws-fit sh i zero f h = tt
+raws-fit sh i (suc k) f h = (h i (omega arith) (omega arith), raws-fit sh (suc i) k f (λ j a b. h j (omega arith) (omega arith)))
 
 before-bytes : (ly : Layout) (n : ℕ) (s : List ℕ) → Bytes s → Bytes (beforeFirst ly n s)
 before-bytes bits n s b = tt
@@ -270,26 +256,24 @@ back-from n c at [] s b e = (empty s (enough 0 (length s) _ _ e .0), tt)
     empty (x ∷ s) l = absurd (omega arith)
 back-from n c at (col ∷ cols) s b e =
     let k : ℕ = columnBytes (layout col) n s in
-    let q : Bool = col .options .required in
-    let p = both-pass (columnFault q (layout col) n c s) _ e in
+    let p = both-pass (columnFault (col .options .required) (layout col) n c s) _ e in
     let rest = back-from n (suc c) (at + k) cols (drop k s) (bytes-drop k s b) (p .1) in (
-      ap₂ (λ (x y : List ℕ). x ++ y) (column-back q (layout col) n c s b (p .0)) (rest .0) ∙ take-append-drop k s,
-      (column-fits (p .0), rest .1),
+      ap₂ (λ (x y : List ℕ). x ++ y) (column-back (col .options .required) (layout col) n c s b (p .0)) (rest .0) ∙ take-append-drop k s,
+      (whole (p .0), rest .1),
     )
   where
     v : List ℕ
     v = drop (packed n) s
 
-    column-fits : columnFault (col .options .required) (layout col) n c s ≡ Pass → ColumnFits n col (columnOf (layout col) n s)
-    column-fits p =
-        let passed = column-passed (col .options .required) (layout col) n c s p .1 in
+    whole : columnFault (col .options .required) (layout col) n c s ≡ Pass → ColumnFits n col (columnOf (layout col) n s)
+    whole q =
+        let passed = column-passed (col .options .required) (layout col) n c s q .1 in
         let vb = bytes-drop (packed n) s b in
         record {
           many = length-each 0 n (rawAt (layout col) n s);
-          all = raws-fit (columnShape col) (col .options) 0 n (rawAt (layout col) n s) (λ j x y. (
-            value-fits (columnShape col) n c v vb passed j (omega arith),
-            slot-fits (columnShape col) (col .options) n c s b p j (omega arith),
-          ));
+          all = raws-fit (columnShape col) 0 n (rawAt (layout col) n s) (λ j x y. value-fits (columnShape col) n c v vb passed j (omega arith));
+          fit = subst (λ (ss : List Slot). AllSlots (columnShape col) (col .options) (map (foldedSlot (columnShape col) (col .options)) ss))
+              (sym (map-each slotOf 0 n (rawAt (layout col) n s))) (column-fits (columnShape col) (col .options) n c s (foldable (col .kind)) b q);
           below = before-bytes (layout col) n v vb;
           end-fits = subst (EndFits (layout col) (beforeFirst (layout col) n v)) (sym (map-each (λ (r : Raw). r .bytes) 0 n (rawAt (layout col) n s)))
               (end-fits (layout col) n c v vb passed);

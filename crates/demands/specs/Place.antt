@@ -1,4 +1,4 @@
--- Where in a row a refusal points: the byte that each of 16 to 23 names, said of the row's bytes and not of how they are read.
+-- Where in a row a refusal points: the byte that each of 16 to 23 and 28 names, said of the row's bytes and not of how they are read.
 use Prim.Native.Nat.{ℕ, zero, suc, _+_, _<_, _≤_}
 use mathlib.Core.Path.{_≡_}
 use mathlib.Core.Bool.{false, cond}
@@ -7,11 +7,13 @@ use lib.Dec.{eqb}
 use lib.ListN.{length, getD, take, drop}
 use Rattle.format.specs.declared.Column.{Column}
 use Rattle.format.specs.declared.RowFault.{RowFault}
-use Rattle.format.specs.declared.RowFault.the-variants.{Cut, Lead, NullRest, BoolByte, EndByte, Padding, Extra, TooLong}
+use Rattle.format.specs.declared.RowFault.the-variants.{Cut, Lead, NullRest, BoolByte, EndByte, Padding, Extra, TooLong, Unfolded}
 use Rattle.format.specs.declared.SortOptions.{SortOptions}
 use Rattle.format.specs.Limits.{maxSlot}
 use Rattle.format.specs.Kinds.{Fixed, bool, Shape, fixed, variable, Slot, width, columnShape}
 use Rattle.format.specs.Field.{directed, blockSize}
+use Rattle.format.specs.Fold.{isFolded}
+use Rattle.format.specs.Key.{unkey}
 use Rattle.format.specs.Read.{nullLead}
 use Rattle.format.specs.Fits.{RowFits}
 use Rattle.format.specs.Row.{row}
@@ -34,6 +36,8 @@ FixedBad k o EndByte s p = ⊥
 FixedBad k o Padding s p = ⊥
 FixedBad k o Extra s p = ⊥
 FixedBad k o TooLong s p = ⊥
+FixedBad k o Unfolded s p =
+    (p ≡ 1) × (width k < length s) × (isFolded k (o .fold) (unkey k (directed (o .descending) (take (width k) (drop 1 s)))) ≡ false)
 
 -- ---- variable bytes: the places of their blocks
 
@@ -73,6 +77,7 @@ VariableBad limit BoolByte s p = ⊥
 VariableBad limit EndByte s p = (k : ℕ) × Reached s k × (p ≡ endPlace k) × BadEnd (blockSize k) (getD s p 0)
 VariableBad limit Padding s p = (k : ℕ) × Reached s k × FirstBad s (blockPlace k + getD s (endPlace k) 0) (endPlace k) p
 VariableBad limit Extra s p = ⊥
+VariableBad limit Unfolded s p = ⊥
 VariableBad limit TooLong s p = (k : ℕ) × Reached s k × (p ≡ endPlace k) × (limit < dataBefore k + dataIn (blockSize k) (getD s p 0))
 
 -- ---- rows

@@ -6,13 +6,13 @@ use mathlib.Core.Bool.{Bool, false}
 use mathlib.Core.List.{List, [], _∷_, _++_, map}
 use lib.Dec.{eqb}
 use lib.ListN.{length, getD, take, drop, replicate}
-use Rattle.format.specs.declared.SortOptions.{SortOptions}
 use Rattle.format.specs.declared.Column.{Column}
 use Rattle.format.specs.Limits.{maxSlot}
 use Rattle.format.specs.Lists.{Bytes, each, endsFrom, joined, lowBytes}
 use Rattle.format.specs.Kinds.{Shape, Slot, columnShape}
-use Rattle.format.specs.Fits.{Fits, SlotFits}
-use Rattle.format.specs.Sheet.{Layout, bits, ended, wide, layout, packed, bit, end, boolByte, valueAt, slotIf, columnBytes}
+use Rattle.format.specs.Fold.{foldedSlot}
+use Rattle.format.specs.Fits.{Fits, AllSlots}
+use Rattle.format.specs.Sheet.{Layout, bits, ended, wide, layout, packed, bit, end, boolByte, valueAt, slotIf, slotAt, columnBytes}
 use Rattle.format.specs.Cleared.{pack}
 
 -- a slot as it stands in the sheet: its validity bit, and its bytes whatever that bit says
@@ -29,9 +29,15 @@ pub record RawColumn : Type 0 where
   pub before : List ℕ
   pub slots : List Raw
 
--- the slots that they are
-abbrev pub slotsOf : RawColumn → List Slot
-slotsOf c = map slotOf (c .slots)
+-- the slots that encode takes of it: those that its raw slots are, folded where the column folds
+abbrev pub takenOf : Column → RawColumn → List Slot
+takenOf col c = map (foldedSlot (columnShape col) (col .options)) (map slotOf (c .slots))
+
+-- and of all columns
+abbrev pub takenFrom : List Column → List RawColumn → List (List Slot)
+takenFrom [] cs = []
+takenFrom (col ∷ cols) [] = []
+takenFrom (col ∷ cols) (c ∷ cs) = takenOf col c ∷ takenFrom cols cs
 
 -- ---- the sheet of raw columns
 
@@ -52,10 +58,10 @@ rawSheet n (col ∷ cols) (c ∷ cs) = rawColumn (layout col) n c ++ rawSheet n 
 
 -- ---- within the limits
 
--- whatever stands in a slot is of its column's shape, in null slots too; and the slot fits, so that none is null in a required column
-abbrev pub AllRaw : Shape → SortOptions → List Raw → Type 0
-AllRaw sh o [] = Unit {0}
-AllRaw sh o (r ∷ rs) = Fits maxSlot sh (r .bytes) × SlotFits maxSlot sh o (slotOf r) × AllRaw sh o rs
+-- whatever stands in a slot is of its column's shape, in null slots too
+abbrev pub AllRaw : Shape → List Raw → Type 0
+AllRaw sh [] = Unit {0}
+AllRaw sh (r ∷ rs) = Fits maxSlot sh false (r .bytes) × AllRaw sh rs
 
 -- the last end is a number of four bytes
 abbrev pub EndFits : Layout → List ℕ → List (List ℕ) → Type 0
@@ -63,10 +69,11 @@ EndFits bits a xs = Unit {0}
 EndFits (wide w) a xs = Unit {0}
 EndFits ended a xs = length a + length (joined xs) < 256 ^ 4
 
--- n raw slots to a column
+-- n raw slots to a column; the slots that encode takes fit, so that none is null in a required column
 pub record ColumnFits (n : ℕ) (col : Column) (c : RawColumn) : Type 0 where
   pub many : length (c .slots) ≡ n
-  pub all : AllRaw (columnShape col) (col .options) (c .slots)
+  pub all : AllRaw (columnShape col) (c .slots)
+  pub fit : AllSlots (columnShape col) (col .options) (takenOf col c)
   pub below : Bytes (c .before)
   pub end-fits : EndFits (layout col) (c .before) (map (λ r. r .bytes) (c .slots))
 
@@ -132,3 +139,14 @@ pub record ClearColumn (ly : Layout) (n : ℕ) (s : List ℕ) : Type 0 where
 abbrev pub IsCleared : ℕ → List Column → List ℕ → Type 0
 IsCleared n [] s = Unit {0}
 IsCleared n (col ∷ cols) s = ClearColumn (layout col) n s × IsCleared n cols (drop (columnBytes (layout col) n s) s)
+
+-- ---- folded
+
+-- encode takes every slot of a column in front of s as it stands
+abbrev pub FoldedColumn : Column → ℕ → List ℕ → Type 0
+FoldedColumn col n s = (i : ℕ) → i < n → foldedSlot (columnShape col) (col .options) (slotAt (layout col) n s i) ≡ slotAt (layout col) n s i
+
+-- and every one of a sheet: no float that folding would change stands in a column that folds
+abbrev pub IsFolded : ℕ → List Column → List ℕ → Type 0
+IsFolded n [] s = Unit {0}
+IsFolded n (col ∷ cols) s = FoldedColumn col n s × IsFolded n cols (drop (columnBytes (layout col) n s) s)

@@ -17,7 +17,7 @@ use Rattle.format.specs.Field.{field}
 
 -- descending, nulls first
 abbrev options : Bool → Bool → SortOptions
-options d n = record { descending = d; «nulls_first» = n; required = false }
+options d n = record { descending = d; «nulls_first» = n; required = false; fold = false }
 
 -- the field of a slot, nulls first; ascending and descending
 abbrev up : Kind → Slot → List ℕ

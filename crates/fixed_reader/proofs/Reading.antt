@@ -14,6 +14,7 @@ use Rattle.format.specs.declared.FieldRead.the-variants.{Null, Value, Fault}
 use Rattle.format.specs.declared.RowFault.the-variants.{Cut, Lead, NullRest}
 use Rattle.format.specs.Kinds.{Fixed, bool, plain, number, integer, float, parts, width}
 use Rattle.format.specs.Key.{allowed}
+use Rattle.format.specs.Fold.{folds}
 use Rattle.format.specs.Field.{directed}
 use Rattle.format.specs.Read.{fault, fieldRead, nullLead, readBytes, readFixed, readKey, readNull}
 use Rattle.laws.proofs.Directed.{length-directed}
@@ -71,17 +72,18 @@ module _ (k : Fixed) (o : SortOptions) where
   lead-bad (b ∷ s) h n e = rw (n, ne-eqb b 1 e)
 
   pub lead-value : (s : List ℕ) → 0 < length s → nullLead o (getD s 0 0) ≡ false → getD s 0 0 ≡ 1
-      → readFixed k o s ≡ readBytes k (o .descending) (drop 1 s)
+      → readFixed k o s ≡ readBytes k o (drop 1 s)
   lead-value [] h n e = absurd (omega arith)
   lead-value (b ∷ s) h n e = rw (n, eq-eqb b 1 e)
 
 -- ---- after 01
 
-pub bytes-cut : (k : Fixed) (d : Bool) (s : List ℕ) → length s < width k → readBytes k d s ≡ fault Cut 0
-bytes-cut k d s h = rw (lt-ltb (length s) (width k) h)
+pub bytes-cut : (k : Fixed) (o : SortOptions) (s : List ℕ) → length s < width k → readBytes k o s ≡ fault Cut 0
+bytes-cut k o s h = rw (lt-ltb (length s) (width k) h)
 
-pub bytes-whole : (k : Fixed) (d : Bool) (s : List ℕ) → width k ≤ length s → readBytes k d s ≡ readKey k (directed d (take (width k) s)) (drop (width k) s)
-bytes-whole k d s h = rw (le-ltb (length s) (width k) h)
+pub bytes-whole : (k : Fixed) (o : SortOptions) (s : List ℕ) → width k ≤ length s
+    → readBytes k o s ≡ readKey k (o .fold) (directed (o .descending) (take (width k) s)) (drop (width k) s)
+bytes-whole k o s h = rw (le-ltb (length s) (width k) h)
 
 -- all value bytes are allowed but a bool's
 pub wide-allowed : (k : Fixed) (f : List ℕ) → (k ≡ bool → ⊥) → allowed k f ≡ true
@@ -92,9 +94,9 @@ wide-allowed (integer n) f h = refl
 wide-allowed (float n) f h = refl
 wide-allowed (parts ns) f h = refl
 
--- ---- a field that is not a bool's, as `read` answers it
+-- ---- a field that is not a bool's nor of a folding float, as `read` answers it
 
-module _ (row : List ℕ) (w : ℕ) (o : SortOptions) (k : Fixed) (f : WideShape w k) where
+module _ (row : List ℕ) (w : ℕ) (o : SortOptions) (k : Fixed) (f : WideShape w k) (free : folds k (o .fold) ≡ false) where
   abbrev answer : FieldRead
   answer = fieldRead row (readFixed k o row)
 
@@ -109,7 +111,7 @@ module _ (row : List ℕ) (w : ℕ) (o : SortOptions) (k : Fixed) (f : WideShape
 
   module _ (h : 0 < length row) (n : nullLead o (getD row 0 0) ≡ false) (e : getD row 0 0 ≡ 1) where
     pub read-cut : length row - 1 < w → Fault Cut 0 ≡ answer
-    read-cut l = rw (lead-value k o row h n e, bytes-cut k (o .descending) (drop 1 row) (omega (arith, length-drop 1 row, f .bytes)))
+    read-cut l = rw (lead-value k o row h n e, bytes-cut k o (drop 1 row) (omega (arith, length-drop 1 row, f .bytes)))
 
     module _ (l : w ≤ length row - 1) where
       enough : width k ≤ length (drop 1 row)
@@ -123,6 +125,6 @@ module _ (row : List ℕ) (w : ℕ) (o : SortOptions) (k : Fixed) (f : WideShape
 
       pub read-whole : Value (1 + w) w ≡ answer
       read-whole =
-          rw (lead-value k o row h n e, bytes-whole k (o .descending) (drop 1 row) enough, wide-allowed k value (f .other))
+          rw (lead-value k o row h n e, bytes-whole k o (drop 1 row) enough, wide-allowed k value (f .other), free)
           (ap₂ Value (omega (arith, f .bytes, length-drop 1 row, length-drop (width k) (drop 1 row)))
           (omega (arith, f .bytes, length-unkey k value value-long)))

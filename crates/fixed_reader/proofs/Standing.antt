@@ -12,9 +12,10 @@ use borrow.Author.Tests.{ltb-false, eq-eqb, ne-eqb, eqb-true, eqb-false}
 use Rattle.format.specs.declared.SortOptions.{SortOptions}
 use Rattle.format.specs.declared.Kind.{Kind}
 use Rattle.format.specs.declared.RowFault.{RowFault}
-use Rattle.format.specs.declared.RowFault.the-variants.{BoolByte, Cut, Lead, NullRest}
+use Rattle.format.specs.declared.RowFault.the-variants.{BoolByte, Cut, Lead, NullRest, Unfolded}
 use Rattle.format.specs.Kinds.{Fixed, Shape, Slot, bool, fixed, shape, shapeBytes, valueBytes, width}
 use Rattle.format.specs.Key.{allowed, unkey}
+use Rattle.format.specs.Fold.{isFolded}
 use Rattle.format.specs.Field.{directed}
 use Rattle.format.specs.Read.{Good, Parsed, got, fault, allZero, fromBad, nullLead, readBytes, readField, readFixed, readKey, slotRead}
 use Rattle.format.specs.Cleared.{fixedSlot, isTrue}
@@ -53,6 +54,10 @@ module _ (k : Fixed) (o : SortOptions) where
       key : List ℕ
       key = keyIn (b ∷ s)
 
+      value-rest : Parsed Slot
+      value-rest =
+          cond (isFolded k (o .fold) (unkey k key)) (got (some (unkey k key)) (drop w s)) (fault Unfolded (length key + length (drop w s)))
+
       go : (t : Bool) → nullLead o b ≡ t → Stands (b ∷ s)
       go true q =
           let r = lead-null k o (b ∷ s) (omega arith) q in
@@ -64,14 +69,15 @@ module _ (k : Fixed) (o : SortOptions) where
             value = λ h. absurd (false≢true (sym h ∙ q));
           }
       go false q =
-          let y = good-yes (eqb b 1) Lead (suc (length s)) (readBytes k (o .descending) s) (rw q at g) in
+          let y = good-yes (eqb b 1) Lead (suc (length s)) (readBytes k o s) (rw q at g) in
           let r = lead-value k o (b ∷ s) (omega arith) q (eqb-true b 1 (y .0)) in
-          let a = good-no (ltb (length s) w) Cut 0 (readKey k key (drop w s)) (y .1) in
-          let z = good-yes (allowed k key) BoolByte (length key + length (drop w s)) (got (some (unkey k key)) (drop w s)) (a .1) in
+          let a = good-no (ltb (length s) w) Cut 0 (readKey k (o .fold) key (drop w s)) (y .1) in
+          let z = good-yes (allowed k key) BoolByte (length key + length (drop w s)) value-rest (a .1) in
+          let d = good-yes (isFolded k (o .fold) (unkey k key)) Unfolded (length key + length (drop w s)) (got (some (unkey k key)) (drop w s)) (z .1) in
           record {
             whole = omega (arith, ltb-false (length s) w (a .0));
             null = λ h. absurd (false≢true (sym q ∙ h));
-            value = λ h. (ap slotRead r ∙ rw (a .0, z .0), z .0);
+            value = λ h. (ap slotRead r ∙ rw (a .0, z .0, d .0), z .0);
           }
 
 -- ---- a field of a kind that has the shape k, as `decode` finds it

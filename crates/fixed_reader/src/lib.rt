@@ -11,3 +11,4 @@ pub use decoder::decode;
 pub use decoder::decode_boolean;
 pub use reader::read;
 pub use reader::read_boolean;
+pub use reader::read_float;

@@ -1,10 +1,13 @@
 // The number whose value bytes stand at a place of a row, as its bytes in the sheet. The parts of an interval are such.
 ghost use mathlib.Core.Path.{_≡_};
+ghost use mathlib.Core.Bool.{true};
 ghost use Prim.Native.Nat.{_+_, _*_, _<_, _≤_};
 ghost use lib.ListN.{length, take, drop};
 ghost use lib.Seq.{sets};
 ghost use Rattle.format.specs.Field.{directed};
-ghost use Rattle.format.specs.Key.{signedUnkey};
+ghost use Rattle.format.specs.Kinds.{float};
+ghost use Rattle.format.specs.Fold.{isFolded};
+ghost use Rattle.format.specs.Key.{signedUnkey, floatUnkey};
 ghost use Rattle.number.specs.declared.Coding.the-variants.{Float};
 ghost use Rattle.number.specs.Codings.{codingUnkey};
 use number::Coding;
@@ -16,6 +19,9 @@ use number::directed8;
 use number::directed16;
 use number::directed32;
 use number::directed64;
+use number::folded16;
+use number::folded32;
+use number::folded64;
 use number::low16;
 use number::low32;
 use number::low64;
@@ -116,4 +122,32 @@ pub fn take_words(
         place += 8;
     }
     take_number64(out, place, row, from, Coding::Signed, descending);
+}
+
+// Whether the float whose value bytes stand at a place of a row is folded: folding it changes nothing.
+pub fn is_folded16(row: &[u8], from: usize, descending: bool) -> bool
+    requires { ⌜ from + 2 ≤ length (now row) ⌝ }
+    ensures { λ r. ⌜ r ≡ isFolded (float 2) true (floatUnkey (directed descending (take 2 (drop from (now (row .entry)))))) ⌝ }
+{
+    let word = directed16(descending, low16(row, from));
+    let value = decode16(Coding::Float, word);
+    folded16(true, value) == value
+}
+
+pub fn is_folded32(row: &[u8], from: usize, descending: bool) -> bool
+    requires { ⌜ from + 4 ≤ length (now row) ⌝ }
+    ensures { λ r. ⌜ r ≡ isFolded (float 4) true (floatUnkey (directed descending (take 4 (drop from (now (row .entry)))))) ⌝ }
+{
+    let word = directed32(descending, low32(row, from));
+    let value = decode32(Coding::Float, word);
+    folded32(true, value) == value
+}
+
+pub fn is_folded64(row: &[u8], from: usize, descending: bool) -> bool
+    requires { ⌜ from + 8 ≤ length (now row) ⌝ }
+    ensures { λ r. ⌜ r ≡ isFolded (float 8) true (floatUnkey (directed descending (take 8 (drop from (now (row .entry)))))) ⌝ }
+{
+    let word = directed64(descending, low64(row, from));
+    let value = decode64(Coding::Float, word);
+    folded64(true, value) == value
 }

@@ -1,10 +1,18 @@
 // The field in front of a row: what it is, how long, or what is wrong with it. Total on any bytes.
 ghost use mathlib.Core.Path.{_≡_};
-ghost use Prim.Native.Nat.{_<_};
-ghost use lib.ListN.{length, drop};
-ghost use Rattle.format.specs.Kinds.{Fixed, bool};
+ghost use mathlib.Core.Bool.{false};
+ghost use mathlib.Core.Logic.{_⊎_};
+ghost use Prim.Native.Nat.{_+_, _<_, _≤_};
+ghost use lib.ListN.{length, take, drop};
+ghost use Rattle.format.specs.Kinds.{Fixed, bool, float};
+ghost use Rattle.format.specs.Key.{floatUnkey};
+ghost use Rattle.format.specs.Fold.{folds, isFolded};
+ghost use Rattle.format.specs.Field.{directed};
 ghost use Rattle.format.specs.Read.{fieldRead, readFixed, readNull};
 ghost use Rattle.basics.specs.Wide.{WideShape};
+use crate::numbers::is_folded16;
+use crate::numbers::is_folded32;
+use crate::numbers::is_folded64;
 use format::FieldRead;
 use format::RowFault;
 use format::SortOptions;
@@ -30,9 +38,10 @@ fn read_null(row: &[u8], width: usize) -> FieldRead
     FieldRead::Null(1 + width)
 }
 
-// Every fixed kind but bool, by its count of value bytes: all of them are allowed.
+// Every fixed kind but bool, by its count of value bytes: all of them are allowed, but where a column folds.
 pub fn read(row: &[u8], width: usize, options: SortOptions) -> FieldRead
-    ensures { λ r. ⌜ ((k : Fixed) → WideShape width k → r ≡ fieldRead (now (row .entry)) (readFixed k options (now (row .entry)))) ⌝ }
+    ensures { λ r. ⌜ ((k : Fixed) → WideShape width k → folds k (options .fold) ≡ false
+        → r ≡ fieldRead (now (row .entry)) (readFixed k options (now (row .entry)))) ⌝ }
 {
     let len = row.len();
     if len == 0 {
@@ -63,6 +72,43 @@ pub fn read_boolean(row: &[u8], options: SortOptions) -> FieldRead
                 return FieldRead::Fault(RowFault::BoolByte, row.len() - 1);
             }
             field
+        }
+        FieldRead::Fault(_, _) => field,
+    }
+}
+
+// Whether the float after a lead byte may stand in its column: any where the column does not fold, and else a folded one.
+fn may_stand(row: &[u8], width: usize, options: SortOptions) -> bool
+    requires { ⌜ (width ≡ 2) ⊎ ((width ≡ 4) ⊎ (width ≡ 8)) ⌝ }
+    requires { ⌜ 1 + width ≤ length (now row) ⌝ }
+    ensures { λ r. ⌜ r ≡ isFolded (float width) (options .fold) (floatUnkey (directed (options .descending) (take width (drop 1 (now (row .entry)))))) ⌝ }
+{
+    let descending = options.descending;
+    if options.fold {
+        if width == 2 {
+            return is_folded16(row, 1, descending);
+        }
+        if width == 4 {
+            return is_folded32(row, 1, descending);
+        }
+        return is_folded64(row, 1, descending);
+    }
+    true
+}
+
+// A float: as its bytes, which are those of a folded one where the column folds.
+pub fn read_float(row: &[u8], width: usize, options: SortOptions) -> FieldRead
+    requires { ⌜ (width ≡ 2) ⊎ ((width ≡ 4) ⊎ (width ≡ 8)) ⌝ }
+    ensures { λ r. ⌜ r ≡ fieldRead (now (row .entry)) (readFixed (float width) options (now (row .entry))) ⌝ }
+{
+    let field = read(row, width, options);
+    match field {
+        FieldRead::Null(_) => field,
+        FieldRead::Value(_, _) => {
+            if may_stand(row, width, options) {
+                return field;
+            }
+            FieldRead::Fault(RowFault::Unfolded, row.len() - 1)
         }
         FieldRead::Fault(_, _) => field,
     }

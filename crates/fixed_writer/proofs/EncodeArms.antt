@@ -7,6 +7,7 @@ use lib.ListN.{length, set, take, drop}
 use Rattle.format.specs.declared.SortOptions.{SortOptions}
 use Rattle.format.specs.declared.Kind.{Kind}
 use Rattle.format.specs.Kinds.{shape, valueBytes}
+use Rattle.format.specs.Fold.{foldedSlot}
 use Rattle.format.specs.Field.{field}
 use Rattle.basics.specs.Wrote.{Wrote}
 use Rattle.fixed_writer.proofs.Writing.{led, wrote-as}
@@ -27,9 +28,9 @@ module _ (h : Handed) {k : Kind} (e : h .kind ≡ k) where
   pub fits : (h .r * valueBytes k + valueBytes k ≤ length (h .values)) × (h .at + 1 + valueBytes k ≤ length (h .out))
   fits = rw e at (h .fits)
 
-  -- the field of a value of the kind
+  -- the field of a value of the kind, as encode takes it
   abbrev fieldOf : Kind → List ℕ
-  fieldOf j = field (shape j) (h .options) (some (take (valueBytes j) (drop (h .r * valueBytes j) (h .values))))
+  fieldOf j = field (shape j) (h .options) (foldedSlot (shape j) (h .options) (some (take (valueBytes j) (drop (h .r * valueBytes j) (h .values)))))
 
   -- after 01 its value bytes f are written
   pub wrote : (f : List ℕ) {next : ℕ} {last : List ℕ} → fieldOf k ≡ 1 ∷ f → Wrote f (h .at + 1) (set (h .out) (h .at) 1) last next

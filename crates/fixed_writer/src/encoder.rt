@@ -7,11 +7,15 @@ ghost use mathlib.Core.Option.{some};
 ghost use Prim.Native.Nat.{_+_, _*_, _≤_};
 ghost use lib.ListN.{length, take, drop, replicate};
 ghost use Rattle.format.specs.Kinds.{bool, shape, valueBytes};
+ghost use Rattle.format.specs.Fold.{foldedSlot};
 ghost use Rattle.format.specs.Sheet.{boolByte};
 ghost use Rattle.format.specs.Key.{partsKey};
 ghost use Rattle.format.specs.Field.{directed, field, fixedField, nullByte};
 ghost use Rattle.basics.specs.Wide.{WideKind};
 ghost use Rattle.basics.specs.Wrote.{Wrote};
+use crate::floats::put_float16;
+use crate::floats::put_float32;
+use crate::floats::put_float64;
 use crate::numbers::put_number8;
 use crate::numbers::put_number16;
 use crate::numbers::put_number32;
@@ -92,7 +96,8 @@ fn encode_month_day_nano(
     put_number64(out, at + 8, values, from + 8, Coding::Signed, descending)
 }
 
-// Every fixed kind but bool: value r of a column's values, read where it stands. One match, so that a field costs one jump.
+// Every fixed kind but bool: value r of a column's values, read where it stands, and folded where the column folds. One match, so that
+// a field costs one jump.
 pub fn encode(
     out: &mut [u8],
     at: usize,
@@ -104,10 +109,11 @@ pub fn encode(
     requires { ⌜ WideKind kind ⌝ }
     requires { ⌜ r * valueBytes kind + valueBytes kind ≤ length (now values) ⌝ }
     requires { ⌜ at + 1 + valueBytes kind ≤ length (now out) ⌝ }
-    ensures { λ next. ⌜ Wrote (field (shape kind) options (some (take (valueBytes kind) (drop (r * valueBytes kind) (now (values .entry)))))) at
-        (now (out .entry)) (now (out .exit)) next ⌝ }
+    ensures { λ next. ⌜ Wrote (field (shape kind) options (foldedSlot (shape kind) options
+        (some (take (valueBytes kind) (drop (r * valueBytes kind) (now (values .entry))))))) at (now (out .entry)) (now (out .exit)) next ⌝ }
 {
     let descending = options.descending;
+    let fold = options.fold;
     let place = at + 1;
     out[at] = 1;
     match kind {
@@ -119,9 +125,9 @@ pub fn encode(
         Kind::U16 => put_number16(out, place, values, r * 2, Coding::Unsigned, descending),
         Kind::U32 => put_number32(out, place, values, r * 4, Coding::Unsigned, descending),
         Kind::U64 => put_number64(out, place, values, r * 8, Coding::Unsigned, descending),
-        Kind::F16 => put_number16(out, place, values, r * 2, Coding::Float, descending),
-        Kind::F32 => put_number32(out, place, values, r * 4, Coding::Float, descending),
-        Kind::F64 => put_number64(out, place, values, r * 8, Coding::Float, descending),
+        Kind::F16 => put_float16(out, place, values, r * 2, fold, descending),
+        Kind::F32 => put_float32(out, place, values, r * 4, fold, descending),
+        Kind::F64 => put_float64(out, place, values, r * 8, fold, descending),
         Kind::DayTime => encode_day_time(out, place, values, r * 8, descending),
         Kind::MonthDayNano => encode_month_day_nano(out, place, values, r * 16, descending),
         Kind::FixedBinary(w) => encode_fixed_size_binary(out, place, values, r * w, w, descending),

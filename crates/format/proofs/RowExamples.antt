@@ -9,28 +9,33 @@ use lib.ListN.{replicate}
 use Rattle.format.specs.declared.SortOptions.{SortOptions}
 use Rattle.format.specs.declared.Kind.{Kind}
 use Rattle.format.specs.declared.Kind.the-variants.{Bool, I16, U16, F16, MonthDayNano, FixedBinary, Variable, I128, I256}
-use Rattle.format.specs.declared.RowFault.the-variants.{Cut, Lead, NullRest, BoolByte, EndByte, Padding, Extra, TooLong}
+use Rattle.format.specs.declared.RowFault.the-variants.{Cut, Lead, NullRest, BoolByte, EndByte, Padding, Extra, TooLong, Unfolded}
 use Rattle.format.specs.declared.Check.{Check}
 use Rattle.format.specs.declared.Check.the-variants.{Pass, Refuse}
 use Rattle.format.specs.declared.Refusal.the-variants.{Row}
 use Rattle.format.specs.Kinds.{shape}
 use Rattle.format.specs.Field.{field, paddedLength}
 use Rattle.format.specs.Value.{slotOrder}
+use Rattle.format.specs.Fold.{foldedBits}
 use Rattle.format.specs.Read.{got, fault, readVariable, readField, rowFault, rowsFault, rowSlots}
 
 -- ascending with nulls first, and descending with nulls last
 abbrev up : SortOptions
-up = record { descending = false; «nulls_first» = true; required = false }
+up = record { descending = false; «nulls_first» = true; required = false; fold = false }
 
 abbrev down : SortOptions
-down = record { descending = true; «nulls_first» = false; required = false }
+down = record { descending = true; «nulls_first» = false; required = false; fold = false }
 
 -- the same as up and as down, and required
 abbrev must : SortOptions
-must = record { descending = false; «nulls_first» = true; required = true }
+must = record { descending = false; «nulls_first» = true; required = true; fold = false }
 
 abbrev must-down : SortOptions
-must-down = record { descending = true; «nulls_first» = false; required = true }
+must-down = record { descending = true; «nulls_first» = false; required = true; fold = false }
+
+-- the same as up, folding
+abbrev folds : SortOptions
+folds = record { descending = false; «nulls_first» = true; required = false; fold = true }
 
 -- descending inverts the value bytes, not the 01; the null byte is never inverted
 pub fields : (field (shape I16) up (some (1 ∷ 0 ∷ [])) ≡ 1 ∷ 0x80 ∷ 1 ∷ [])
@@ -92,6 +97,22 @@ pub required-faults : (readField (shape I16) must (0 ∷ 0 ∷ 0 ∷ 6 ∷ []) �
     × (readField (shape Variable) must-down (0xfe ∷ 5 ∷ []) ≡ got (some []) (5 ∷ []))
     × (readField (shape I16) must (1 ∷ 0x80 ∷ 1 ∷ []) ≡ got (some (1 ∷ 0 ∷ [])) [])
 required-faults = (refl, refl, refl, refl, refl, refl)
+
+-- 28 after 16 and 17, for a float that folding would change, in a column that folds; the place is its first value byte
+pub folded-faults : (readField (shape F16) folds (1 ∷ 0x7f ∷ 0xff ∷ 6 ∷ []) ≡ fault Unfolded 3)
+    × (readField (shape F16) folds (1 ∷ 0x80 ∷ 0 ∷ 6 ∷ []) ≡ got (some (0 ∷ 0 ∷ [])) (6 ∷ []))
+    × (readField (shape F16) folds (1 ∷ 0xfe ∷ 1 ∷ []) ≡ fault Unfolded 2)
+    × (readField (shape F16) folds (1 ∷ 0xfe ∷ 0 ∷ []) ≡ got (some (0 ∷ 0x7e ∷ [])) [])
+    × (readField (shape F16) folds (1 ∷ 0xfc ∷ 0 ∷ []) ≡ got (some (0 ∷ 0x7c ∷ [])) [])
+    × (readField (shape F16) folds (1 ∷ 0x7f ∷ []) ≡ fault Cut 0)
+    × (readField (shape F16) up (1 ∷ 0x7f ∷ 0xff ∷ []) ≡ got (some (0 ∷ 0x80 ∷ [])) [])
+folded-faults = (refl, refl, refl, refl, refl, refl, refl)
+
+-- every NaN becomes one, by width; −0 becomes +0; the rest stays
+pub folding : (foldedBits 2 0xfc01 ≡ 0x7e00) × (foldedBits 2 0x8000 ≡ 0) × (foldedBits 2 0xfc00 ≡ 0xfc00) × (foldedBits 2 0x8001 ≡ 0x8001)
+    × (foldedBits 4 0x7f800001 ≡ 0x7fc00000) × (foldedBits 4 0x80000000 ≡ 0) × (foldedBits 4 0xff800000 ≡ 0xff800000) × (foldedBits 4 1 ≡ 1)
+    × (foldedBits 8 0xffffffffffffffff ≡ 0x7ff8000000000000) × (foldedBits 8 0x8000000000000000 ≡ 0) × (foldedBits 8 0x7ff0000000000000 ≡ 0x7ff0000000000000)
+folding = (refl, refl, refl, refl, refl, refl, refl, refl, refl, refl, refl)
 
 -- the first fault in row order, then column order; 22 after the last field
 pub row-faults : (rowFault 4 2 0 (record { kind = Bool; options = up } ∷ []) (1 ∷ 1 ∷ []) ≡ Pass)

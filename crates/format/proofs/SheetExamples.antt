@@ -4,7 +4,7 @@ use mathlib.Core.Path.{_≡_, refl}
 use mathlib.Core.Bool.{true, false}
 use mathlib.Core.Option.{none, some}
 use mathlib.Core.List.{List, [], _∷_, _++_}
-use Rattle.format.specs.declared.Kind.the-variants.{Bool, I16, Variable}
+use Rattle.format.specs.declared.Kind.the-variants.{Bool, I16, F16, Variable}
 use Rattle.format.specs.declared.Kind.{Kind}
 use Rattle.format.specs.declared.Column.{Column}
 use Rattle.format.specs.declared.Check.the-variants.{Pass, Refuse}
@@ -13,11 +13,15 @@ use Rattle.format.specs.Sheet.{sheetFault, sheetSlots, nulls, turned}
 use Rattle.format.specs.Cleared.{clearedSheet}
 
 abbrev of : Kind → Column
-of kind = record { kind = kind; options = record { descending = false; «nulls_first» = false; required = false } }
+of kind = record { kind = kind; options = record { descending = false; «nulls_first» = false; required = false; fold = false } }
 
 -- the same, and required
 abbrev must : Kind → Column
-must kind = record { kind = kind; options = record { descending = false; «nulls_first» = false; required = true } }
+must kind = record { kind = kind; options = record { descending = false; «nulls_first» = false; required = true; fold = false } }
+
+-- the same, and folding
+abbrev folds : Kind → Column
+folds kind = record { kind = kind; options = record { descending = false; «nulls_first» = false; required = false; fold = true } }
 
 -- three columns of three rows: bool, i16, variable bytes; the second slot of each is null and holds something
 abbrev cols : List Column
@@ -60,6 +64,12 @@ null-total = refl
 pub cleared : clearedSheet 3 cols (sheetSlots 3 cols sheet)
     ≡ 0b101 ∷ 0b001 ∷ 0b101 ∷ 1 ∷ 0 ∷ 0 ∷ 0 ∷ 255 ∷ 255 ∷ 0b101 ∷ 0 ∷ 0 ∷ 0 ∷ 0 ∷ 1 ∷ 0 ∷ 0 ∷ 0 ∷ 1 ∷ 0 ∷ 0 ∷ 0 ∷ 1 ∷ 0 ∷ 0 ∷ 0 ∷ 97 ∷ []
 cleared = refl
+
+-- folded floats: −0, a NaN, a null that holds one, and 1.0
+pub folded-slots : sheetSlots 4 (folds F16 ∷ []) (0b1011 ∷ 0 ∷ 0x80 ∷ 1 ∷ 0xfc ∷ 1 ∷ 0xfc ∷ 0 ∷ 0x3c ∷ [])
+    ≡ (some (0 ∷ 0 ∷ []) ∷ some (0 ∷ 0x7e ∷ []) ∷ none ∷ some (0 ∷ 0x3c ∷ []) ∷ [])
+    ∷ []
+folded-slots = refl
 
 -- row 8 is the first bit of the second byte
 pub ninth-row : sheetSlots 9 (of Bool ∷ []) (255 ∷ 1 ∷ 0 ∷ 1 ∷ [])

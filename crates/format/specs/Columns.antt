@@ -1,6 +1,6 @@
 -- The column list: for each column a byte of kind, then a body whose length the kind fixes.
 use Prim.Native.Nat.{ℕ, zero, suc, _+_, _-_, _*_, _/_, _%_}
-use mathlib.Core.Bool.{cond, _||_}
+use mathlib.Core.Bool.{cond, _&&_, _||_}
 use mathlib.Core.List.{List, [], _∷_}
 use lib.Dec.{ltb, eqb}
 use lib.ListN.{length, getD}
@@ -36,9 +36,13 @@ kindOf b w =
     (cond (eqb b 16) Variable
     (cond (eqb b 17) I128 I256))))))))))))))))
 
--- bit 0 descending, bit 1 nulls first, bit 2 required
+-- bit 0 descending, bit 1 nulls first, bit 2 required, bit 3 fold
 abbrev pub optionsOf : ℕ → SortOptions
-optionsOf o = record { descending = eqb (o % 2) 1; «nulls_first» = eqb (o / 2 % 2) 1; required = eqb (o / 4 % 2) 1 }
+optionsOf o = record { descending = eqb (o % 2) 1; «nulls_first» = eqb (o / 2 % 2) 1; required = eqb (o / 4 % 2) 1; fold = eqb (o / 8 % 2) 1 }
+
+-- bits 0 to 2 in every kind, bit 3 in the kinds 10 to 12 only
+abbrev pub mostOptions : ℕ → ℕ
+mostOptions b = cond (ltb 9 b && ltb b 13) 15 7
 
 -- the bytes of a description whose kind byte is b: kind and options, and for kind 15 also the width
 abbrev pub descriptionBytes : ℕ → ℕ
@@ -57,7 +61,7 @@ abbrev pub descriptionFault : List ℕ → ℕ → Check
 descriptionFault s at =
     failIf (ltb (getD s at 0) 1 || ltb lastKind (getD s at 0)) (UnknownKind at)
     (failIf (ltb (length s - at) (descriptionBytes (getD s at 0))) (ListCut at)
-    (failIf (ltb 7 (getD s (at + 1) 0)) (OptionBits at)
+    (failIf (ltb (mostOptions (getD s at 0)) (getD s (at + 1) 0)) (OptionBits at)
     (failIf (ltb maxWidth (widthAt s at)) (Width at)
     Pass)))
 

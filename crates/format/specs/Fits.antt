@@ -1,7 +1,7 @@
 -- Values within the limits.
 use Prim.Native.Nat.{ℕ, _≤_}
 use mathlib.Core.Path.{_≡_}
-use mathlib.Core.Bool.{false}
+use mathlib.Core.Bool.{Bool, false}
 use mathlib.Core.Option.{none, some}
 use mathlib.Core.List.{List, [], _∷_}
 use lib.Dec.{T}
@@ -13,16 +13,17 @@ use Rattle.format.specs.Lists.{Bytes}
 use Rattle.format.specs.Kinds.{Shape, fixed, variable, Slot, width, columnShape}
 use Rattle.format.specs.Key.{allowed}
 use Rattle.format.specs.Row.{row}
+use Rattle.format.specs.Fold.{isFolded}
 
--- bytes, as many as the shape asks, for a bool 00 or 01; variable bytes no more than the limit
-abbrev pub Fits : ℕ → Shape → List ℕ → Type 0
-Fits limit (fixed k) v = Bytes v × (length v ≡ width k) × T (allowed k v)
-Fits limit variable v = Bytes v × (length v ≤ limit)
+-- bytes, as many as the shape asks, for a bool 00 or 01, where the column folds a folded float; variable bytes no more than the limit
+abbrev pub Fits : ℕ → Shape → Bool → List ℕ → Type 0
+Fits limit (fixed k) fold v = Bytes v × (length v ≡ width k) × T (allowed k v) × T (isFolded k fold v)
+Fits limit variable fold v = Bytes v × (length v ≤ limit)
 
 -- a required column has no null
 abbrev pub SlotFits : ℕ → Shape → SortOptions → Slot → Type 0
 SlotFits limit sh o none = o .required ≡ false
-SlotFits limit sh o (some v) = Fits limit sh v
+SlotFits limit sh o (some v) = Fits limit sh (o .fold) v
 
 -- a row of values: a slot for each column
 abbrev pub RowFits : List Column → List Slot → Type 0

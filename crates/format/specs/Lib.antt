@@ -10,6 +10,7 @@ pub mod Key
 pub mod Field
 pub mod Row
 pub mod Value
+pub mod Fold
 pub mod Fits
 pub mod Sheet
 pub mod Passed

@@ -1,9 +1,9 @@
 -- The numbers returned: this paper's number and values for each answer.
 use Prim.Native.Nat.{ℕ}
-use mathlib.Core.Bool.{Bool, _&&_}
-use lib.Dec.{leb}
+use mathlib.Core.Bool.{Bool, _&&_, _||_}
+use lib.Dec.{leb, eqb}
 use Rattle.format.specs.declared.RowFault.{RowFault}
-use Rattle.format.specs.declared.RowFault.the-variants.{Cut, Lead, NullRest, BoolByte, EndByte, Padding, Extra, TooLong}
+use Rattle.format.specs.declared.RowFault.the-variants.{Cut, Lead, NullRest, BoolByte, EndByte, Padding, Extra, TooLong, Unfolded}
 use Rattle.format.specs.declared.Refusal.{Refusal}
 use Rattle.format.specs.declared.Refusal.the-variants.{ListCut, UnknownKind, OptionBits, Width, ManyColumns, ManyRows, ColumnCut, SpareBit, Ends, LongSlot, BytesAfter, ManyBytes, RowRoom, OffsetRoom, Offsets, Row, SheetRoom, Input, OutOfOrder, Missing}
 use Rattle.format.specs.declared.Answer.{Answer}
@@ -26,6 +26,7 @@ faultNumber EndByte = 20
 faultNumber Padding = 21
 faultNumber Extra = 22
 faultNumber TooLong = 23
+faultNumber Unfolded = 28
 
 -- the table of refusals
 abbrev pub refusalNumbers : Refusal → Returned
@@ -50,9 +51,9 @@ refusalNumbers Input = three 25 0 0
 refusalNumbers (OutOfOrder p r) = three 26 p r
 refusalNumbers (Missing c r) = three 27 c r
 
--- refusals by what a row holds: 16 to 23
+-- refusals by what a row holds: 16 to 23, and 28
 abbrev pub byContent : Refusal → Bool
-byContent r = leb 16 (refusalNumbers r .0) && leb (refusalNumbers r .0) 23
+byContent r = (leb 16 (refusalNumbers r .0) && leb (refusalNumbers r .0) 23) || eqb (refusalNumbers r .0) 28
 
 abbrev pub numbersOf : Answer → Returned
 numbersOf (Done a b) = three 0 a b

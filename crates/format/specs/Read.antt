@@ -8,7 +8,7 @@ use lib.ListN.{length, take, drop, getD}
 use Rattle.format.specs.declared.SortOptions.{SortOptions}
 use Rattle.format.specs.declared.Column.{Column}
 use Rattle.format.specs.declared.RowFault.{RowFault}
-use Rattle.format.specs.declared.RowFault.the-variants.{Cut, Lead, NullRest, BoolByte, EndByte, Padding, Extra, TooLong}
+use Rattle.format.specs.declared.RowFault.the-variants.{Cut, Lead, NullRest, BoolByte, EndByte, Padding, Extra, TooLong, Unfolded}
 use Rattle.format.specs.declared.FieldRead.{FieldRead}
 use Rattle.format.specs.declared.FieldRead.the-variants.{Null, Value, Fault}
 use Rattle.format.specs.declared.Check.{Check}
@@ -18,10 +18,11 @@ use Rattle.format.specs.Limits.{maxSlot}
 use Rattle.format.specs.Check.{both}
 use Rattle.format.specs.Kinds.{Fixed, Shape, fixed, variable, Slot, width, columnShape}
 use Rattle.format.specs.Key.{unkey, allowed}
+use Rattle.format.specs.Fold.{isFolded}
 use Rattle.format.specs.Field.{directed, nullByte, blockSize}
 
 -- what was read and the bytes that are left; or the fault, and how many bytes are left from the bad byte on
--- (the first byte missing for 16, the first bad one for 18 and 21, the end byte of the block for 23)
+-- (the first byte missing for 16, the first bad one for 18 and 21, the end byte of the block for 23, the first value byte for 28)
 pub data Parsed (A : Type 0) : Type 0 where
   got : A → List ℕ → Parsed A
   fault : RowFault → ℕ → Parsed A
@@ -90,7 +91,7 @@ readVariable limit o (b ∷ s) =
     cond (nullLead o b) (got none s)
     (valueSlot (o .descending) (readValue limit (directed (o .descending) (b ∷ s))))
 
--- ---- fixed kinds: lead byte 16, 17; fixed rest 16, 18, 19
+-- ---- fixed kinds: lead byte 16, 17; fixed rest 16, 18, 19, 28
 
 -- after the null byte: zeros
 abbrev pub readNull : ℕ → List ℕ → Parsed Slot
@@ -100,20 +101,24 @@ readNull w s =
     (fault NullRest (fromBad (take w s) + length (drop w s))))
 
 -- value bytes that are there, inverted back
-abbrev pub readKey : Fixed → List ℕ → List ℕ → Parsed Slot
-readKey k f rest = cond (allowed k f) (got (some (unkey k f)) rest) (fault BoolByte (length f + length rest))
+abbrev pub readKey : Fixed → Bool → List ℕ → List ℕ → Parsed Slot
+readKey k fold f rest =
+    cond (allowed k f)
+    (cond (isFolded k fold (unkey k f)) (got (some (unkey k f)) rest)
+    (fault Unfolded (length f + length rest)))
+    (fault BoolByte (length f + length rest))
 
 -- after 01: the value bytes
-abbrev pub readBytes : Fixed → Bool → List ℕ → Parsed Slot
-readBytes k descending s =
+abbrev pub readBytes : Fixed → SortOptions → List ℕ → Parsed Slot
+readBytes k o s =
     cond (ltb (length s) (width k)) (fault Cut 0)
-    (readKey k (directed descending (take (width k) s)) (drop (width k) s))
+    (readKey k (o .fold) (directed (o .descending) (take (width k) s)) (drop (width k) s))
 
 abbrev pub readFixed : Fixed → SortOptions → List ℕ → Parsed Slot
 readFixed k o [] = fault Cut 0
 readFixed k o (b ∷ s) =
     cond (nullLead o b) (readNull (width k) s)
-    (cond (eqb b 1) (readBytes k (o .descending) s)
+    (cond (eqb b 1) (readBytes k o s)
     (fault Lead (suc (length s))))
 
 -- ---- rows

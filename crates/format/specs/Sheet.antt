@@ -1,6 +1,6 @@
 -- The sheet: columns follow one another in list order, each with its validity bytes and then its values, for n rows.
 use Prim.Native.Nat.{ℕ, zero, suc, _+_, _-_, _*_, _/_, _%_, _^_}
-use mathlib.Core.Bool.{Bool, false, cond, not, _&&_, _||_}
+use mathlib.Core.Bool.{Bool, false, cond, _&&_, _||_}
 use mathlib.Core.Option.{none, some}
 use mathlib.Core.List.{List, [], _∷_, map}
 use lib.Dec.{ltb, eqb}
@@ -13,6 +13,7 @@ use Rattle.format.specs.Limits.{maxSlot}
 use Rattle.format.specs.Check.{both, failIf}
 use Rattle.format.specs.Lists.{each, low, sum}
 use Rattle.format.specs.Kinds.{bool, plain, number, integer, float, parts, Shape, fixed, variable, Slot, width, columnShape}
+use Rattle.format.specs.Fold.{foldedSlot}
 
 -- how the values of a column stand: packed bits; values of w bytes each; ends, and the bytes between them
 pub data Layout : Type 0 where
@@ -154,10 +155,12 @@ placeFrom n at (col ∷ cols) s (suc c) = placeFrom n (at + columnBytes (layout 
 abbrev pub place : ℕ → List Column → List ℕ → ℕ → ℕ
 place n cols s c = placeFrom n 0 cols s c
 
--- the slots of each column
+-- the slots of each column, as encode takes them: folded where the column folds
 abbrev pub sheetSlots : ℕ → List Column → List ℕ → List (List Slot)
 sheetSlots n [] s = []
-sheetSlots n (col ∷ cols) s = columnSlots (layout col) n s ∷ sheetSlots n cols (drop (columnBytes (layout col) n s) s)
+sheetSlots n (col ∷ cols) s =
+    map (foldedSlot (columnShape col) (col .options)) (columnSlots (layout col) n s)
+    ∷ sheetSlots n cols (drop (columnBytes (layout col) n s) s)
 
 -- ---- slots, column by column
 

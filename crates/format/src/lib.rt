@@ -46,11 +46,12 @@ pub enum Kind {
     I256,
 }
 
-// Bits 0 to 2 of the options byte.
+// Bits 0 to 3 of the options byte; only floats fold.
 pub struct SortOptions {
     pub descending: bool,
     pub nulls_first: bool,
     pub required: bool,
+    pub fold: bool,
 }
 
 pub struct Column {
@@ -64,7 +65,7 @@ pub struct Schema {
     pub count: usize,
 }
 
-// What can be wrong in the bytes of a row: refusals 16 to 23.
+// What can be wrong in the bytes of a row: refusals 16 to 23, and 28.
 pub enum RowFault {
     Cut,
     Lead,
@@ -74,9 +75,10 @@ pub enum RowFault {
     Padding,
     Extra,
     TooLong,
+    Unfolded,
 }
 
-// The reasons in the order of their numbers, each with what is reported of it; 16 to 23 are one case, with row, column and
+// The reasons in the order of their numbers, each with what is reported of it; 16 to 23 and 28 are one case, with row, column and
 // place in the row.
 pub enum Refusal {
     ListCut(usize),
@@ -178,6 +180,7 @@ pub fn no_column() -> Column
         descending: false,
         nulls_first: false,
         required: false,
+        fold: false,
     };
     Column {
         kind: Kind::Bool,
@@ -198,6 +201,7 @@ fn fault_number(f: RowFault) -> u64
         RowFault::Padding => 21,
         RowFault::Extra => 22,
         RowFault::TooLong => 23,
+        RowFault::Unfolded => 28,
     }
 }
 

@@ -14,7 +14,7 @@ use Rattle.format.specs.declared.Check.the-variants.{Pass}
 use Rattle.format.specs.Limits.{maxColumns, maxWidth}
 use Rattle.format.specs.Check.{both}
 use Rattle.format.specs.Kinds.{lastKind, valueBytes}
-use Rattle.format.specs.Columns.{kindOf, descriptionBytes, widthAt, columnAt, descriptionFault, listFaultFrom, columnsFrom, listFault, columns}
+use Rattle.format.specs.Columns.{kindOf, mostOptions, descriptionBytes, widthAt, columnAt, descriptionFault, listFaultFrom, columnsFrom, listFault, columns}
 use Rattle.basics.proofs.Lists.{Every}
 use Rattle.basics.proofs.Checks.{failIf-pass, enough, both-pass}
 
@@ -45,7 +45,7 @@ pub description-passed : (s : List ℕ) (at : ℕ) → descriptionFault s at ≡
 description-passed s at e =
     let known = failIf-pass (ltb (getD s at 0) 1 || ltb lastKind (getD s at 0)) _ _ e in
     let whole = enough (length s - at) (descriptionBytes (getD s at 0)) _ _ (known .1) in
-    let options = enough 7 (getD s (at + 1) 0) _ _ (whole .1) in
+    let options = enough (mostOptions (getD s at 0)) (getD s (at + 1) 0) _ _ (whole .1) in
     let narrow = enough maxWidth (widthAt s at) _ _ (options .1) in
     (whole .0, narrow .0)
 

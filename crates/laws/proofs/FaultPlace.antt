@@ -9,7 +9,8 @@ use lib.ListN.{length, take, drop, getD, take-append-drop, length-append, length
 use lib.Seq.{length-take-le}
 use borrow.Author.Tests.{leb-false}
 use Rattle.format.specs.Field.{blockSize, directed}
-use Rattle.format.specs.Key.{allowed}
+use Rattle.format.specs.Fold.{isFolded}
+use Rattle.format.specs.Key.{allowed, unkey}
 use Rattle.format.specs.Kinds.{Fixed, Shape, fixed, variable, width}
 use Rattle.format.specs.Limits.{maxSlot}
 use Rattle.format.specs.Read.{Parsed, got, fault, after, allZero, fromBad, nullLead, readBlock, readBlocks, readValue, readVariable, valueSlot}
@@ -115,11 +116,17 @@ inside-null w s =
     inside-if (length s) (ltb (length s) w) _ _ (omega arith) (λ q.
     inside-if (length s) (allZero (take w s)) _ _ (omega (arith, two-parts w s)) (λ q. omega (arith, bad-inside (take w s), two-parts w s)))
 
-inside-bytes : (k : Fixed) (d : Bool) (s : List ℕ) → Inside (length s) (readBytes k d s)
-inside-bytes k d s =
+inside-bytes : (k : Fixed) (o : SortOptions) (s : List ℕ) → Inside (length s) (readBytes k o s)
+inside-bytes k o s =
     inside-if (length s) (ltb (length s) (width k)) _ _ (omega arith) (λ q.
-    inside-if (length s) (allowed k (directed d (take (width k) s))) _ _ (omega (arith, two-parts (width k) s))
-    (λ q. omega (arith, length-directed d (take (width k) s), two-parts (width k) s)))
+    inside-if (length s) (allowed k f) _ _
+    (inside-if (length s) (isFolded k (o .fold) (unkey k f)) _ _ (omega (arith, two-parts (width k) s)) (λ q. bad)) (λ q. bad))
+  where
+    f : List ℕ
+    f = directed (o .descending) (take (width k) s)
+
+    bad : length (directed (o .descending) (take (width k) s)) + length (drop (width k) s) ≤ length s
+    bad = omega (arith, length-directed (o .descending) (take (width k) s), two-parts (width k) s)
 
 inside-fixed : (k : Fixed) (o : SortOptions) (s : List ℕ) → Inside (length s) (readFixed k o s)
 inside-fixed k o [] = omega arith
@@ -127,7 +134,7 @@ inside-fixed k o (b ∷ s) =
     inside-if (suc (length s)) (nullLead o b) _ _
     (weaken (length s) (suc (length s)) (readNull (width k) s) (omega arith) (inside-null (width k) s)) (λ q.
     inside-if (suc (length s)) (eqb b 1) _ _
-    (weaken (length s) (suc (length s)) (readBytes k (o .descending) s) (omega arith) (inside-bytes k (o .descending) s))
+    (weaken (length s) (suc (length s)) (readBytes k o s) (omega arith) (inside-bytes k o s))
     (λ q. omega arith))
 
 -- ---- one column

@@ -8,6 +8,7 @@ pub mod Stream
 pub mod Lengths
 pub mod Directed
 pub mod Fields
+pub mod Folding
 pub mod Parsed
 pub mod ReadBlocks
 pub mod ReadVariable

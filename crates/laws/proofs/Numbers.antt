@@ -5,7 +5,7 @@ use mathlib.Core.Bool.{cond}
 use mathlib.Core.List.{List, [], _∷_}
 use lib.Dec.{eqb}
 use lib.ListN.{getD}
-use Rattle.format.specs.declared.RowFault.the-variants.{Cut, Lead, NullRest, BoolByte, EndByte, Padding, Extra, TooLong}
+use Rattle.format.specs.declared.RowFault.the-variants.{Cut, Lead, NullRest, BoolByte, EndByte, Padding, Extra, TooLong, Unfolded}
 use Rattle.format.specs.declared.Refusal.{Refusal}
 use Rattle.format.specs.declared.Refusal.the-variants.{ListCut, UnknownKind, OptionBits, Width, ManyColumns, ManyRows, ColumnCut, SpareBit, Ends, LongSlot, BytesAfter, ManyBytes, RowRoom, OffsetRoom, Offsets, Row, SheetRoom, Input, OutOfOrder, Missing}
 use Rattle.format.specs.declared.Answer.{Answer}
@@ -21,7 +21,7 @@ refusals =
     ∷ (λ a b p. BytesAfter a) ∷ (λ a b p. ManyBytes a) ∷ (λ a b p. RowRoom a) ∷ (λ a b p. OffsetRoom a) ∷ (λ a b p. Offsets a)
     ∷ (λ a b p. Row Cut a b p) ∷ (λ a b p. Row Lead a b p) ∷ (λ a b p. Row NullRest a b p) ∷ (λ a b p. Row BoolByte a b p)
     ∷ (λ a b p. Row EndByte a b p) ∷ (λ a b p. Row Padding a b p) ∷ (λ a b p. Row Extra a b p) ∷ (λ a b p. Row TooLong a b p)
-    ∷ (λ a b p. SheetRoom a) ∷ (λ a b p. Input) ∷ (λ a b p. OutOfOrder a b) ∷ (λ a b p. Missing a b) ∷ []
+    ∷ (λ a b p. SheetRoom a) ∷ (λ a b p. Input) ∷ (λ a b p. OutOfOrder a b) ∷ (λ a b p. Missing a b) ∷ (λ a b p. Row Unfolded a b p) ∷ []
 
 -- the answer of four numbers
 abbrev answerOf : Returned → Answer
@@ -52,6 +52,7 @@ numbers-back (Refused (Row EndByte r c place)) = refl
 numbers-back (Refused (Row Padding r c place)) = refl
 numbers-back (Refused (Row Extra r c place)) = refl
 numbers-back (Refused (Row TooLong r c place)) = refl
+numbers-back (Refused (Row Unfolded r c place)) = refl
 numbers-back (Refused (SheetRoom bytes)) = refl
 numbers-back (Refused Input) = refl
 numbers-back (Refused (OutOfOrder p r)) = refl

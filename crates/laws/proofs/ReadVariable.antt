@@ -78,7 +78,8 @@ module _ (limit : ℕ) where
   past-null o b s h l = rw (not-null o b h l)
 
   -- the field of a slot is read back, and what follows it is left
-  pub variable-read : (o : SortOptions) (s : Slot) (t : List ℕ) → SlotFits limit variable o s → Bytes t → readVariable limit o (variableField o s ++ t) ≡ got s t
+  pub variable-read : (o : SortOptions) (s : Slot) (t : List ℕ) → SlotFits limit variable o s → Bytes t
+      → readVariable limit o (variableField o s ++ t) ≡ got s t
   variable-read o none t h bt = rw (null-led o h)
   variable-read o (some x) t h bt =
       ap (λ (z : List ℕ). readVariable limit o (z ++ t)) (l .splits)

@@ -2,11 +2,11 @@
 use Prim.Native.Nat.{ℕ, zero, suc, _+_, _-_, _*_, _<_, _≤_}
 use mathlib.Core.Path.{_≡_, refl, ap, sym, subst, _∙_}
 use mathlib.Core.Bool.{Bool, true, false, true≢false}
-use mathlib.Core.List.{List, [], _∷_}
+use mathlib.Core.List.{List, [], _∷_, map}
 use mathlib.Core.Logic.{_⊎_, inl, inr}
 use native.Mathlib.Omega.{arith}
 use lib.Dec.{T, ltb}
-use lib.ListN.{length, take, drop, length-take, length-drop}
+use lib.ListN.{length, take, drop, length-take, length-drop, length-map}
 use lib.Seq.{length-take-le}
 use borrow.Author.Tests.{ltb-false}
 use Rattle.format.specs.declared.Check.the-variants.{Pass}
@@ -16,15 +16,18 @@ use Rattle.format.specs.Limits.{maxSlot}
 use Rattle.format.specs.Lists.{Bytes, each}
 use Rattle.format.specs.Kinds.{Fixed, bool, plain, number, integer, float, parts, Shape, fixed, variable, Slot, width, columnShape}
 use Rattle.format.specs.Key.{allowed}
+use Rattle.format.specs.Fold.{isFolded, foldedSlot}
 use Rattle.format.specs.Fits.{Fits, SlotFits, AllSlots, SheetFits}
 use Rattle.format.specs.Sheet.{Layout, bits, ended, wide, layoutFor, layout, packed, bit, bitsFault, firstClear, requiredFault, end, endsFault, variableFault, valuesFault, valuesBytes, boolByte, valueAt, slotIf, columnFault, columnBytes, slotAt, columnSlots, sheetFaultFrom, sheetFault, sheetSlots}
 use Rattle.format.specs.Passed.{Passes, Step, Ended}
 use Rattle.bits.proofs.Clear.{all-set}
 use Rattle.bits.proofs.Nulls.{bits-passed}
+use Rattle.basics.proofs.Sorts.{ShapeFolding, foldable}
 use Rattle.basics.proofs.Compare.{choose}
 use Rattle.basics.proofs.Bytes.{bytes-take, bytes-drop}
 use Rattle.basics.proofs.Lists.{length-each}
 use Rattle.basics.proofs.Checks.{failIf-pass, enough, both-pass, pass-both}
+use Rattle.laws.proofs.Folding.{fold-fits}
 
 -- ---- the ends of a column of variable bytes
 
@@ -97,51 +100,55 @@ within j zero w h = absurd (omega arith)
 within zero (suc n) w h = omega arith
 within (suc j) (suc n) w h = omega (arith, within j n w (omega arith))
 
-wide-fits : (k : Fixed) (n c : ℕ) (s : List ℕ) → ((x : List ℕ) → T (allowed k x)) → Bytes s → valuesFault (wide (width k)) n c s ≡ Pass
-    → (i : ℕ) → i < n → Fits maxSlot (fixed k) (take (width k) (drop (i * width k) s))
+wide-fits : (k : Fixed) (n c : ℕ) (s : List ℕ) → ((x : List ℕ) → T (allowed k x) × T (isFolded k false x)) → Bytes s
+    → valuesFault (wide (width k)) n c s ≡ Pass → (i : ℕ) → i < n → Fits maxSlot (fixed k) false (take (width k) (drop (i * width k) s))
 wide-fits k n c s any b e i l = (
   bytes-take (width k) (drop (i * width k) s) (bytes-drop (i * width k) s b),
   length-take-le (width k) (drop (i * width k) s)
       (omega (arith, length-drop (i * width k) s, within i n (width k) l, enough (length s) (n * width k) _ _ e .0)),
-  any (take (width k) (drop (i * width k) s)),
+  any (take (width k) (drop (i * width k) s)) .0,
+  any (take (width k) (drop (i * width k) s)) .1,
 )
 
-bool-fits : (b : Bool) → Fits maxSlot (fixed bool) (boolByte b)
-bool-fits true = ((omega arith, tt), refl, tt)
-bool-fits false = ((omega arith, tt), refl, tt)
+bool-fits : (b : Bool) → Fits maxSlot (fixed bool) false (boolByte b)
+bool-fits true = ((omega arith, tt), refl, tt, tt)
+bool-fits false = ((omega arith, tt), refl, tt, tt)
 
+-- a value as it stands in the sheet
 pub value-fits : (sh : Shape) (n c : ℕ) (s : List ℕ) → Bytes s → valuesFault (layoutFor sh) n c s ≡ Pass → (i : ℕ) → i < n
-    → Fits maxSlot sh (valueAt (layoutFor sh) n s i)
+    → Fits maxSlot sh false (valueAt (layoutFor sh) n s i)
 value-fits (fixed bool) n c s b e i l = bool-fits (bit s i)
-value-fits (fixed (plain w)) n c s b e i l = wide-fits (plain w) n c s (λ x. tt) b e i l
-value-fits (fixed (number w)) n c s b e i l = wide-fits (number w) n c s (λ x. tt) b e i l
-value-fits (fixed (integer w)) n c s b e i l = wide-fits (integer w) n c s (λ x. tt) b e i l
-value-fits (fixed (float w)) n c s b e i l = wide-fits (float w) n c s (λ x. tt) b e i l
-value-fits (fixed (parts ws)) n c s b e i l = wide-fits (parts ws) n c s (λ x. tt) b e i l
+value-fits (fixed (plain w)) n c s b e i l = wide-fits (plain w) n c s (λ x. (tt, tt)) b e i l
+value-fits (fixed (number w)) n c s b e i l = wide-fits (number w) n c s (λ x. (tt, tt)) b e i l
+value-fits (fixed (integer w)) n c s b e i l = wide-fits (integer w) n c s (λ x. (tt, tt)) b e i l
+value-fits (fixed (float w)) n c s b e i l = wide-fits (float w) n c s (λ x. (tt, tt)) b e i l
+value-fits (fixed (parts ws)) n c s b e i l = wide-fits (parts ws) n c s (λ x. (tt, tt)) b e i l
 value-fits variable n c s b e i l =
     let t : List ℕ = drop (end s i) (drop (4 * suc n) s) in (
       bytes-take (end s (suc i) - end s i) t (bytes-drop (end s i) (drop (4 * suc n) s) (bytes-drop (4 * suc n) s b)),
       omega (arith, length-take (end s (suc i) - end s i) t, variable-passed n c s e .step i l .short),
     )
 
-if-fits : (sh : Shape) (o : SortOptions) (b : Bool) (v : List ℕ) → Fits maxSlot sh v → (b ≡ false → o .required ≡ false) → SlotFits maxSlot sh o (slotIf b v)
-if-fits sh o true v h free = h
-if-fits sh o false v h free = free refl
+if-fits : (sh : Shape) (o : SortOptions) (b : Bool) (v : List ℕ) → ShapeFolding sh → Fits maxSlot sh false v → (b ≡ false → o .required ≡ false)
+    → SlotFits maxSlot sh o (foldedSlot sh o (slotIf b v))
+if-fits sh o true v f h free = fold-fits sh o v f h
+if-fits sh o false v f h free = free refl
 
--- slot r of a column that passes
-pub slot-fits : (sh : Shape) (o : SortOptions) (n c : ℕ) (s : List ℕ) → Bytes s → columnFault (o .required) (layoutFor sh) n c s ≡ Pass → (r : ℕ) → r < n
-    → SlotFits maxSlot sh o (slotAt (layoutFor sh) n s r)
-slot-fits sh o n c s b e r l =
+-- slot r of a column that passes, as encode takes it
+pub slot-fits : (sh : Shape) (o : SortOptions) (n c : ℕ) (s : List ℕ) → ShapeFolding sh → Bytes s → columnFault (o .required) (layoutFor sh) n c s ≡ Pass
+    → (r : ℕ) → r < n → SlotFits maxSlot sh o (foldedSlot sh o (slotAt (layoutFor sh) n s r))
+slot-fits sh o n c s f b e r l =
     let p = column-passed (o .required) (layoutFor sh) n c s e in
-    if-fits sh o (bit s r) _ (value-fits sh n c (drop (packed n) s) (bytes-drop (packed n) s b) (p .1) r l) (no-null (o .required) n c s (p .2) r l)
+    if-fits sh o (bit s r) _ f (value-fits sh n c (drop (packed n) s) (bytes-drop (packed n) s b) (p .1) r l) (no-null (o .required) n c s (p .2) r l)
 
-slots-fit : (sh : Shape) (o : SortOptions) (i k : ℕ) (f : ℕ → Slot) → ((j : ℕ) → i ≤ j → j < i + k → SlotFits maxSlot sh o (f j)) → AllSlots sh o (each i k f)
+slots-fit : (sh : Shape) (o : SortOptions) (i k : ℕ) (f : ℕ → Slot) → ((j : ℕ) → i ≤ j → j < i + k → SlotFits maxSlot sh o (foldedSlot sh o (f j)))
+    → AllSlots sh o (map (foldedSlot sh o) (each i k f))
 slots-fit sh o i zero f h = tt
 slots-fit sh o i (suc k) f h = (h i (omega arith) (omega arith), slots-fit sh o (suc i) k f (λ j a b. h j (omega arith) (omega arith)))
 
-column-fits : (sh : Shape) (o : SortOptions) (n c : ℕ) (s : List ℕ) → Bytes s → columnFault (o .required) (layoutFor sh) n c s ≡ Pass
-    → AllSlots sh o (columnSlots (layoutFor sh) n s)
-column-fits sh o n c s b e = slots-fit sh o 0 n (slotAt (layoutFor sh) n s) (λ j l m. slot-fits sh o n c s b e j (omega arith))
+pub column-fits : (sh : Shape) (o : SortOptions) (n c : ℕ) (s : List ℕ) → ShapeFolding sh → Bytes s → columnFault (o .required) (layoutFor sh) n c s ≡ Pass
+    → AllSlots sh o (map (foldedSlot sh o) (columnSlots (layoutFor sh) n s))
+column-fits sh o n c s f b e = slots-fit sh o 0 n (slotAt (layoutFor sh) n s) (λ j l m. slot-fits sh o n c s f b e j (omega arith))
 
 -- ---- and those of a sheet
 columns-fit : (n c at : ℕ) (cols : List Column) (s : List ℕ) → Bytes s → sheetFaultFrom n c at cols s ≡ Pass → SheetFits n cols (sheetSlots n cols s)
@@ -149,8 +156,8 @@ columns-fit n c at [] s b e = tt
 columns-fit n c at (col ∷ cols) s b e =
     let k : ℕ = columnBytes (layout col) n s in
     let p = both-pass (columnFault (col .options .required) (layout col) n c s) _ e in (
-      length-each 0 n (slotAt (layout col) n s),
-      column-fits (columnShape col) (col .options) n c s b (p .0),
+      length-map (columnSlots (layout col) n s) (foldedSlot (columnShape col) (col .options)) ∙ length-each 0 n (slotAt (layout col) n s),
+      column-fits (columnShape col) (col .options) n c s (foldable (col .kind)) b (p .0),
       columns-fit n (suc c) (at + k) cols (drop k s) (bytes-drop k s b) (p .1),
     )
 

@@ -8,7 +8,7 @@ use native.Mathlib.Nat.{zero-add}
 use native.Mathlib.Omega.{arith}
 use lib.Dec.{leb}
 use borrow.Author.Tests.{leb-true}
-use lib.ListN.{length, getD, drop, length-append}
+use lib.ListN.{length, getD, drop, length-append, List·getD-map}
 use Rattle.format.specs.declared.Check.the-variants.{Pass}
 use Rattle.format.specs.declared.SortOptions.{SortOptions}
 use Rattle.format.specs.declared.Column.{Column}
@@ -16,15 +16,18 @@ use Rattle.format.specs.Limits.{maxWidth, maxSlot}
 use Rattle.format.specs.Lists.{Bytes, each, joined, sum}
 use Rattle.format.specs.Kinds.{Shape, fixed, variable, Slot, shapeBytes, valueBytes, columnShape}
 use Rattle.format.specs.Field.{field, paddedLength, fieldLength, maxField}
+use Rattle.format.specs.Fold.{foldedSlot}
 use Rattle.format.specs.Fits.{SlotFits, AllSlots, SheetFits}
 use Rattle.format.specs.Row.{row}
 use Rattle.format.specs.Schemas.{noColumn}
 use Rattle.format.specs.Sheet.{layout, columnFault, columnBytes, slotAt, columnSlots, sheetFault, sheetSlots, placeFrom, place, slotsIn}
 use Rattle.format.specs.Entries.{sheetTotal, columnTotal}
 use Rattle.laws.proofs.Fields.{length-field}
+use Rattle.laws.proofs.Folding.{fold-length}
 use Rattle.laws.proofs.Places.{past-column}
 use Rattle.laws.proofs.Sheets.{slot-fits, sheet-fits}
 use Rattle.laws.proofs.Turned.{slot-in}
+use Rattle.basics.proofs.Sorts.{foldable}
 use Rattle.basics.proofs.Lists.{each-at, each-next, each-same, sum-most}
 
 -- k rows from row i on: the fields of the first column, and the rows of the others
@@ -53,7 +56,7 @@ total-from : (n at : ℕ) (cols : List Column) (s : List ℕ) (d : Column) → S
     → sheetTotal n cols (drop at s) ≡ sum (each 0 (length cols) (λ c. columnTotal (getD cols c d) n (drop (placeFrom n at cols s c) s)))
 total-from n at [] s d h = no-columns 0 n (slotsIn [])
 total-from n at (col ∷ cols) s d h =
-    one-more col cols (columnSlots (layout col) n (drop at s)) (sheetSlots n cols (drop (columnBytes (layout col) n (drop at s)) (drop at s))) (h .1) 0 n
+    one-more col cols taken (sheetSlots n cols (drop (columnBytes (layout col) n (drop at s)) (drop at s))) (h .1) 0 n
     (zero-add n ∙ sym (h .0))
     ∙ ap₂ _+_ first
     (ap (sheetTotal n cols) (past-column (layout col) n at s)
@@ -61,8 +64,14 @@ total-from n at (col ∷ cols) s d h =
     (subst (λ (z : List ℕ). SheetFits n cols (sheetSlots n cols z)) (past-column (layout col) n at s) (h .2))
     ∙ ap sum (sym (each-next 0 (length cols) (λ c. columnTotal (getD (col ∷ cols) c d) n (drop (placeFrom n at (col ∷ cols) s c) s)))))
   where
-    first : sum (each 0 n (λ r. fieldLength (columnShape col) (getD (columnSlots (layout col) n (drop at s)) r none))) ≡ columnTotal col n (drop at s)
-    first = ap sum (each-same 0 n _ _ (λ r a b. ap (fieldLength (columnShape col)) (each-at n (slotAt (layout col) n (drop at s)) none r (omega arith))))
+    taken : List Slot
+    taken = map (foldedSlot (columnShape col) (col .options)) (columnSlots (layout col) n (drop at s))
+
+    first : sum (each 0 n (λ r. fieldLength (columnShape col) (getD taken r none))) ≡ columnTotal col n (drop at s)
+    first = ap sum (each-same 0 n _ _ (λ r a b.
+        ap (fieldLength (columnShape col)) (List·getD-map (foldedSlot (columnShape col) (col .options)) (columnSlots (layout col) n (drop at s)) r none)
+        ∙ fold-length (columnShape col) (col .options) (getD (columnSlots (layout col) n (drop at s)) r none)
+        ∙ ap (fieldLength (columnShape col)) (each-at n (slotAt (layout col) n (drop at s)) none r (omega arith))))
 
 -- the total of a sheet that passes
 pub total-is : (n : ℕ) (cols : List Column) (s : List ℕ) (d : Column) → Bytes s → sheetFault n cols s ≡ Pass
@@ -77,7 +86,7 @@ padded-most n l = go (leb n 32) refl
     go true e = omega (arith, leb-true n 32 e)
     go false e = omega arith
 
-field-most : (sh : Shape) (o : SortOptions) (s : Slot) → shapeBytes sh ≤ maxWidth → SlotFits maxSlot sh o s → fieldLength sh s ≤ maxField
+field-most : (sh : Shape) (o : SortOptions) (s : Slot) → shapeBytes sh ≤ maxWidth → SlotFits maxSlot sh o (foldedSlot sh o s) → fieldLength sh s ≤ maxField
 field-most (fixed k) o s w h = omega arith
 field-most variable o none w h = omega arith
 field-most variable o (some v) w h = padded-most (length v) (h .1)
@@ -85,4 +94,5 @@ field-most variable o (some v) w h = padded-most (length v) (h .1)
 pub total-most : (col : Column) (n c : ℕ) (s : List ℕ) → Bytes s → columnFault false (layout col) n c s ≡ Pass → valueBytes (col .kind) ≤ maxWidth
     → columnTotal col n s ≤ n * maxField
 total-most col n c s b e w = sum-most (λ r. fieldLength (columnShape col) (slotAt (layout col) n s r)) maxField 0 n (λ r x y.
-    field-most (columnShape col) (noColumn .options) (slotAt (layout col) n s r) w (slot-fits (columnShape col) (noColumn .options) n c s b e r (omega arith)))
+    field-most (columnShape col) (noColumn .options) (slotAt (layout col) n s r) w
+    (slot-fits (columnShape col) (noColumn .options) n c s (foldable (col .kind)) b e r (omega arith)))

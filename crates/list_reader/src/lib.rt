@@ -2,7 +2,7 @@
 ghost use mathlib.Core.Path.{_≡_};
 ghost use Prim.Native.Nat.{_+_, _<_, _≤_};
 ghost use lib.ListN.{length, getD};
-ghost use Rattle.format.specs.Columns.{kindOf, optionsOf, descriptionBytes, widthAt, columnAt, descriptionFault};
+ghost use Rattle.format.specs.Columns.{kindOf, optionsOf, mostOptions, descriptionBytes, widthAt, columnAt, descriptionFault};
 ghost use Rattle.list_reader.specs.Listing.{ListedAs};
 use format::Check;
 use format::Column;
@@ -45,7 +45,7 @@ fn kind_of(b: u8, width: usize) -> Kind
     }
 }
 
-// Bits 0 to 2 of an options byte.
+// Bits 0 to 3 of an options byte.
 fn options_of(o: u8) -> SortOptions
     ensures { λ r. ⌜ r ≡ optionsOf o ⌝ }
 {
@@ -53,7 +53,21 @@ fn options_of(o: u8) -> SortOptions
         descending: o % 2 == 1,
         nulls_first: o / 2 % 2 == 1,
         required: o / 4 % 2 == 1,
+        fold: o / 8 % 2 == 1,
     }
+}
+
+// The highest options byte of a kind: only the floats, kinds 10 to 12, have bit 3.
+fn most_options(kind: u8) -> u8
+    ensures { λ r. ⌜ r ≡ mostOptions kind ⌝ }
+{
+    if kind < 10 {
+        return 7;
+    }
+    if kind < 13 {
+        return 15;
+    }
+    7
 }
 
 // The bytes of a description: kind and options, and for kind 15 also the width.
@@ -93,7 +107,7 @@ fn check_description(list: &[u8], at: usize) -> Check
     if list.len() - at < description_bytes(kind) {
         return Check::Refuse(Refusal::ListCut(at));
     }
-    if 7 < list[at + 1] {
+    if most_options(kind) < list[at + 1] {
         return Check::Refuse(Refusal::OptionBits(at));
     }
     if format::MAX_WIDTH < width_at(list, at) {

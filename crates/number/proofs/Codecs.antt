@@ -41,14 +41,14 @@ module _ (w : Width) where
       (sym (reverse-reverse (spell (bitXor u (2 ^ hbits w))))
       ∙ ap reverse (flips w u f ∙ ap topFlipped (ap reverse p ∙ reverse-reverse (spell x))))
 
-  -- x read as signed, folded to f, encoded to r
+  -- x read as signed, ranked as f, encoded to r
   pub encode-f : (x r : ℕ) (s f : ℤ) → Fits w x → mag f < 2 ^ hbits w → s ≡ toZ w x
       → reverse (spell (ofZ w f)) ≡ restInverted (reverse (spell (ofZ w (kept s)))) → spell r ≡ signedKey (spell (ofZ w (kept f)))
       → spell r ≡ floatKey (spell x)
   encode-f x r s f h k e p q =
       q ∙ ap topFlipped (again f (sfits-of k) ∙ p ∙ ap (λ (y : ℕ). restInverted (reverse (spell y))) (rw (e, ofZ-toZ h) (ofZ-toZ h)))
 
-  -- x decoded to s, folded to f, whose pattern is r
+  -- x decoded to s, ranked as f, whose pattern is r
   pub decode-f : (x r : ℕ) (s f : ℤ) → mag s < 2 ^ hbits w → mag f < 2 ^ hbits w → spell (ofZ w s) ≡ signedUnkey (spell x)
       → reverse (spell (ofZ w f)) ≡ restInverted (reverse (spell (ofZ w (kept s)))) → r ≡ ofZ w (kept f)
       → spell r ≡ floatUnkey (spell x)

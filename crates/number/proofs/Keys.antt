@@ -11,7 +11,8 @@ use lib.ListN.{length, length-map}
 use borrow.Author.Tests.{lt-ltb, le-ltb, ltb-true, ltb-false}
 use Rattle.format.specs.Lists.{Bytes, low, lowBytes}
 use Rattle.format.specs.Key.{invert, inverted, topFlipped, restInverted}
-use Rattle.number.proofs.Words.{powers, length-lowBytes, bytes-lowBytes, low-lowBytes, spelled, join}
+use Rattle.basics.proofs.LowBytes.{length-lowBytes, bytes-lowBytes, low-lowBytes}
+use Rattle.number.proofs.Words.{powers, spelled, join}
 use Rattle.basics.proofs.Bytes.{bytes-invert}
 
 -- ---- every byte inverted

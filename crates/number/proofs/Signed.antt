@@ -20,7 +20,7 @@ use Rattle.format.specs.Key.{topFlipped, restInverted}
 use Rattle.number.proofs.Keys.{invertRest, top-flipped, rest-inverted}
 
 -- what computes at each width holds of every width
-every : (Q : Width → Type 0) → Q w8 → Q w16 → Q w32 → Q w64 → Q w128 → (w : Width) → Q w
+pub every : (Q : Width → Type 0) → Q w8 → Q w16 → Q w32 → Q w64 → Q w128 → (w : Width) → Q w
 every Q a b c d e w8 = a
 every Q a b c d e w16 = b
 every Q a b c d e w32 = c
@@ -129,7 +129,7 @@ pub flips : (w : Width) (x : ℕ) → Fits w x
 flips w x f =
     rw (top-by w x f (ltb x (2 ^ hbits w)) refl, top-half w, whole w) (top-flipped (below w) x (rw (range w) at (f .fits)))
 
--- ---- the fold of a float
+-- ---- the rank of a float
 
 -- the bits below the top one of the pattern of -(n + 1)
 rest : (w : Width) (n : ℕ) → n < 2 ^ hbits w → bitAnd (2 ^ bits w - suc n) (2 ^ hbits w - 1) ≡ 2 ^ hbits w - suc n
@@ -154,10 +154,10 @@ masked w (negsuc n) f =
     rw (div-eq-of-lt h, rest w 0 (pow-pos (hbits w)), le-ltb (2 ^ bits w - suc n) P (omega arith))
     (omega (arith, xor-add-and (2 ^ bits w - suc n) (P - 1), rest w n h))
 
--- the fold inverts the bits below the sign where it is set
-pub folds : (w : Width) (z : ℤ) → SFits w z
+-- the rank inverts the bits below the sign where it is set
+pub ranks : (w : Width) (z : ℤ) → SFits w z
     → reverse (lowBytes (bytes w) (ofZ w (toZ w (bitXor (ofZ w z) (mask w (toZ w (ofZ w z))))))) ≡ restInverted (reverse (lowBytes (bytes w) (ofZ w z)))
-folds w z f =
+ranks w z f =
     let m : Fits w (2 ^ hbits w - 1) = record { fits = omega (arith, double w, pow-pos (hbits w)) } in
     let g : Fits w (bitXor (ofZ w z) (mask w z)) = fits-xor (fits-ofZ f) (fits-and-r (ofZ w (shrZ z (2 ^ hbits w))) m) in
     rw (toZ-ofZ f, ofZ-toZ g, masked w z f, top-half w, whole w) (rest-inverted (below w) (ofZ w z) (rw (range w) at (fits-ofZ f .fits)))

@@ -1,15 +1,15 @@
--- A number and its bytes, low byte first, over the count of bytes: there and back, and by halves. Assumes nothing.
-use Prim.Native.Nat.{ℕ, zero, suc, _+_, _-_, _*_, _/_, _%_, _^_, _≤_, _<_}
-use mathlib.Core.Path.{_≡_, refl, sym, ap, ap₂, _∙_}
+-- A number and its bytes, low byte first, over the count of bytes: by halves, and read from a slice. Assumes nothing.
+use Prim.Native.Nat.{ℕ, _+_, _-_, _*_, _/_, _%_, _^_, _≤_, _<_}
+use mathlib.Core.Path.{_≡_, sym, ap, ap₂, _∙_}
 use mathlib.Core.List.{List, [], _∷_, _++_, reverse, reverse-append}
-use native.Mathlib.Nat.{one-le-pow, mod-lt, mod-eq-of-lt, mod-add-div, div-add-mod', div-lt-iff-lt-mul, pow-suc, pow-succ', mul-comm}
+use native.Mathlib.Nat.{one-le-pow, mod-lt, mod-eq-of-lt, mod-add-div, div-lt-iff-lt-mul, pow-succ', mul-comm}
 use native.Mathlib.Omega.{arith}
 use lib.Dec.{lit<}
 use lib.Pow.{pow-add}
-use lib.Arith.{digits-div, digits-mod, lt-one}
 use lib.ListN.{length, getD, set, take, drop, length-append, length-drop}
 use lib.Seq.{sets, drop-cons, drop-drop, take-add, take-all, length-take-le}
 use Rattle.format.specs.Lists.{Bytes, low, lowBytes}
+use Rattle.basics.proofs.LowBytes.{length-lowBytes, bytes-lowBytes, low-lowBytes, lowBytes-low}
 use Rattle.basics.proofs.Bytes.{bytes-append, bytes-drop, bytes-of, bytes-take}
 use Rattle.basics.proofs.Append.{sets-append}
 
@@ -17,31 +17,6 @@ use Rattle.basics.proofs.Append.{sets-append}
 
 pub powers : (n : ℕ) → 0 < 256 ^ n
 powers n = one-le-pow n 256 (lit< tt)
-
-pub length-lowBytes : (n x : ℕ) → length (lowBytes n x) ≡ n
-length-lowBytes zero x = refl
-length-lowBytes (suc n) x = ap suc (length-lowBytes n (x / 256))
-
-pub bytes-lowBytes : (n x : ℕ) → Bytes (lowBytes n x)
-bytes-lowBytes zero x = tt
-bytes-lowBytes (suc n) x = (mod-lt x (lit< tt), bytes-lowBytes n (x / 256))
-
--- ---- there and back
-
-pub low-lowBytes : (n x : ℕ) → x < 256 ^ n → low (lowBytes n x) ≡ x
-low-lowBytes zero x h = sym (lt-one h)
-low-lowBytes (suc n) x h =
-    let q : x / 256 < 256 ^ n = div-lt-iff-lt-mul (lit< tt) .1 (rw (pow-suc 256 n) at h) in
-    omega (arith, low-lowBytes n (x / 256) q, div-add-mod' x 256)
-
-pub lowBytes-low : (b : List ℕ) → Bytes b → lowBytes (length b) (low b) ≡ b
-lowBytes-low [] h = refl
-lowBytes-low (x ∷ b) h =
-    let e : x + 256 * low b ≡ low b * 256 + x = omega arith in
-    ap₂ (λ (y : ℕ) (z : ℕ). y ∷ lowBytes (length b) z)
-    (ap (λ (z : ℕ). z % 256) e ∙ digits-mod (low b) (h .0))
-    (ap (λ (z : ℕ). z / 256) e ∙ digits-div (low b) (h .0))
-    ∙ ap (λ (c : List ℕ). x ∷ c) (lowBytes-low b (h .1))
 
 -- the bytes of the number that b spells are b
 pub spelled : (n x : ℕ) (b : List ℕ) → Bytes b → length b ≡ n → x ≡ low b → lowBytes n x ≡ b

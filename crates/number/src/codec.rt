@@ -84,41 +84,41 @@ pub fn decode_i64(x: u64) -> i64
     sign::signed64(swap64(x) ^ 9223372036854775808)
 }
 
-// Floats as their bits, and back: folded, then as signed.
+// Floats as their bits, and back: ranked, then as signed.
 pub fn encode_f16(x: u16) -> u16
     ensures { λ r. ⌜ lowBytes 2 r ≡ floatKey (lowBytes 2 x) ⌝ }
 {
-    encode_i16(sign::fold16(sign::signed16(x)))
+    encode_i16(sign::rank16(sign::signed16(x)))
 }
 
 pub fn encode_f32(x: u32) -> u32
     ensures { λ r. ⌜ lowBytes 4 r ≡ floatKey (lowBytes 4 x) ⌝ }
 {
-    encode_i32(sign::fold32(sign::signed32(x)))
+    encode_i32(sign::rank32(sign::signed32(x)))
 }
 
 pub fn encode_f64(x: u64) -> u64
     ensures { λ r. ⌜ lowBytes 8 r ≡ floatKey (lowBytes 8 x) ⌝ }
 {
-    encode_i64(sign::fold64(sign::signed64(x)))
+    encode_i64(sign::rank64(sign::signed64(x)))
 }
 
 pub fn decode_f16(x: u16) -> u16
     ensures { λ r. ⌜ lowBytes 2 r ≡ floatUnkey (lowBytes 2 x) ⌝ }
 {
-    sign::pattern16(sign::fold16(decode_i16(x)))
+    sign::pattern16(sign::rank16(decode_i16(x)))
 }
 
 pub fn decode_f32(x: u32) -> u32
     ensures { λ r. ⌜ lowBytes 4 r ≡ floatUnkey (lowBytes 4 x) ⌝ }
 {
-    sign::pattern32(sign::fold32(decode_i32(x)))
+    sign::pattern32(sign::rank32(decode_i32(x)))
 }
 
 pub fn decode_f64(x: u64) -> u64
     ensures { λ r. ⌜ lowBytes 8 r ≡ floatUnkey (lowBytes 8 x) ⌝ }
 {
-    sign::pattern64(sign::fold64(decode_i64(x)))
+    sign::pattern64(sign::rank64(decode_i64(x)))
 }
 
 // Descending inverts every byte, of a number's word as of its bytes; a second time undoes it.

@@ -3,6 +3,7 @@
 // the count of bytes, in proofs/.
 mod codec;
 mod coded;
+mod fold;
 mod sign;
 mod word;
 
@@ -18,6 +19,9 @@ pub use coded::encode8;
 pub use coded::encode16;
 pub use coded::encode32;
 pub use coded::encode64;
+pub use fold::folded16;
+pub use fold::folded32;
+pub use fold::folded64;
 pub use word::low16;
 pub use word::low32;
 pub use word::low64;
@@ -25,7 +29,7 @@ pub use word::put16;
 pub use word::put32;
 pub use word::put64;
 
-// How a number stands in a row: high byte first; the same with its top bit flipped; or folded, and then as signed.
+// How a number stands in a row: high byte first; the same with its top bit flipped; or ranked, and then as signed.
 pub enum Coding {
     Unsigned,
     Signed,

@@ -1,4 +1,4 @@
-// Signed numbers and their two's complement patterns, and the fold of a float's pattern.
+// Signed numbers and their two's complement patterns, and the rank of a float's pattern.
 ghost use mathlib.Core.Path.{_≡_};
 ghost use mathlib.Core.List.{reverse};
 ghost use mir.Syntax.{w8, w16, w32, w64};
@@ -81,20 +81,20 @@ pub fn pattern64(s: i64) -> u64
 }
 
 // A float's pattern as a signed number: where the sign is set, all other bits are inverted. The arithmetic shift by all
-// bits but one gives the mask; a second fold undoes the first.
-pub fn fold16(s: i16) -> i16
+// bits but one gives the mask; a second rank undoes the first.
+pub fn rank16(s: i16) -> i16
     ensures { λ r. ⌜ reverse (lowBytes 2 (ofZ w16 r)) ≡ restInverted (reverse (lowBytes 2 (ofZ w16 s))) ⌝ }
 {
     s ^ ((s >> 15) & 32767)
 }
 
-pub fn fold32(s: i32) -> i32
+pub fn rank32(s: i32) -> i32
     ensures { λ r. ⌜ reverse (lowBytes 4 (ofZ w32 r)) ≡ restInverted (reverse (lowBytes 4 (ofZ w32 s))) ⌝ }
 {
     s ^ ((s >> 31) & 2147483647)
 }
 
-pub fn fold64(s: i64) -> i64
+pub fn rank64(s: i64) -> i64
     ensures { λ r. ⌜ reverse (lowBytes 8 (ofZ w64 r)) ≡ restInverted (reverse (lowBytes 8 (ofZ w64 s))) ⌝ }
 {
     s ^ ((s >> 63) & 9223372036854775807)

@@ -16,6 +16,9 @@ pub fn read_field(row: &[u8], column: Column) -> FieldRead
     match kind {
         Kind::Bool => fixed_reader::read_boolean(row, options),
         Kind::Variable => variable_reader::read(row, options),
+        Kind::F16 => fixed_reader::read_float(row, 2, options),
+        Kind::F32 => fixed_reader::read_float(row, 4, options),
+        Kind::F64 => fixed_reader::read_float(row, 8, options),
         _ => fixed_reader::read(row, width(kind), options),
     }
 }

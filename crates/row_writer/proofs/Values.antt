@@ -1,6 +1,6 @@
 -- A slot of a column that passes: where its value lies, and what its field comes to. Assumes nothing.
 use Prim.Native.Nat.{ℕ, suc, _+_, _-_, _*_, _/_, _<_, _≤_}
-use mathlib.Core.Path.{_≡_, refl, ap, ap₂, sym, _∙_}
+use mathlib.Core.Path.{_≡_, refl, ap, ap₂, sym, subst, _∙_}
 use mathlib.Core.Bool.{Bool as Truth, true, false, cond}
 use mathlib.Core.Option.{none, some}
 use mathlib.Core.List.{List, _∷_}
@@ -16,7 +16,8 @@ use Rattle.format.specs.declared.Kind.{Kind}
 use Rattle.format.specs.declared.Kind.the-variants.{Bool, Variable}
 use Rattle.format.specs.Limits.{maxSlot}
 use Rattle.format.specs.Lists.{low}
-use Rattle.format.specs.Kinds.{bool, variable, Slot, shape, valueBytes}
+use Rattle.format.specs.Kinds.{bool, variable, Shape, Slot, shape, valueBytes}
+use Rattle.format.specs.Fold.{foldedSlot}
 use Rattle.format.specs.Field.{field, fixedField, fieldLength, nullByte}
 use Rattle.format.specs.Sheet.{Layout, ended, wide, layoutFor, packed, bit, end, valuesFault, boolByte, valueAt, columnFault, slotAt}
 use Rattle.bits.proofs.Nulls.{bits-passed}
@@ -72,7 +73,7 @@ module _ (o : SortOptions) (at next : ℕ) (entry exit : List ℕ) where
   module _ (n r : ℕ) (s : List ℕ) where
     -- what is promised of the value of row r
     abbrev Promised : Kind → Type 0
-    Promised kind = Wrote (field (shape kind) o (some (valueAt (layoutFor (shape kind)) n s r))) at entry exit next
+    Promised kind = Wrote (field (shape kind) o (foldedSlot (shape kind) o (some (valueAt (layoutFor (shape kind)) n s r)))) at entry exit next
 
     -- the three sorts
     pub bool-promised : {kind : Kind} (b : Truth) → kind ≡ Bool → b ≡ bit s r → Wrote (fixedField bool o (some (boolByte b))) at entry exit next → Promised kind
@@ -81,9 +82,16 @@ module _ (o : SortOptions) (at next : ℕ) (entry exit : List ℕ) where
     pub variable-promised : {kind : Kind} → kind ≡ Variable → Wrote (field variable o (some (valueAt ended n s r))) at entry exit next → Promised kind
     variable-promised e p = rw e p
 
-    pub wide-promised : {kind : Kind} → WideKind kind → Wrote (field (shape kind) o (some (valueAt (wide (valueBytes kind)) n s r))) at entry exit next
-        → Promised kind
+    pub wide-promised : {kind : Kind} → WideKind kind
+        → Wrote (field (shape kind) o (foldedSlot (shape kind) o (some (valueAt (wide (valueBytes kind)) n s r)))) at entry exit next → Promised kind
     wide-promised w p = rw (wide-layout w) p
+
+-- the field of a slot that has the value of row r, once that value is written
+pub value-wrote : (sh : Shape) (o : SortOptions) (ly : Layout) (n r at next : ℕ) (entry exit s t : List ℕ) (x : Slot)
+    → x ≡ some (valueAt ly n t r) → s ≡ t → Wrote (field sh o (foldedSlot sh o (some (valueAt ly n s r)))) at entry exit next
+    → Wrote (field sh o (foldedSlot sh o x)) at entry exit next
+value-wrote sh o ly n r at next entry exit s t x e q p =
+    subst (λ (y : Slot). Wrote (field sh o (foldedSlot sh o y)) at entry exit next) (ap (λ (z : List ℕ). some (valueAt ly n z r)) q ∙ sym e) p
 
 -- ---- what the callee asks, from values that pass, by the kind
 module _ {kind : Kind} (n r : ℕ) (s : List ℕ) (l : r < n) (h : Passes (λ c. valuesFault (layoutFor (shape kind)) n c s)) where

@@ -5,6 +5,7 @@ ghost use Prim.Native.Nat.{_+_, _<_, _≤_};
 ghost use lib.ListN.{length};
 ghost use Rattle.format.specs.Limits.{maxRows};
 ghost use Rattle.format.specs.Kinds.{variable as variableShape, columnShape};
+ghost use Rattle.format.specs.Fold.{foldedSlot};
 ghost use Rattle.format.specs.Field.{field, fieldLength};
 ghost use Rattle.format.specs.Sheet.{ended, layout, valuesFault, valueAt, columnFault, slotAt};
 ghost use Rattle.format.specs.Passed.{Ended, Passes};
@@ -47,14 +48,14 @@ fn put_variable(
     variable_writer::encode_one(rows, at, &values[from..to], options)
 }
 
-// The value of row r, out of the values of the column. Two tests before encode's match, and not a match around it: the
+// The value of row r, out of the values of the column, folded where the column folds. Two tests before encode's match, and not a match around it: the
 // optimiser makes one jump of these.
 fn put_value(values: &[u8], n: usize, r: usize, column: Column, rows: &mut [u8], at: usize) -> usize
     requires { ⌜ (n ≤ maxRows) × (r < n) ⌝ }
     requires { ⌜ Passes (λ c. valuesFault (layout column) n c (now values)) ⌝ }
     requires { ⌜ at + fieldLength (columnShape column) (some (valueAt (layout column) n (now values) r)) ≤ length (now rows) ⌝ }
-    ensures { λ x. ⌜ Wrote (field (columnShape column) (column .options) (some (valueAt (layout column) n (now (values .entry)) r))) at
-        (now (rows .entry)) (now (rows .exit)) x ⌝ }
+    ensures { λ x. ⌜ Wrote (field (columnShape column) (column .options) (foldedSlot (columnShape column) (column .options)
+        (some (valueAt (layout column) n (now (values .entry)) r)))) at (now (rows .entry)) (now (rows .exit)) x ⌝ }
 {
     let kind = column.kind;
     let options = column.options;
@@ -67,7 +68,7 @@ fn put_value(values: &[u8], n: usize, r: usize, column: Column, rows: &mut [u8],
     fixed_writer::encode(rows, at, kind, values, r, options)
 }
 
-// The slot of row r of the column in front of the part.
+// The slot of row r of the column in front of the part, as encode takes it.
 pub fn put_field(
     part: &[u8],
     n: usize,
@@ -79,8 +80,8 @@ pub fn put_field(
     requires { ⌜ (n ≤ maxRows) × (r < n) ⌝ }
     requires { ⌜ Passes (λ c. columnFault false (layout column) n c (now part)) ⌝ }
     requires { ⌜ at + fieldLength (columnShape column) (slotAt (layout column) n (now part) r) ≤ length (now rows) ⌝ }
-    ensures { λ x. ⌜ Wrote (field (columnShape column) (column .options) (slotAt (layout column) n (now (part .entry)) r)) at
-        (now (rows .entry)) (now (rows .exit)) x ⌝ }
+    ensures { λ x. ⌜ Wrote (field (columnShape column) (column .options) (foldedSlot (columnShape column) (column .options)
+        (slotAt (layout column) n (now (part .entry)) r))) at (now (rows .entry)) (now (rows .exit)) x ⌝ }
 {
     if bits::bit(part, r) {
         let valid = bits::packed(n);

@@ -13,7 +13,9 @@ use Rattle.format.specs.declared.Refusal.the-variants.{BytesAfter}
 use Rattle.format.specs.declared.Check.the-variants.{Pass, Refuse}
 use Rattle.format.specs.Limits.{maxColumns, maxRows}
 use Rattle.format.specs.Sheet.{layout, columnFault, columnBytes, columnSlots, nullsIn, sheetFaultFrom, sheetFault, sheetSlots, nulls, place}
+use Rattle.format.specs.Kinds.{columnShape}
 use Rattle.basics.proofs.Checks.{refuse-pass}
+use Rattle.laws.proofs.Folding.{fold-nulls}
 use Rattle.laws.proofs.Parts.{below-set}
 use Rattle.laws.proofs.Places.{place-next, past-column, column-stands}
 use Rattle.laws.proofs.Sheets.{column-room}
@@ -71,7 +73,8 @@ module _ (n : ℕ) (cols : List Column) (sheet : List ℕ) (facts : List Facts) 
     abbrev bytes : ℕ
     bytes = columnBytes (layout col) n part
 
-    pub bad : (r : Sheeted) (x : Refusal) → columnFault (col .options .required) (layout col) n c part ≡ Refuse x → r .check ≡ Refuse x → SheetedAs n cols sheet r
+    pub bad : (r : Sheeted) (x : Refusal) → columnFault (col .options .required) (layout col) n c part ≡ Refuse x → r .check ≡ Refuse x
+        → SheetedAs n cols sheet r
     bad r x e a = refused n cols sheet r x a (sym (t .faults) ∙ rw (next, e))
 
     module _ (e : columnFault (col .options .required) (layout col) n c part ≡ Pass) where
@@ -89,7 +92,10 @@ module _ (n : ℕ) (cols : List Column) (sheet : List ℕ) (facts : List Facts) 
 
       nulls-next : nulls (sheetSlots n (drop c cols) part)
           ≡ nullsIn (columnSlots (layout col) n part) + nulls (sheetSlots n (drop (suc c) cols) (drop (at + bytes) sheet))
-      nulls-next = rw (← past, next)
+      nulls-next =
+          rw (← past, next)
+          (ap (λ (k : ℕ). k + nulls (sheetSlots n (drop (suc c) cols) (drop bytes part)))
+          (fold-nulls (columnShape col) (col .options) (columnSlots (layout col) n part)))
 
       pub more : (k w : ℕ) → k ≡ nullsIn (columnSlots (layout col) n part) → k ≤ n → n ≤ maxRows → w ≡ bytes → c < maxColumns
           → Turn n cols sheet (set facts c (record { column = col; base = at })) (total + k) (at + w) (c + 1)

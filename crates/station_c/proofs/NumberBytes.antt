@@ -13,7 +13,8 @@ use Rattle.format.specs.Lent.{answerRoom, eightBytes, numberBytes}
 use Rattle.basics.proofs.Append.{Turns, over-sets, turns-more, turns-end}
 use Rattle.basics.proofs.Bytes.{bytes-take, bytes-drop}
 use Rattle.basics.proofs.Lists.{each-is, length-each, map-is}
-use Rattle.number.proofs.Words.{length-lowBytes, spelled}
+use Rattle.basics.proofs.LowBytes.{length-lowBytes}
+use Rattle.number.proofs.Words.{spelled}
 use Rattle.station_c.specs.Offsets.{eightAt, firstEights}
 
 -- ---- how long they are, and joined

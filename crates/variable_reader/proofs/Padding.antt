@@ -14,7 +14,8 @@ use Rattle.format.specs.Lists.{Bytes, low, lowBytes}
 use Rattle.format.specs.Field.{directed}
 use Rattle.format.specs.Read.{fromBad}
 use Rattle.laws.proofs.Directed.{directed-take, directed-drop}
-use Rattle.number.proofs.Words.{low-lowBytes, read-back}
+use Rattle.basics.proofs.LowBytes.{low-lowBytes}
+use Rattle.number.proofs.Words.{read-back}
 use Rattle.number.proofs.Tops.{word-top}
 
 -- no more than there are

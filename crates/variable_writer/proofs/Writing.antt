@@ -13,7 +13,7 @@ use Rattle.basics.specs.Wrote.{Wrote}
 use Rattle.basics.proofs.Append.{sets-append, Walk, walk-start, walk-at, walk-piece, walk-room}
 use Rattle.basics.proofs.Bytes.{bytes-drop}
 use Rattle.laws.proofs.Directed.{length-directed, directed-append}
-use Rattle.number.proofs.Words.{length-lowBytes}
+use Rattle.basics.proofs.LowBytes.{length-lowBytes}
 use Rattle.runs.proofs.Written.{walk-wrote}
 use Rattle.variable_writer.specs.Even.{evenBlocks}
 use Rattle.variable_writer.proofs.Padded.{padded, length-padded, padded-step, block-padded, word-padded}

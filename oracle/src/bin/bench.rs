@@ -1,7 +1,8 @@
 //! The station's whole public encode and decode against a plain Rust encoder and decoder made from
 //! the crate's `fixed.rs` and `variable.rs`: 4,096 rows of plate (u32), glyph name (variable, 12
-//! bytes), position (f64) and exposure (months, days, nanoseconds); then of two decimals (i128 and
-//! i256). For each one input, cleared buffers, the four works in turn in one run.
+//! bytes), position (f64) and exposure (months, days, nanoseconds); of two decimals (i128 and i256);
+//! and of three floats, which the station then folds as well, and the crate is given folded. For each
+//! one input, cleared buffers, the four works in turn in one run.
 
 use arrow_row::driver::{self, Array, Field};
 use oracle::columns::Column;
@@ -10,17 +11,23 @@ use oracle::make::{self, Nulls};
 use oracle::options::Options;
 use oracle::rng::Rng;
 use oracle::table::Table;
+use std::collections::BTreeMap;
 use std::hint::black_box;
 use std::process::{Command, ExitCode};
 use std::time::Instant;
 
 const USAGE: &str = "bench [--rounds N] [--nulls] [--descending] [--callgrind] \
-     [--table catalogue|decimals] [--only rust-encode|station-encode|rust-decode|station-decode]";
+     [--table catalogue|decimals|floats|folded] [--only rust-encode|station-encode|rust-decode|station-decode]";
 const ROWS: usize = 4096;
 const NAME_BYTES: usize = 12;
 
-/// What is encoded and decoded: a name, and the kinds of the columns.
-const TABLES: [(&str, &[u8]); 2] = [("catalogue", &[8, 16, 12, 14]), ("decimals", &[17, 18])];
+/// What is encoded and decoded: a name, the kinds of the columns, and an option of theirs.
+const TABLES: [(&str, &[u8], u8); 4] = [
+    ("catalogue", &[8, 16, 12, 14], 0),
+    ("decimals", &[17, 18], 0),
+    ("floats", &[10, 11, 12], 0),
+    ("folded", &[10, 11, 12], make::FOLD),
+];
 
 /// What is measured, each beside the one it is held against.
 const WORKS: [&str; 4] = [
@@ -188,27 +195,36 @@ fn print_pairs(unit: &str, figures: [f64; 4]) {
 fn main() -> ExitCode {
     let options = Options::read(USAGE);
     let wanted = options.word("--table");
-    for (name, kinds) in TABLES {
+    let mut of = BTreeMap::new();
+    for (name, kinds, option) in TABLES {
         if wanted.is_none_or(|wanted| wanted == name) {
-            measure(&options, name, kinds);
+            of.insert(name, measure(&options, name, kinds, option));
         }
+    }
+    if let (Some(Some(plain)), Some(Some(folded))) = (of.get("floats"), of.get("folded")) {
+        let more = |work: usize| (folded[work] as f64 - plain[work] as f64) / ROWS as f64;
+        let (encode, decode) = (more(1), more(3));
+        println!(
+            "folding three floats costs {encode:.2} ns a row in encode, {decode:.2} in decode"
+        );
     }
     ExitCode::SUCCESS
 }
 
-/// Times one table, or runs one work on it.
-fn measure(options: &Options, name: &str, kinds: &[u8]) {
+/// The medians of one table, printed too; or one work run on it.
+fn measure(options: &Options, name: &str, kinds: &[u8], option: u8) -> Option<[u64; 4]> {
     let nulls = match options.has("--nulls") {
         true => Nulls::Random,
         false => Nulls::None,
     };
     let order = if options.has("--descending") { 3 } else { 2 };
-    let table = table_of(kinds, order, nulls);
+    let table = table_of(kinds, order | option, nulls);
     let mut bench = Bench::new(&table);
     bench.check(&table);
     let rounds = options.number("--rounds").unwrap_or(2001) as usize;
     if let Some(work) = options.word("--only") {
-        return (0..rounds).for_each(|_| bench.run(work));
+        (0..rounds).for_each(|_| bench.run(work));
+        return None;
     }
 
     println!(
@@ -230,4 +246,5 @@ fn measure(options: &Options, name: &str, kinds: &[u8]) {
             false => println!("callgrind gave no counts; is valgrind there?"),
         }
     }
+    Some(medians)
 }

@@ -26,6 +26,7 @@ fn main() -> ExitCode {
     sweeps::kinds(&mut judge, &mut rng, !quick);
     sweeps::lengths(&mut judge, &mut rng);
     sweeps::slices(&mut judge, &mut rng);
+    sweeps::halves(&mut judge);
     sweeps::tables(&mut judge, &mut rng, sheets);
     sweeps::full(&mut judge, &mut rng);
     sweeps::ceiling(&mut judge, &mut rng);
@@ -34,10 +35,11 @@ fn main() -> ExitCode {
     refusals::long_values(&mut judge);
     refusals::sheets(&mut judge, &mut rng);
     refusals::required(&mut judge, &mut rng);
+    refusals::unfolded(&mut judge, &mut rng);
     refusals::rooms(&mut judge, &mut rng);
     refusals::empty(&mut judge);
     refusals::damaged(&mut judge, &mut rng, sheets);
 
     // Every answer of the entries must have come up.
-    judge.finish((0..25).chain([27]))
+    judge.finish((0..25).chain([27, 28]))
 }

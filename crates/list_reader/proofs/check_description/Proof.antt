@@ -22,29 +22,29 @@ returns-3 c =
 returns-4 : tie.Need-returns-4
 returns-4 c =
     simp (
-      le-ltb _ _ (c .before .before .before .before .before .if1 .left),
-      le-ltb _ _ (c .before .before .before .before .if2 .left),
-      le-ltb _ _ (rw (c .before .before .before .description-bytes .ensures .0) at (c .before .before .if3 .left)),
-      lt-ltb _ _ (c .if4 .taken),
+      le-ltb _ _ (c .before .before .before .before .before .before .if1 .left),
+      le-ltb _ _ (c .before .before .before .before .before .if2 .left),
+      le-ltb _ _ (rw (c .before .before .before .before .description-bytes .ensures .0) at (c .before .before .before .if3 .left)),
+      lt-ltb _ _ (rw (c .before .before .most-options .ensures) at (c .if4 .taken)),
     )
 
 returns-5 : tie.Need-returns-5
 returns-5 c =
     simp (
-      le-ltb _ _ (c .before .before .before .before .before .before .before .if1 .left),
-      le-ltb _ _ (c .before .before .before .before .before .before .if2 .left),
-      le-ltb _ _ (rw (c .before .before .before .before .before .description-bytes .ensures .0) at (c .before .before .before .before .if3 .left)),
-      le-ltb _ _ (c .before .before .if4 .left),
+      le-ltb _ _ (c .before .before .before .before .before .before .before .before .if1 .left),
+      le-ltb _ _ (c .before .before .before .before .before .before .before .if2 .left),
+      le-ltb _ _ (rw (c .before .before .before .before .before .before .description-bytes .ensures .0) at (c .before .before .before .before .before .if3 .left)),
+      le-ltb _ _ (rw (c .before .before .before .before .most-options .ensures) at (c .before .before .if4 .left)),
       lt-ltb _ _ (rw (c .before .width-at .ensures) at (c .if5 .taken)),
     )
 
 returns-6 : tie.Need-returns-6
 returns-6 c =
     simp (
-      le-ltb _ _ (c .before .before .before .before .before .before .before .if1 .left),
-      le-ltb _ _ (c .before .before .before .before .before .before .if2 .left),
-      le-ltb _ _ (rw (c .before .before .before .before .before .description-bytes .ensures .0) at (c .before .before .before .before .if3 .left)),
-      le-ltb _ _ (c .before .before .if4 .left),
+      le-ltb _ _ (c .before .before .before .before .before .before .before .before .if1 .left),
+      le-ltb _ _ (c .before .before .before .before .before .before .before .if2 .left),
+      le-ltb _ _ (rw (c .before .before .before .before .before .before .description-bytes .ensures .0) at (c .before .before .before .before .before .if3 .left)),
+      le-ltb _ _ (rw (c .before .before .before .before .most-options .ensures) at (c .before .before .if4 .left)),
       le-ltb _ _ (rw (c .before .width-at .ensures) at (c .if5 .left)),
     )
 
@@ -58,6 +58,7 @@ check-description-spec =
     (λ c. search needs)
     (λ c κs. search needs)
     returns-3
+    (λ c κs. search needs)
     (λ c. search needs)
     (λ c. search needs)
     returns-4

@@ -11,41 +11,41 @@ abbrev entry : tie.After-null-lead → tie.Start
 entry c = c .before .before .before .before
 
 missing : tie.Need-returns
-missing c k f =
+missing c k f g =
     let A = c .before .before .args in
-    read-missing (A .row .now) (A .width) (A .options) k f (c .if1 .taken)
+    read-missing (A .row .now) (A .width) (A .options) k f g (c .if1 .taken)
 
 null : tie.Need-returns-2
-null c k f =
+null c k f g =
     let at-then = c .before in
     let at-lead = at-then .before in
     let A = entry at-lead .args in
     c .read-null .ensures
-    ∙ read-null (A .row .now) (A .width) (A .options) k f (omega arith) (sym (at-lead .null-lead .ensures) ∙ at-then .if2 .taken)
+    ∙ read-null (A .row .now) (A .width) (A .options) k f g (omega arith) (sym (at-lead .null-lead .ensures) ∙ at-then .if2 .taken)
 
 bad : tie.Need-returns-3
-bad c k f =
+bad c k f g =
     let at-else = c .before in
     let at-lead = at-else .before in
     let A = entry at-lead .args in
-    read-bad (A .row .now) (A .width) (A .options) k f (omega arith) (sym (at-lead .null-lead .ensures) ∙ at-else .if2 .left) (c .if3 .taken)
+    read-bad (A .row .now) (A .width) (A .options) k f g (omega arith) (sym (at-lead .null-lead .ensures) ∙ at-else .if2 .left) (c .if3 .taken)
 
 cut : tie.Need-returns-4
-cut c k f =
+cut c k f g =
     let at-value = c .before in
     let at-else = at-value .before in
     let at-lead = at-else .before in
     let A = entry at-lead .args in
-    read-cut (A .row .now) (A .width) (A .options) k f (omega arith) (sym (at-lead .null-lead .ensures) ∙ at-else .if2 .left) (at-value .if3 .left)
+    read-cut (A .row .now) (A .width) (A .options) k f g (omega arith) (sym (at-lead .null-lead .ensures) ∙ at-else .if2 .left) (at-value .if3 .left)
     (c .if4 .taken)
 
 whole : tie.Need-returns-5
-whole c k f =
+whole c k f g =
     let at-value = c .before in
     let at-else = at-value .before in
     let at-lead = at-else .before in
     let A = entry at-lead .args in
-    read-whole (A .row .now) (A .width) (A .options) k f (omega arith) (sym (at-lead .null-lead .ensures) ∙ at-else .if2 .left) (at-value .if3 .left)
+    read-whole (A .row .now) (A .width) (A .options) k f g (omega arith) (sym (at-lead .null-lead .ensures) ∙ at-else .if2 .left) (at-value .if3 .left)
     (c .if4 .left)
 
 pub read-spec : {M : Type 1} → statement M

@@ -5,19 +5,15 @@ use Prim.Native.Nat.{ℕ}
 use mathlib.Core.Path.{_≡_, refl}
 use lib.ListN.{getD}
 use native.Mathlib.Omega.{arith}
-use Rattle.format.specs.Kinds.{plain}
-use Rattle.basics.specs.Wide.{WideShape}
+use Rattle.format.specs.Kinds.{bool, plain}
 use Rattle.laws.proofs.Directed.{turn, turned as turned-byte}
-use Rattle.fixed_reader.proofs.Beside.{bool-alike, bool-whole, bool-bad, bool-good}
+use Rattle.fixed_reader.proofs.Beside.{plain-shape, none-alike, value-whole, bool-bad, bool-good}
 use Rattle.fixed_reader.proofs.reader.read_boolean.Statement.{statement}
 use Rattle.fixed_reader.proofs.reader.read_boolean.Tie as tie
 
 -- no two answers with other constructors are one
 apart : _≡_ {A = ℕ} 0 1 → ⊥
 apart z = omega arith
-
-byte : WideShape 1 (plain 1)
-byte = record { bytes = refl; other = λ e. apart (cc) }
 
 -- what was known at the entry, where the field is read as a plain byte
 abbrev entry : tie.After-read → tie.Start
@@ -28,7 +24,7 @@ index c =
     let at-arm = c .before in
     let at-read = at-arm .before .before in
     let A = entry at-read .args in
-    bool-whole (A .options) (A .row .now) _ (at-read .read .ensures (plain 1) byte) _ _ (at-arm .enum-told2 .given .1)
+    value-whole bool (A .options) (A .row .now) _ (at-read .read .ensures (plain 1) (plain-shape 1) refl) _ _ (at-arm .enum-told2 .given .1)
 
 -- where the value byte is inverted back, and what it is
 abbrev at-value : tie.After-directed8 → tie.After-enum-told2
@@ -46,13 +42,13 @@ bad c =
     let at-arm = at-value at-turned in
     let at-read = at-arm .before .before in
     let A = entry at-read .args in
-    bool-bad (A .options) (A .row .now) _ (at-read .read .ensures (plain 1) byte) _ _ (at-arm .enum-told2 .given .1) _ (turned at-turned) (c .if1 .taken)
+    bool-bad (A .options) (A .row .now) _ (at-read .read .ensures (plain 1) (plain-shape 1) refl) _ _ (at-arm .enum-told2 .given .1) _ (turned at-turned) (c .if1 .taken)
 
 null : tie.Need-returns-2
 null c =
     let at-read = c .before .before in
     let A = entry at-read .args in
-    bool-alike (A .options) (A .row .now) _ (at-read .read .ensures (plain 1) byte) (λ m n e. let t = c .enum-told .given .1 in apart (cc))
+    none-alike bool (A .options) (A .row .now) _ (at-read .read .ensures (plain 1) (plain-shape 1) refl) (λ m n e. let t = c .enum-told .given .1 in apart (cc))
 
 good : tie.Need-returns-3
 good c =
@@ -60,13 +56,13 @@ good c =
     let at-arm = at-value at-turned in
     let at-read = at-arm .before .before in
     let A = entry at-read .args in
-    bool-good (A .options) (A .row .now) _ (at-read .read .ensures (plain 1) byte) _ _ (at-arm .enum-told2 .given .1) _ (turned at-turned) (c .if1 .left)
+    bool-good (A .options) (A .row .now) _ (at-read .read .ensures (plain 1) (plain-shape 1) refl) _ _ (at-arm .enum-told2 .given .1) _ (turned at-turned) (c .if1 .left)
 
 fault : tie.Need-returns-4
 fault c =
     let at-read = c .before .before in
     let A = entry at-read .args in
-    bool-alike (A .options) (A .row .now) _ (at-read .read .ensures (plain 1) byte) (λ m n e. let t = c .enum-told3 .given .1 in apart (cc))
+    none-alike bool (A .options) (A .row .now) _ (at-read .read .ensures (plain 1) (plain-shape 1) refl) (λ m n e. let t = c .enum-told3 .given .1 in apart (cc))
 
 pub read-boolean-spec : {M : Type 1} → statement M
 read-boolean-spec =

@@ -132,21 +132,21 @@ encode-spec =
     let at-call = c .before .before in
     let at-arm = at-call .before .before in
     wrote (handed (at-arm .before .before)) (at-arm .enum-told8 .given .1) _ refl (at-call .put-number642 .ensures))
-    (λ c. let at-call = c .before .before in at-call .put-number163 .kept .0 ∙ simp length-set)
+    (λ c. let at-call = c .before .before in at-call .put-float16 .kept .0 ∙ simp length-set)
     (λ c.
     let at-call = c .before .before in
     let at-arm = at-call .before .before in
-    wrote (handed (at-arm .before .before)) (at-arm .enum-told9 .given .1) _ refl (at-call .put-number163 .ensures))
-    (λ c. let at-call = c .before .before in at-call .put-number323 .kept .0 ∙ simp length-set)
+    wrote (handed (at-arm .before .before)) (at-arm .enum-told9 .given .1) _ refl (at-call .put-float16 .ensures))
+    (λ c. let at-call = c .before .before in at-call .put-float32 .kept .0 ∙ simp length-set)
     (λ c.
     let at-call = c .before .before in
     let at-arm = at-call .before .before in
-    wrote (handed (at-arm .before .before)) (at-arm .enum-told10 .given .1) _ refl (at-call .put-number323 .ensures))
-    (λ c. let at-call = c .before .before in at-call .put-number643 .kept .0 ∙ simp length-set)
+    wrote (handed (at-arm .before .before)) (at-arm .enum-told10 .given .1) _ refl (at-call .put-float32 .ensures))
+    (λ c. let at-call = c .before .before in at-call .put-float64 .kept .0 ∙ simp length-set)
     (λ c.
     let at-call = c .before .before in
     let at-arm = at-call .before .before in
-    wrote (handed (at-arm .before .before)) (at-arm .enum-told11 .given .1) _ refl (at-call .put-number643 .ensures))
+    wrote (handed (at-arm .before .before)) (at-arm .enum-told11 .given .1) _ refl (at-call .put-float64 .ensures))
     (λ c. let at-call = c .before .before in at-call .encode-day-time .kept .0 ∙ simp length-set)
     (λ c.
     let at-call = c .before .before in

@@ -1,5 +1,6 @@
 -- `fixed_writer::numbers::put_number64` meets its contract: the word of the key is stored. Assumes nothing.
 use borrow.Author.Needs.{needs}
+use Rattle.number.specs.Codings.{codingKey}
 use Rattle.fixed_writer.proofs.Writing.{number-wrote}
 use Rattle.fixed_writer.proofs.numbers.put_number64.Statement.{statement}
 use Rattle.fixed_writer.proofs.numbers.put_number64.Tie as tie
@@ -13,7 +14,7 @@ returns c =
     let at-known = at-read .before in
     let at-start = at-known .before .before in
     let A = at-start .args in
-    number-wrote 8 (A .coding) (A .descending) (A .values .now) (A .from) (λ i. at-known .shared-slice-known .given i .fits) (at-start .pre .0)
+    number-wrote 8 (codingKey (A .coding)) (A .descending) (A .values .now) (A .from) (λ i. at-known .shared-slice-known .given i .fits) (at-start .pre .0)
     _ _ _ (A .out .now) _ (A .at) (at-read .low64 .ensures) (at-coded .encode64 .ensures) (at-turned .directed64 .ensures) (at-put .put64 .ensures)
 
 pub put-number64-spec : {M : Type 1} → statement M

@@ -2,6 +2,7 @@
 use borrow.Author.Needs.{needs}
 use native.Mathlib.Omega.{arith}
 use Rattle.number.proofs.Words.{byte, byte-set}
+use Rattle.number.specs.Codings.{codingKey}
 use Rattle.fixed_writer.proofs.Writing.{number-wrote}
 use Rattle.fixed_writer.proofs.numbers.put_number8.Statement.{statement}
 use Rattle.fixed_writer.proofs.numbers.put_number8.Tie as tie
@@ -12,7 +13,7 @@ returns c =
     let at-known = at-coded .before in
     let at-start = at-known .before .before .before in
     let A = at-start .args in
-    number-wrote 1 (A .coding) (A .descending) (A .values .now) (A .from) (λ i. at-known .shared-slice-known2 .given i .fits) (at-start .pre .1 .0)
+    number-wrote 1 (codingKey (A .coding)) (A .descending) (A .values .now) (A .from) (λ i. at-known .shared-slice-known2 .given i .fits) (at-start .pre .1 .0)
     _ _ _ (A .out .now) _ (A .at) (byte (A .values .now) (A .from) (omega arith)) (at-coded .encode8 .ensures) (c .directed8 .ensures)
     (byte-set (A .out .now) (A .at) _ (c .directed8 .ok))
 

@@ -11,5 +11,5 @@ decode-f16-spec =
     (tie.spec (λ c κs. search needs) (λ c κs. search needs) (λ c κs. search needs)
     (λ c.
     let first = c .before .before .decode-i16 in
-    let fold = c .before .fold16 in
-    decode-f w16 (c .before .before .before .args .x) _ (first .result) (fold .result) (first .ok) (fold .ok) (first .ensures) (fold .ensures) (c .pattern16 .ensures)))
+    let rank = c .before .rank16 in
+    decode-f w16 (c .before .before .before .args .x) _ (first .result) (rank .result) (first .ok) (rank .ok) (first .ensures) (rank .ensures) (c .pattern16 .ensures)))

@@ -11,5 +11,5 @@ decode-f32-spec =
     (tie.spec (λ c κs. search needs) (λ c κs. search needs) (λ c κs. search needs)
     (λ c.
     let first = c .before .before .decode-i32 in
-    let fold = c .before .fold32 in
-    decode-f w32 (c .before .before .before .args .x) _ (first .result) (fold .result) (first .ok) (fold .ok) (first .ensures) (fold .ensures) (c .pattern32 .ensures)))
+    let rank = c .before .rank32 in
+    decode-f w32 (c .before .before .before .args .x) _ (first .result) (rank .result) (first .ok) (rank .ok) (first .ensures) (rank .ensures) (c .pattern32 .ensures)))

@@ -11,5 +11,5 @@ decode-f64-spec =
     (tie.spec (λ c κs. search needs) (λ c κs. search needs) (λ c κs. search needs)
     (λ c.
     let first = c .before .before .decode-i64 in
-    let fold = c .before .fold64 in
-    decode-f w64 (c .before .before .before .args .x) _ (first .result) (fold .result) (first .ok) (fold .ok) (first .ensures) (fold .ensures) (c .pattern64 .ensures)))
+    let rank = c .before .rank64 in
+    decode-f w64 (c .before .before .before .args .x) _ (first .result) (rank .result) (first .ok) (rank .ok) (first .ensures) (rank .ensures) (c .pattern64 .ensures)))

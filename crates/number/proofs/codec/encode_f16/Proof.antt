@@ -11,5 +11,5 @@ encode-f16-spec =
     (tie.spec (λ c κs. search needs) (λ c κs. search needs) (λ c κs. search needs)
     (λ c.
     let start = c .before .before .before in
-    let fold = c .before .fold16 in
-    encode-f w16 (start .args .x) _ _ (fold .result) (start .fits .x) (fold .ok) (c .before .before .signed16 .ensures) (fold .ensures) (c .encode-i16 .ensures)))
+    let rank = c .before .rank16 in
+    encode-f w16 (start .args .x) _ _ (rank .result) (start .fits .x) (rank .ok) (c .before .before .signed16 .ensures) (rank .ensures) (c .encode-i16 .ensures)))

@@ -11,5 +11,5 @@ encode-f32-spec =
     (tie.spec (λ c κs. search needs) (λ c κs. search needs) (λ c κs. search needs)
     (λ c.
     let start = c .before .before .before in
-    let fold = c .before .fold32 in
-    encode-f w32 (start .args .x) _ _ (fold .result) (start .fits .x) (fold .ok) (c .before .before .signed32 .ensures) (fold .ensures) (c .encode-i32 .ensures)))
+    let rank = c .before .rank32 in
+    encode-f w32 (start .args .x) _ _ (rank .result) (start .fits .x) (rank .ok) (c .before .before .signed32 .ensures) (rank .ensures) (c .encode-i32 .ensures)))

@@ -11,5 +11,5 @@ encode-f64-spec =
     (tie.spec (λ c κs. search needs) (λ c κs. search needs) (λ c κs. search needs)
     (λ c.
     let start = c .before .before .before in
-    let fold = c .before .fold64 in
-    encode-f w64 (start .args .x) _ _ (fold .result) (start .fits .x) (fold .ok) (c .before .before .signed64 .ensures) (fold .ensures) (c .encode-i64 .ensures)))
+    let rank = c .before .rank64 in
+    encode-f w64 (start .args .x) _ _ (rank .result) (start .fits .x) (rank .ok) (c .before .before .signed64 .ensures) (rank .ensures) (c .encode-i64 .ensures)))

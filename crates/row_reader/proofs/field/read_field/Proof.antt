@@ -2,13 +2,13 @@
 use borrow.Author.Needs.{needs}
 use Prim.Native.Nat.{ℕ}
 use mathlib.Core.List.{List}
-use mathlib.Core.Path.{_≡_, ap, sym, _∙_}
+use mathlib.Core.Path.{_≡_, refl, ap, sym, _∙_}
+use mathlib.Core.Logic.{inl, inr}
 use Rattle.format.specs.declared.Kind.{Kind}
 use Rattle.format.specs.declared.SortOptions.{SortOptions}
 use Rattle.format.specs.Kinds.{shape}
 use Rattle.format.specs.Read.{fieldRead, readField}
-use Rattle.basics.proofs.Sorts.{wide-arm}
-use Rattle.row_reader.proofs.Arms.{wide-read}
+use Rattle.row_reader.proofs.Arms.{plain-read}
 use Rattle.row_reader.proofs.field.read_field.Statement.{statement}
 use Rattle.row_reader.proofs.field.read_field.Tie as tie
 
@@ -24,6 +24,12 @@ read-field-spec =
     (λ c κs. search needs)
     (λ c. search needs)
     (λ c κs. search needs)
+    (λ c. search needs)
+    (λ c κs. inl refl)
+    (λ c. search needs)
+    (λ c κs. inr (inl refl))
+    (λ c. search needs)
+    (λ c κs. inr (inr refl))
     (λ c κs. search needs)
     (λ c κs. search needs)
     (λ c.
@@ -35,8 +41,20 @@ read-field-spec =
     let a = arm .before .before .before .before .args in
     c .read .ensures ∙ told (a .row .now) (a .column .options) (arm .enum-told2 .given .1))
     (λ c.
+    let arm = c .before in
+    let a = arm .before .before .before .before .args in
+    c .read-float .ensures ∙ told (a .row .now) (a .column .options) (arm .enum-told3 .given .1))
+    (λ c.
+    let arm = c .before in
+    let a = arm .before .before .before .before .args in
+    c .read-float2 .ensures ∙ told (a .row .now) (a .column .options) (arm .enum-told4 .given .1))
+    (λ c.
+    let arm = c .before in
+    let a = arm .before .before .before .before .args in
+    c .read-float3 .ensures ∙ told (a .row .now) (a .column .options) (arm .enum-told5 .given .1))
+    (λ c.
     let sized = c .before in
     let arm = sized .before in
     let a = arm .before .before .before .args in
-    wide-read (a .column .kind) (a .column .options) (a .row .now) (sized .width .result) (c .read2 .result)
-    (wide-arm (a .column .kind) (arm .match .keys3)) (sized .width .ensures) (c .read2 .ensures)))
+    plain-read (a .column .kind) (a .column .options) (a .row .now) (sized .width .result) (c .read2 .result)
+    (arm .match .keys6) (sized .width .ensures) (c .read2 .ensures)))

@@ -1,17 +1,17 @@
 -- `row_writer::field::put_field` meets its contract: the validity bit of row r says whether the slot has a value. Assumes
 -- nothing.
 use borrow.Author.Needs.{needs}
-use Prim.Native.Nat.{_≤_}
-use mathlib.Core.Path.{_≡_, sym, _∙_}
+use Prim.Native.Nat.{ℕ, _-_, _≤_}
+use mathlib.Core.Path.{_≡_, ap, sym, _∙_}
 use mathlib.Core.Bool.{false}
 use mathlib.Core.Option.{none, some}
 use native.Mathlib.Omega.{arith}
-use lib.ListN.{length, drop}
-use Rattle.format.specs.Kinds.{Slot}
+use lib.ListN.{length, take, drop}
+use Rattle.format.specs.Kinds.{Slot, columnShape}
 use Rattle.format.specs.Sheet.{layout, packed, valueAt, slotAt}
 use Rattle.laws.proofs.Parts.{part-rest}
 use Rattle.laws.proofs.Sheets.{valid-bytes}
-use Rattle.row_writer.proofs.Values.{values-pass, slot-valid, slot-null}
+use Rattle.row_writer.proofs.Values.{values-pass, value-wrote, slot-valid, slot-null}
 use Rattle.row_writer.proofs.field.put_field.Statement.{statement}
 use Rattle.row_writer.proofs.field.put_field.Tie as tie
 
@@ -58,7 +58,9 @@ returns c =
     let at-packed = at-value .before .before .before in
     let t = at-packed .before in
     let a = entry (t .before) .args in
-    rw (valid t, ← part-rest (a .part .now) (packed (a .n)), ← at-packed .packed .ensures .0) (at-value .put-value .ensures)
+    value-wrote (columnShape (a .column)) (a .column .options) (layout (a .column)) (a .n) (a .r) (a .at) _ (a .rows .now) _ _ _ _ (valid t)
+    (ap (λ (k : ℕ). take (length (a .part .now) - k) (drop k (a .part .now))) (at-packed .packed .ensures .0) ∙ part-rest (a .part .now) (packed (a .n)))
+    (at-value .put-value .ensures)
 
 put-null-requires : tie.Need-put-null-requires
 put-null-requires c κs = rw (null (c .before)) at (entry (c .before .before) .pre .1 .1)
