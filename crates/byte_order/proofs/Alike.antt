@@ -12,7 +12,8 @@ use Rattle.format.specs.Order.{then, cmp}
 use Rattle.format.specs.Entries.{sign, compareAnswer}
 use Rattle.format.specs.Promises.{Compared}
 use Rattle.basics.proofs.Compare.{Tri, below, same, above, tri, compare-lt, compare-gt, compare-eq}
-use Rattle.number.proofs.Words.{length-lowBytes, bytes-lowBytes, low-lowBytes, byte-back}
+use Rattle.basics.proofs.LowBytes.{length-lowBytes, bytes-lowBytes, low-lowBytes}
+use Rattle.number.proofs.Words.{byte-back}
 use Rattle.laws.proofs.HighFirst.{unsigned-order}
 
 -- the first i bytes are there in both, and are the same
