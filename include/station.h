@@ -68,7 +68,7 @@
  *            11  bytes after the last column                place, 0
  *            12  rows over 16,777,216 bytes                 total, 0
  *            13  row buffer too small                       total, 0
- *            14  offset list under n+1, or order under the   n+1, or the rows of both, 0
+ *            14  offset list under n+1, or order under the  n+1, or the rows of both, 0
  *                rows of both passes
  *            15  first offset not 0, one falls, or the      its index, 0
  *                last passes the row bytes

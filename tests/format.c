@@ -28,15 +28,21 @@ enum {
     INPUT_ROOM = 32768, /* of the program, for its input and for rows */
 };
 
-/* The words of an example. Those up to INPUT have bytes for a value, which may go on in the next line. */
+/* An example has rows of a sheet, or of two passes. */
+enum batch { OF_SHEET, PASS0, PASS1, BATCHES };
+
+/* The words of an example. Those up to INPUT have bytes for a value, which may go on in the next line. Those of a batch stand in the
+ * order of the batches. */
 enum word {
-    LIST, SHEET, CLEARED, ROW, INPUT,
-    N, OFFSETS, ROW_ROOM, OFFSET_ROOM, SHEET_ROOM, REFUSED, CHECK, MEASURE, ENCODE, DECODE, COMPARE, PRINTS,
+    LIST, SHEET, CLEARED, ROW, ROW0, ROW1, INPUT,
+    N, N0, N1, OFFSETS, OFFSETS0, OFFSETS1, ROW_ROOM, OFFSET_ROOM, SHEET_ROOM, ORDER_ROOM,
+    REFUSED, CHECK, MEASURE, ENCODE, DECODE, JOIN, COMPARE, ORDER, PRINTS,
     WORDS,
 };
 static const char *const NAMES[WORDS] = {
-    "list", "sheet", "cleared", "row", "input",
-    "n", "offsets", "row-room", "offset-room", "sheet-room", "refused", "check", "measure", "encode", "decode", "compare", "prints",
+    "list", "sheet", "cleared", "row", "row0", "row1", "input",
+    "n", "n0", "n1", "offsets", "offsets0", "offsets1", "row-room", "offset-room", "sheet-room", "order-room",
+    "refused", "check", "measure", "encode", "decode", "join", "compare", "order", "prints",
 };
 
 struct bytes {
@@ -44,14 +50,16 @@ struct bytes {
     size_t len, room;
 };
 
-/* The example at hand: the line that it begins in, what it says of each word, and where each of its rows ends. */
+/* The example at hand: the line that it begins in, what it says of each word, and where each row of a batch ends. */
 static struct {
     size_t line;
     enum word word;
     bool has[WORDS];
     struct bytes value[WORDS];
-    size_t rows;
-    uint64_t ends[MOST_ROWS + 1];
+    struct {
+        size_t rows;
+        uint64_t ends[MOST_ROWS + 1];
+    } batch[BATCHES];
 } ex;
 
 /* Fields drawn since the last example. */
@@ -161,19 +169,25 @@ static const char *text(enum word word) { return (const char *)ex.value[word].at
 
 static uint64_t number(enum word word, uint64_t otherwise) { return ex.has[word] ? strtoull(text(word), NULL, 10) : otherwise; }
 
-/* The offsets, as they are given or as the rows have them, eight bytes each. */
-static struct bytes offsets(void) {
+/* The numbers that are given for a word, eight bytes each. */
+static struct bytes numbers(enum word word) {
     struct bytes b = filled(0);
-    if (!ex.has[OFFSETS])
-        for (size_t i = 0; i <= ex.rows; i++) put_low(&b, ex.ends[i], 8);
     char *end;
-    for (const char *s = text(OFFSETS); ex.has[OFFSETS] && *s; s = end) {
+    for (const char *s = text(word); ex.has[word] && *s; s = end) {
         put_low(&b, strtoull(s, &end, 10), 8);
         if (end == s) {
-            fault(ex.line, "not offsets: %s", s);
+            fault(ex.line, "not numbers: %s", s);
             break;
         }
     }
+    return b;
+}
+
+/* The offsets of a batch, as they are given or as its rows have them, eight bytes each. */
+static struct bytes offsets(enum batch batch) {
+    struct bytes b = numbers(OFFSETS + batch);
+    if (!ex.has[OFFSETS + batch])
+        for (size_t i = 0; i <= ex.batch[batch].rows; i++) put_low(&b, ex.batch[batch].ends[i], 8);
     return b;
 }
 
@@ -214,7 +228,7 @@ static void try_encode(void) {
         judge(MEASURE, answer, ex.value[ROW].len);
     }
     struct bytes rows = filled(number(ROW_ROOM, ex.has[REFUSED] ? ROOM : ex.value[ROW].len));
-    struct bytes ends = filled(8 * number(OFFSET_ROOM, ex.rows + 1)), right = offsets();
+    struct bytes ends = filled(8 * number(OFFSET_ROOM, ex.batch[OF_SHEET].rows + 1)), right = offsets(OF_SHEET);
     station_encode(list.at, list.len, n, sheet.at, sheet.len, rows.at, rows.len, ends.at, ends.len, answer, sizeof answer);
     judge(ENCODE, answer, ex.value[ROW].len);
     if (ex.has[REFUSED] && !(untouched(rows) && untouched(ends))) fault(ex.line, "encode refuses and writes");
@@ -226,12 +240,12 @@ static void try_encode(void) {
 }
 
 static void try_decode(void) {
-    struct bytes list = ex.value[LIST], rows = ex.value[ROW], ends = offsets();
+    struct bytes list = ex.value[LIST], rows = ex.value[ROW], ends = offsets(OF_SHEET);
     struct bytes right = ex.value[ex.has[CLEARED] ? CLEARED : SHEET];
     struct bytes sheet = filled(number(SHEET_ROOM, ex.has[REFUSED] ? ROOM : right.len));
     uint8_t answer[STATION_ANSWER_BYTES];
-    station_decode(list.at, list.len, number(N, ex.rows), rows.at, rows.len, ends.at, ends.len, sheet.at, sheet.len, answer,
-                   sizeof answer);
+    uint64_t n = number(N, ex.batch[OF_SHEET].rows);
+    station_decode(list.at, list.len, n, rows.at, rows.len, ends.at, ends.len, sheet.at, sheet.len, answer, sizeof answer);
     judge(DECODE, answer, right.len);
     if (ex.has[REFUSED] && !untouched(sheet)) fault(ex.line, "decode refuses and writes");
     if (!ex.has[REFUSED] && !same(sheet, right)) fault(ex.line, "decode writes another sheet");
@@ -239,12 +253,30 @@ static void try_decode(void) {
     free(ends.at);
 }
 
+static void try_join(void) {
+    struct bytes rows0 = ex.value[ROW0], ends0 = offsets(PASS0), rows1 = ex.value[ROW1], ends1 = offsets(PASS1);
+    struct bytes right = numbers(ORDER);
+    struct bytes order = filled(8 * number(ORDER_ROOM, ex.has[REFUSED] ? ROOM : right.len / 8));
+    uint64_t n0 = number(N0, ex.batch[PASS0].rows), n1 = number(N1, ex.batch[PASS1].rows);
+    uint8_t answer[STATION_ANSWER_BYTES];
+    station_join(n0, rows0.at, rows0.len, ends0.at, ends0.len, n1, rows1.at, rows1.len, ends1.at, ends1.len, order.at, order.len,
+                 answer, sizeof answer);
+    judge(JOIN, answer, right.len / 8);
+    if (ex.has[REFUSED] && !untouched(order)) fault(ex.line, "join refuses and writes");
+    if (!ex.has[REFUSED] && !same(order, right)) fault(ex.line, "join writes another order");
+    free(ends0.at);
+    free(ends1.at);
+    free(right.at);
+    free(order.at);
+}
+
 /* One of < = > for each row and the next. */
 static void try_compare(void) {
     const char *s = text(COMPARE);
-    for (size_t i = 0; i + 1 < ex.rows; i++) {
-        const uint8_t *a = ex.value[ROW].at + ex.ends[i], *b = ex.value[ROW].at + ex.ends[i + 1];
-        int32_t sign = station_compare(a, ex.ends[i + 1] - ex.ends[i], b, ex.ends[i + 2] - ex.ends[i + 1]);
+    const uint64_t *ends = ex.batch[OF_SHEET].ends;
+    for (size_t i = 0; i + 1 < ex.batch[OF_SHEET].rows; i++) {
+        const uint8_t *a = ex.value[ROW].at + ends[i], *b = ex.value[ROW].at + ends[i + 1];
+        int32_t sign = station_compare(a, ends[i + 1] - ends[i], b, ends[i + 2] - ends[i + 1]);
         if (*s != "<=>"[sign + 1]) fault(ex.line, "rows %zu and %zu compare as %" PRId32, i, i + 1, sign);
         if (*s) s++;
         while (*s == ' ') s++;
@@ -299,8 +331,8 @@ static void try_rows(void) {
         put(&out, text(REFUSED), ex.value[REFUSED].len);
         put(&out, "\n", 1);
     }
-    for (size_t i = 0, row = 0; row < ex.rows; row++) {
-        for (char digits[3]; i < ex.ends[row + 1]; i++) put(&out, digits, sprintf(digits, "%02x", ex.value[ROW].at[i]));
+    for (size_t i = 0, row = 0; row < ex.batch[OF_SHEET].rows; row++) {
+        for (char digits[3]; i < ex.batch[OF_SHEET].ends[row + 1]; i++) put(&out, digits, sprintf(digits, "%02x", ex.value[ROW].at[i]));
         put(&out, "\n", 1);
     }
     if (in.len <= INPUT_ROOM && ex.value[ROW].len <= INPUT_ROOM) try_program(in, out);
@@ -313,8 +345,7 @@ static void try_rows(void) {
 static void begin(void) {
     ex.line = 0;
     ex.word = WORDS;
-    ex.rows = 0;
-    ex.ends[0] = 0;
+    memset(ex.batch, 0, sizeof ex.batch);
     for (enum word word = 0; word < WORDS; word++) {
         ex.has[word] = false;
         ex.value[word].len = 0;
@@ -328,15 +359,17 @@ static void finish(void) {
     if (ex.line == 0) return;
     examples++;
     bool refused = ex.has[REFUSED], room = ex.has[ROW_ROOM] || ex.has[OFFSET_ROOM];
+    bool passes = ex.has[ROW0] || ex.has[ROW1] || ex.has[N0] || ex.has[N1] || ex.has[ORDER];
     if (refused) refusal_seen[number(REFUSED, 0) % CODES] = true;
     if (ex.has[PRINTS] && strncmp(text(PRINTS), "refused ", 8) == 0) refusal_seen[atoi(text(PRINTS) + 8) % CODES] = true;
     if (ex.has[SHEET] && !ex.has[N]) fault(ex.line, "a sheet without its row count");
     if (ex.has[SHEET] && ex.has[ROW] && refused) fault(ex.line, "rows of a sheet that is refused");
-    if (!ex.has[LIST] && !ex.has[COMPARE] && !ex.has[INPUT]) fault(ex.line, "nothing to try");
+    if (!ex.has[LIST] && !passes && !ex.has[COMPARE] && !ex.has[INPUT]) fault(ex.line, "nothing to try");
     if (ex.has[LIST]) try_list();
     if (ex.has[LIST] && ex.has[SHEET]) try_encode();
     if (ex.has[LIST] && ex.has[SHEET] && !room) try_rows();
     if (ex.has[LIST] && (ex.has[ROW] || (ex.has[SHEET] && !refused))) try_decode();
+    if (passes) try_join();
     if (ex.has[COMPARE]) try_compare();
     if (ex.has[INPUT]) try_program(ex.value[INPUT], ex.value[PRINTS]);
     for (; drawn_count > 0; drawn_count--)
@@ -376,7 +409,7 @@ static void read_value(const char *s, const char *end) {
         put(value, "", 1);
         value->len--;
     }
-    ex.ends[ex.rows] = ex.value[ROW].len;
+    for (enum batch b = 0; b < BATCHES; b++) ex.batch[b].ends[ex.batch[b].rows] = ex.value[ROW + b].len;
     free(said);
 }
 
@@ -393,9 +426,10 @@ static void read_line(char *line) {
     }
     while (*end) {
         ex.word = word_at(end);
-        if (ex.has[ex.word] && ex.word != ROW && ex.word != PRINTS) fault(line_number, "%s stands twice", NAMES[ex.word]);
+        bool row = ROW <= ex.word && ex.word < ROW + BATCHES;
+        if (ex.has[ex.word] && !row && ex.word != PRINTS) fault(line_number, "%s stands twice", NAMES[ex.word]);
         ex.has[ex.word] = true;
-        if (ex.word == ROW && ex.rows++ == MOST_ROWS) abort();
+        if (row && ex.batch[ex.word - ROW].rows++ == MOST_ROWS) abort();
         s = end + word_length(end);
         s += strspn(s, " ");
         end = ex.word == PRINTS ? s + strlen(s) : value_end(s);

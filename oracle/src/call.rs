@@ -1,4 +1,5 @@
-//! Calls of the C entries with any bytes, and what document 01 says that they leave behind.
+//! Calls of the C entries with any bytes, and what document 01 says that they leave behind; of the
+//! join, document 02.
 
 use crate::hex::hex_start;
 use crate::model::{self, Checked, Numbers};
@@ -15,14 +16,16 @@ pub enum Entry {
     Measure,
     Encode,
     Decode,
+    Join,
     Compare,
 }
 
-pub const ENTRIES: [Entry; 5] = [
+pub const ENTRIES: [Entry; 6] = [
     Entry::CheckList,
     Entry::Measure,
     Entry::Encode,
     Entry::Decode,
+    Entry::Join,
     Entry::Compare,
 ];
 
@@ -33,6 +36,7 @@ impl Entry {
             Entry::Measure => "measure",
             Entry::Encode => "encode",
             Entry::Decode => "decode",
+            Entry::Join => "join",
             Entry::Compare => "compare",
         }
     }
@@ -44,6 +48,7 @@ impl Entry {
             Entry::Measure => raw::station_measure as *const (),
             Entry::Encode => raw::station_encode as *const (),
             Entry::Decode => raw::station_decode as *const (),
+            Entry::Join => raw::station_join as *const (),
             Entry::Compare => raw::station_compare as *const (),
         }
     }
@@ -55,6 +60,7 @@ impl Entry {
             Entry::Measure => (&["list", "sheet"], &[]),
             Entry::Encode => (&["list", "sheet"], &["rows", "offsets"]),
             Entry::Decode => (&["list", "rows", "offsets"], &["sheet"]),
+            Entry::Join => (&["rows0", "offsets0", "rows1", "offsets1"], &["order"]),
             Entry::Compare => (&["a", "b"], &[]),
         }
     }
@@ -66,6 +72,8 @@ impl Entry {
 pub struct Call {
     pub entry: Entry,
     pub n: u64,
+    /// The rows of the second pass, in a join.
+    pub n1: u64,
     pub given: Vec<Vec<u8>>,
     pub lent: Vec<usize>,
     pub answer: usize,
@@ -111,6 +119,7 @@ impl Call {
         Call {
             entry,
             n,
+            n1: 0,
             given: given.iter().map(|bytes| bytes.to_vec()).collect(),
             lent: lent.to_vec(),
             answer: station::ANSWER_BYTES,
@@ -133,6 +142,15 @@ impl Call {
     /// The offsets are bytes.
     pub fn decode(list: &[u8], n: u64, rows: &[u8], offsets: &[u8], sheet: usize) -> Call {
         Call::new(Entry::Decode, n, &[list, rows, offsets], &[sheet])
+    }
+
+    /// The passes in order, each its rows and their offsets; offsets and room are bytes.
+    pub fn join(counts: [u64; 2], passes: [[&[u8]; 2]; 2], order: usize) -> Call {
+        let given = passes.concat();
+        Call {
+            n1: counts[1],
+            ..Call::new(Entry::Join, counts[0], &given, &[order])
+        }
     }
 
     pub fn compare(a: &[u8], b: &[u8]) -> Call {
@@ -181,6 +199,13 @@ impl Call {
                 let decoded = model::decode(given(0), self.n, given(1), &offsets, self.lent[0])?;
                 let total = decoded.sheet.len() as u64;
                 ([0, total, decoded.nulls, 0], vec![decoded.sheet])
+            }
+            Entry::Join => {
+                let offsets = [numbers(given(1)), numbers(given(3))];
+                let first = (self.n, given(0), &offsets[0][..]);
+                let second = (self.n1, given(2), &offsets[1][..]);
+                let order = model::join(first, second, self.lent[0] / 8)?;
+                ([0, order.len() as u64, 0, 0], vec![eights(&order)])
             }
         })
     }
@@ -249,17 +274,31 @@ impl Call {
         }
     }
 
-    /// What the C entry is given: each slice as a pointer and a length, the number of rows after the
-    /// list, the answer last. Words past its own it does not see.
-    fn words(&self, given: &[Lend], lent: &[Lend], answer: Lend) -> [u64; WORDS] {
-        let slice = |lend: &Lend| [lend.at as u64, lend.len as u64];
-        let mut words: Vec<u64> = slice(&given[0]).to_vec();
-        if !matches!(self.entry, Entry::CheckList | Entry::Compare) {
-            words.push(self.n);
+    /// The counts of rows that the entry takes, each with the slice that it stands in front of.
+    fn counts(&self) -> Vec<(usize, u64)> {
+        match self.entry {
+            Entry::CheckList | Entry::Compare => vec![],
+            Entry::Measure | Entry::Encode | Entry::Decode => vec![(1, self.n)],
+            Entry::Join => vec![(0, self.n), (2, self.n1)],
         }
-        words.extend(given[1..].iter().chain(lent).flat_map(slice));
+    }
+
+    /// What the C entry is given: each slice as a pointer and a length, counts of rows between them,
+    /// the answer last. Words past its own it does not see.
+    fn words(&self, given: &[Lend], lent: &[Lend], answer: Lend) -> [u64; WORDS] {
+        let mut slices: Vec<Lend> = [given, lent].concat();
         if self.entry != Entry::Compare {
-            words.extend(slice(&answer));
+            slices.push(answer);
+        }
+        let (counts, mut words) = (self.counts(), Vec::new());
+        for (i, slice) in slices.iter().enumerate() {
+            words.extend(
+                counts
+                    .iter()
+                    .filter(|count| count.0 == i)
+                    .map(|count| count.1),
+            );
+            words.extend([slice.at as u64, slice.len as u64]);
         }
         words.resize(WORDS, 0);
         words.try_into().expect("as many")
@@ -270,6 +309,9 @@ impl fmt::Display for Call {
     fn fmt(&self, f: &mut fmt::Formatter<'_>) -> fmt::Result {
         let (read, written) = self.entry.arguments();
         write!(f, "{} n {}", self.entry.name(), self.n)?;
+        if self.entry == Entry::Join {
+            write!(f, " n1 {}", self.n1)?;
+        }
         for (name, bytes) in read.iter().zip(&self.given) {
             write!(f, " {name} {}", hex_start(bytes))?;
         }

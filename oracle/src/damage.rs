@@ -161,3 +161,19 @@ pub fn decode(rng: &mut Rng, good: &Good) -> Call {
     }
     call
 }
+
+/// A call of join, wrong in one way or more.
+pub fn join(rng: &mut Rng, mut call: Call) -> Call {
+    for _ in 0..rng.pick(&[1, 1, 1, 2, 3]) {
+        let which = rng.below(2);
+        match rng.below(8) {
+            0 if which == 0 => call.n = change_number(rng, call.n),
+            0 => call.n1 = change_number(rng, call.n1),
+            1 => call.lent[0] = change_room(rng, call.lent[0]),
+            2 if rng.once_in(4) => call.answer = rng.below(48),
+            3 | 4 => change_offsets(rng, &mut call.given[2 * which + 1]),
+            _ => change(rng, &mut call.given[2 * which]),
+        }
+    }
+    call
+}

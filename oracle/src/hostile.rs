@@ -2,6 +2,7 @@
 
 use crate::call::{Call, Entry, ENTRIES};
 use crate::damage::{self, Good};
+use crate::joins;
 use crate::make;
 use crate::rng::Rng;
 
@@ -61,6 +62,12 @@ fn noisy(rng: &mut Rng, entry: Entry) -> Call {
             let offsets = some_offsets(rng, bytes.len());
             Call::decode(&list, n, &bytes, &offsets, room)
         }
+        Entry::Join => {
+            let (n1, others) = (some_count(rng), noise(rng));
+            let offsets = [bytes.len(), others.len()].map(|len| some_offsets(rng, len));
+            let passes = [[&bytes[..], &offsets[0]], [&others, &offsets[1]]];
+            Call::join([n, n1], passes, room)
+        }
         Entry::Compare => {
             // The same beginning, so that more than the first byte is looked at.
             let mut other = bytes.clone();
@@ -78,9 +85,14 @@ fn some_good(rng: &mut Rng) -> Good {
     })
 }
 
-/// A call of any entry: noise, or a good one that was damaged.
+/// A call of any entry.
 pub fn call(rng: &mut Rng) -> Call {
-    let entry = rng.pick(&ENTRIES);
+    call_among(rng, &ENTRIES)
+}
+
+/// A call of one of these entries: noise, or a good one that was damaged.
+pub fn call_among(rng: &mut Rng, entries: &[Entry]) -> Call {
+    let entry = rng.pick(entries);
     let mut call = match entry {
         Entry::Encode | Entry::Measure if !rng.once_in(4) => {
             let good = some_good(rng);
@@ -89,6 +101,13 @@ pub fn call(rng: &mut Rng) -> Call {
         Entry::Decode if !rng.once_in(4) => {
             let good = some_good(rng);
             damage::decode(rng, &good)
+        }
+        Entry::Join if !rng.once_in(4) => {
+            let good = joins::join(&joins::some_passes(rng));
+            match rng.once_in(4) {
+                true => good,
+                false => damage::join(rng, good),
+            }
         }
         _ => noisy(rng, entry),
     };

@@ -12,7 +12,7 @@ use crate::yard::Yard;
 use std::process::ExitCode;
 use std::time::{Duration, Instant};
 
-/// The numbers that an entry may answer with: 0, and refusals 1 to 24, 27 and 28.
+/// The numbers that an entry may answer with: 0, and refusals 1 to 24 and 26 to 28.
 const ANSWERS: usize = 29;
 /// Pairs of rows that are compared in each table.
 const PAIRS: usize = 64;

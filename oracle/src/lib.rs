@@ -11,6 +11,7 @@ pub mod damage;
 pub mod document;
 pub mod hex;
 pub mod hostile;
+pub mod joins;
 pub mod judge;
 pub mod make;
 pub mod misreads;

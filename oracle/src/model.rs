@@ -1,4 +1,5 @@
-//! Document 01 as a plain program, written from the document: slow, and easy to hold against it.
+//! Document 01 as a plain program, written from the document: slow, and easy to hold against it. The
+//! join is document 02's.
 
 use crate::columns::{
     value_bytes, Column, BOOL, DAY_TIME, FIXED_BINARY, FLOATS, I128, I256, KINDS, MONTH_DAY_NANO,
@@ -563,6 +564,36 @@ pub fn decode(
     })
 }
 
+// ---- join
+
+/// A pass as it is lent: the count of its rows, the rows, their offsets.
+pub type Pass<'a> = (u64, &'a [u8], &'a [u64]);
+
+/// The rows of a pass: 6, 14, 15, 12, 26 (the pass, the first row below its predecessor).
+fn read_pass<'a>(pass: u64, (n, rows, offsets): Pass<'a>) -> Checked<Vec<&'a [u8]>> {
+    refuse_if(n > MAX_ROWS, [6, n, 0])?;
+    let n = n as usize;
+    check_offsets(n, rows, offsets)?;
+    let row = |r: usize| &rows[offsets[r] as usize..offsets[r + 1] as usize];
+    for r in 1..n {
+        refuse_if(row(r) < row(r - 1), [26, pass, r as u64])?;
+    }
+    Ok((0..n).map(row).collect())
+}
+
+/// Pass 0, pass 1, then the list, 14 (rows of both, 0). Each entry is 4,096 times the pass plus the
+/// row; they are sorted by row bytes, equal rows in their order, pass 0 before pass 1.
+pub fn join(first: Pass, second: Pass, room: usize) -> Checked<Vec<u64>> {
+    let rows = [read_pass(0, first)?, read_pass(1, second)?];
+    let both = (rows[0].len() + rows[1].len()) as u64;
+    refuse_if((room as u64) < both, [14, both, 0])?;
+    let entries = |pass: u64| (0..rows[pass as usize].len() as u64).map(move |r| 4096 * pass + r);
+    let mut order: Vec<u64> = entries(0).chain(entries(1)).collect();
+    // A stable sort: what is equal keeps its order.
+    order.sort_by_key(|entry| rows[(entry / 4096) as usize][(entry % 4096) as usize]);
+    Ok(order)
+}
+
 #[cfg(test)]
 mod tests {
     use super::*;
@@ -698,5 +729,26 @@ mod tests {
         assert_eq!(read(&block(0, !7)), [21, 1, 1, 10]);
         assert_eq!(read(&block(0, !4)), [21, 1, 1, 7]);
         assert_eq!(read(&block(0, 0)), [16, 1, 1, 12]);
+    }
+    #[test]
+    fn a_join_checks_its_passes_in_order() {
+        let ends: &[u64] = &[0, 1, 2];
+        let over: Pass = (4097, b"", &[]);
+        let first = |n, rows: &[u8], offsets: &[u64]| refused(join((n, rows, offsets), over, 0));
+        assert_eq!(first(4098, b"", &[]), [6, 4098, 0]);
+        assert_eq!(first(2, b"ba", &[0, 1]), [14, 3, 0]);
+        assert_eq!(first(2, b"ba", &[1, 1, 2]), [15, 0, 0]);
+        assert_eq!(first(2, b"ba", &[0, 2, 1]), [15, 2, 0]);
+        assert_eq!(first(2, b"b", ends), [15, 2, 0]);
+        let many = vec![1; 16_777_217];
+        let last = 16_777_217;
+        assert_eq!(first(2, &many, &[0, last, last]), [12, last, 0]);
+        assert_eq!(first(2, b"ba", ends), [26, 0, 1]);
+        assert_eq!(first(2, b"aa", ends), [6, 4097, 0]);
+        let second = |rows, room| join((1, b"b", &[0, 1]), (2, rows, ends), room);
+        assert_eq!(refused(second(b"ba", 0)), [26, 1, 1]);
+        assert_eq!(refused(second(b"ab", 2)), [14, 3, 0]);
+        assert_eq!(second(b"ab", 3), Ok(vec![4096, 0, 4097]));
+        assert_eq!(second(b"bb", 9), Ok(vec![0, 4096, 4097]));
     }
 }

@@ -5,6 +5,7 @@ use crate::call::Call;
 use crate::columns::{Column, BOOL, FIXED_BINARY, FLOATS, VARIABLE};
 use crate::damage::{self, Good};
 use crate::document::one_slot_each;
+use crate::joins::join;
 use crate::judge::Judge;
 use crate::make::{self, Nulls};
 use crate::rng::Rng;
@@ -223,6 +224,7 @@ pub fn empty(judge: &mut Judge) {
         Call::measure(&good.list, good.n, &good.sheet),
         good.encode(),
         good.decode(),
+        join(&[vec![b"a".to_vec(), b"b".to_vec()], vec![b"a".to_vec()]]),
         Call::compare(good.row(0), good.row(1)),
         // No rows: nothing is refused, though slices are empty.
         Call::encode(&good.list, 0, &[0; 4], 0, 8),
@@ -230,6 +232,8 @@ pub fn empty(judge: &mut Judge) {
         Call::measure(&[1, 0], 0, &[]),
         Call::encode(&[1, 0], 0, &[], 0, 8),
         Call::decode(&[1, 0], 0, &[], &[0; 8], 0),
+        join(&[vec![], vec![]]),
+        join(&[vec![vec![]], vec![vec![]; 2]]),
     ];
     for call in calls {
         let slices = call.given.len() + call.lent.len() + 1;

@@ -12,8 +12,17 @@ use crate::rng::Rng;
 use crate::table::Table;
 use std::collections::BTreeMap;
 
-/// Calls to choose from, and how many of each sort are kept.
+/// Calls to choose from.
 const CALLS: usize = 400_000;
+/// The entries that these are of: the program `vectors` has no line for a join.
+const RECORDED: [Entry; 5] = [
+    Entry::CheckList,
+    Entry::Measure,
+    Entry::Encode,
+    Entry::Decode,
+    Entry::Compare,
+];
+/// How many calls of each sort are kept.
 const KEPT: usize = 2;
 /// The most bytes that a chosen call reads, and the most that it lends for rows or a sheet.
 const MOST: usize = 150;
@@ -175,7 +184,7 @@ fn sort(call: &Call) -> Option<Sort> {
 fn chosen(rng: &mut Rng) -> Vec<Call> {
     let mut kept: BTreeMap<Sort, Vec<Call>> = BTreeMap::new();
     for _ in 0..CALLS {
-        let call = hostile::call(rng).answer(station::ANSWER_BYTES);
+        let call = hostile::call_among(rng, &RECORDED).answer(station::ANSWER_BYTES);
         let room = call.lent.iter().max().copied().unwrap_or(0);
         if call.size() > MOST || room > MOST_ROOM {
             continue;

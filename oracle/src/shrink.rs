@@ -112,6 +112,9 @@ fn call_steps(call: &Call) -> Vec<Step<Call>> {
     for n in [0, 1, call.n / 2, call.n.saturating_sub(1)] {
         steps.push(Box::new(move |call| call.n = n.min(call.n)));
     }
+    for n in [0, 1, call.n1 / 2, call.n1.saturating_sub(1)] {
+        steps.push(Box::new(move |call| call.n1 = n.min(call.n1)));
+    }
     for (i, bytes) in call.given.iter().enumerate() {
         for part in parts(bytes.len()) {
             steps.push(Box::new(move |call| {

@@ -10,7 +10,7 @@ use std::arch::asm;
 use std::mem::transmute;
 
 /// The words that a C entry takes: pointers and numbers, the first six in registers.
-pub const WORDS: usize = 12;
+pub const WORDS: usize = 14;
 const IN_REGISTERS: usize = 6;
 
 /// The room of a stack, below the words that the caller puts there. Below it lies a page that traps.
@@ -102,11 +102,13 @@ pub unsafe fn call_here(function: *const (), words: [u64; WORDS]) -> u64 {
         Word,
         Word,
         Word,
+        Word,
+        Word,
     ) -> Word;
     // SAFETY: a C function on this machine does not see that it was given words past its own.
     let entry = unsafe { transmute::<*const (), Entry>(function) };
-    let [a, b, c, d, e, f, g, h, i, j, k, l] = words;
-    entry(a, b, c, d, e, f, g, h, i, j, k, l)
+    let [a, b, c, d, e, f, g, h, i, j, k, l, m, n] = words;
+    entry(a, b, c, d, e, f, g, h, i, j, k, l, m, n)
 }
 
 /// What the header says that an entry takes: `STATION_NAME_STACK = 1024`.
@@ -152,6 +154,8 @@ mod tests {
         j: u64,
         k: u64,
         l: u64,
+        m: u64,
+        n: u64,
     ) -> u64 {
         #[inline(never)]
         fn take<const N: usize>() {
@@ -161,11 +165,11 @@ mod tests {
             0 => take::<5_000>(),
             _ => take::<50_000>(),
         }
-        let words = [much, b, c, d, e, f, g, h, i, j, k, l];
+        let words = [much, b, c, d, e, f, g, h, i, j, k, l, m, n];
         words.into_iter().zip(1..).map(|(w, place)| w * place).sum()
     }
 
-    const WORDS_OF_DEEP: [u64; WORDS] = [0, 5, 2, 8, 3, 9, 1, 7, 4, 6, 10, 11];
+    const WORDS_OF_DEEP: [u64; WORDS] = [0, 5, 2, 8, 3, 9, 1, 7, 4, 6, 10, 11, 13, 12];
 
     /// The sum that `deep` returns.
     const SUM: u64 = {

@@ -42,6 +42,7 @@ ENTRIES = {
     "station_measure": (None, _SLICE + _NUMBER + _SLICE * 2),
     "station_encode": (None, _SLICE + _NUMBER + _SLICE * 4),
     "station_decode": (None, _SLICE + _NUMBER + _SLICE * 4),
+    "station_join": (None, (_NUMBER + _SLICE * 2) * 2 + _SLICE * 2),
     "station_compare": (ctypes.c_int32, _SLICE * 2),
 }
 

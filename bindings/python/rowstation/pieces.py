@@ -74,6 +74,17 @@ def take(data: np.ndarray, ends: np.ndarray, which: np.ndarray) -> Pieces:
     return out, new
 
 
+def alike(data: np.ndarray, ends: np.ndarray, which: np.ndarray) -> np.ndarray:
+    """For each of the pieces with these numbers, in this order, whether it equals the one before."""
+    starts, lengths = ends[which], ends[which + 1] - ends[which]
+    same = np.zeros(len(which), bool)
+    same[1:] = lengths[1:] == lengths[:-1]
+    for length, some in _by_length(np.where(same, lengths, 0)):
+        windows = sliding_window_view(data, length)
+        same[some] = (windows[starts[some]] == windows[starts[some - 1]]).all(axis=1)
+    return same
+
+
 def _padded(data: np.ndarray, starts: np.ndarray, lengths: np.ndarray, out: np.ndarray) -> None:
     """Writes each piece to the front of a row of ``out``, which is as wide as the longest and all zeros."""
     for length, some in _by_length(lengths):

@@ -32,7 +32,7 @@ REASONS = {
     11: Reason("bytes after the last column, from byte {second} of the sheet on", "sheet_byte"),
     12: Reason("{second} row bytes, over 16,777,216", "bytes"),
     13: Reason("the row buffer is too small for {second} bytes", "bytes"),
-    14: Reason("the offset list is too short for {second} offsets", "offsets"),
+    14: Reason("the list of offsets or of the order is too short for {second} numbers", "numbers"),
     15: Reason("offset {second} is not 0 at the start, falls, or passes the row bytes", "offset"),
     16: Reason("row {second}, column {third}, byte {fourth}: the field or block is cut", "row", "column", "byte"),
     17: Reason("row {second}, column {third}, byte {fourth}: this lead byte is not allowed", "row", "column", "byte"),
@@ -43,6 +43,7 @@ REASONS = {
     22: Reason("row {second}, column {third}, byte {fourth}: bytes follow the last field", "row", "column", "byte"),
     23: Reason("row {second}, column {third}, byte {fourth}: the value is over 65,535 bytes", "row", "column", "byte"),
     24: Reason("the sheet buffer is too small for {second} bytes", "bytes"),
+    26: Reason("pass {second} is out of order: row {third} is below the row before it", "pass", "row"),
     27: Reason("column {second} is required, and null in row {third}", "column", "row"),
     28: Reason("row {second}, column {third}, byte {fourth}: the float is not folded", "row", "column", "byte"),
 }
@@ -50,6 +51,7 @@ REASONS = {
 #: Answers that this package acts on itself.
 TOO_MANY_BYTES = 12
 SHEET_ROOM = 24
+OUT_OF_ORDER = 26
 
 
 class Refused(Exception):

@@ -7,22 +7,35 @@ from typing import Any, Callable, Dict, Iterable, Iterator, List, Optional, Tupl
 import numpy as np
 
 from . import library, pieces
-from .refusals import SHEET_ROOM, TOO_MANY_BYTES, Refused
+from .refusals import OUT_OF_ORDER, SHEET_ROOM, TOO_MANY_BYTES, Refused
 from .schema import Schema
 from .sheets import Taker, Values, ends_hold, sheet
 from .values import BadValue, prepare_all
 
 
-class OutOfOrder(ValueError):
-    """Rows that were to be in order are not: ``row`` is the first that is below the one before it."""
+class OutOfOrder(Refused, ValueError):
+    """Rows that were to be in order are not, which is the station's refusal 26: ``row`` is the first that is below the one before it.
+
+    ``which`` is the pass of a join, 0 or 1. :meth:`Rows.sort` puts rows in order.
+
+    >>> print(OutOfOrder(7, 1))
+    refused 26 1 7 0: pass 1 is out of order: row 7 is below the row before it
+    """
 
     def __init__(self, row: int, which: int = 0) -> None:
-        super().__init__(row, which)
-        self.row = row
-        self.which = which
+        super().__init__(OUT_OF_ORDER, which, row, 0)
+        # What makes the same exception again, in another process for instance.
+        self.args = (row, which)
 
-    def __str__(self) -> str:
-        return f"row {self.row} of {'the first' if self.which == 0 else 'the second'} rows is below the one before it; sort() puts rows in order"
+    @property
+    def row(self) -> int:
+        """The first row that is below the one before it."""
+        return self.third
+
+    @property
+    def which(self) -> int:
+        """The pass whose rows are out of order."""
+        return self.second
 
 
 class Rows:
@@ -163,6 +176,9 @@ class Rows:
         [['ae'], ['a'], [None]]
         >>> joined.counts.tolist()
         [[1, 0], [2, 1], [0, 1]]
+        >>> second[::-1].join(first)
+        Traceback (most recent call last):
+        rowstation.rows.OutOfOrder: refused 26 0 1 0: pass 0 is out of order: row 1 is below the row before it
         """
         return Join(self, other)
 
@@ -246,8 +262,33 @@ def _first_fall(order: np.ndarray) -> int:
     return int(falls[0]) + 1 if len(falls) else len(order)
 
 
+def _fits(rows: Rows) -> bool:
+    """Whether one call takes all these rows."""
+    return len(rows) <= library.MAX_ROWS and rows.offsets[-1] - rows.offsets[0] <= library.MAX_ROW_BYTES
+
+
+def _joined(first: Rows, second: Rows) -> np.ndarray:
+    """The joined order of two passes that one call takes, as the station writes it: the rows of the second count on from the first's."""
+    order = np.empty(len(first) + len(second), "<u8")
+    try:
+        library.answer("station_join", len(first), *first._whole(), len(second), *second._whole(), order)
+    except Refused as refusal:
+        if refusal.number != OUT_OF_ORDER:
+            raise
+        raise OutOfOrder(refusal.third, refusal.second) from None
+    first._in_order, second._in_order = len(first), len(second)
+    which, row = np.divmod(order.astype(np.int64), library.MAX_ROWS)
+    return row + which * len(first)
+
+
 def _merged(first: Rows, second: Rows, both: Rows, in_order: bool) -> Tuple[np.ndarray, np.ndarray]:
-    """The joined order of two passes, as numbers of ``both``, and which entries equal the one before."""
+    """The joined order of two passes, as numbers of ``both``, and which entries equal the one before.
+
+    Passes that one call takes are joined by the station. It takes no larger ones, and none that are not in order: these are sorted here.
+    """
+    if in_order and _fits(first) and _fits(second):
+        order = _joined(first, second)
+        return order, pieces.alike(both.data, both.offsets, order)
     order, same = pieces.order(both.data, both.offsets)
     if not in_order:
         return order, same

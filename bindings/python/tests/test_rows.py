@@ -1,7 +1,9 @@
 """Rows against a plain model of the format: encoded, decoded, ordered, joined, looked up, any number of them."""
 
+import pickle
 import random
 import unittest
+from unittest import mock
 
 import numpy as np
 
@@ -152,6 +154,7 @@ class Order(unittest.TestCase):
                 order, same = pieces.order(*pieces.from_list(values))
                 wanted = sorted(range(len(values)), key=values.__getitem__)
                 self.assertEqual(order.tolist(), wanted)
+                self.assertEqual(pieces.alike(*pieces.from_list(values), order).tolist(), same.tolist())
                 self.assertEqual(same.tolist(), [i > 0 and values[wanted[i]] == values[wanted[i - 1]] for i in range(len(wanted))])
         finally:
             pieces.FIRST_CHUNK = first
@@ -194,9 +197,45 @@ class Joins(unittest.TestCase):
             with self.assertRaises(station.OutOfOrder) as caught:
                 first.join(second)
             self.assertEqual((caught.exception.row, caught.exception.which), (2, which))
+            self.assertEqual(caught.exception.numbers, (26, which, 2, 0))
+            self.assertIsInstance(caught.exception, station.Refused)
+            self.assertEqual(str(caught.exception), f"refused 26 {which} 2 0: pass {which} is out of order: row 2 is below the row before it")
+            self.assertEqual(pickle.loads(pickle.dumps(caught.exception)).numbers, caught.exception.numbers)
         self.assertEqual(len(station.Join(down, up, in_order=False).ink), 3)
         with self.assertRaisesRegex(ValueError, "rows of a:u8 beside rows of plate:u8"):
             up.join(station.encode(station.Schema("a:u8"), [[1]]))
+
+    def test_small_and_large_passes(self):
+        """The station joins passes of up to 4,096 rows, and larger ones are sorted here: both come to the same, refusals too."""
+        rnd = random.Random(7)
+        for counts in ((4096, 4096), (4097, 4096), (4096, 4097), (0, 4096), (4097, 0), (0, 0), (9000, 5)):
+            passes = [sorted(bytes(rnd.choices(b"\0ab\xff", k=rnd.randrange(7))) for _ in range(count)) for count in counts]
+            first, second = (station.Rows.of(None, rows) for rows in passes)
+            with mock.patch.object(library, "answer", wraps=library.answer) as answer:
+                joined = first.join(second)
+            self.assertEqual([call.args[0] for call in answer.mock_calls], ["station_join"] if max(counts) <= 4096 else [])
+            wanted = sorted([(row, which, i) for which in (0, 1) for i, row in enumerate(passes[which])])
+            self.assertEqual(list(zip(joined.entries, joined.passes.tolist(), joined.rows.tolist())), wanted)
+            points = sorted({*passes[0], *passes[1]})
+            self.assertEqual([(row, *counted) for row, counted in zip(joined.all, joined.counts.tolist())],
+                             [(row, passes[0].count(row), passes[1].count(row)) for row in points])
+            for which in (0, 1):
+                if counts[which] > 2000:
+                    wrong = [list(rows) for rows in passes]
+                    wrong[which][2000:2001] = [b""]
+                    with self.assertRaises(station.OutOfOrder) as caught:
+                        station.Rows.of(None, wrong[0]).join(station.Rows.of(None, wrong[1]))
+                    self.assertEqual(caught.exception.numbers, (26, which, 2000, 0))
+
+    def test_more_bytes_than_one_call_takes(self):
+        long = [b"a" * 9_000_000, b"a" * 9_000_000]
+        joined = station.Rows.of(None, long).join(station.Rows.of(None, [b"a"]))
+        self.assertEqual((joined.passes.tolist(), joined.rows.tolist()), ([1, 0, 0], [0, 0, 1]))
+
+    def test_parts_of_rows(self):
+        rows = station.Rows.of(None, [b"z", b"a", b"b", b"y"])
+        joined = rows[1:3].join(rows[2:4])
+        self.assertEqual((list(joined.ink), list(joined.dust(0)), list(joined.dust(1))), ([b"b"], [b"a"], [b"y"]))
 
     def test_look_up(self):
         rnd = random.Random(6)

@@ -2,7 +2,8 @@
 //! the crate's `fixed.rs` and `variable.rs`: 4,096 rows of plate (u32), glyph name (variable, 12
 //! bytes), position (f64) and exposure (months, days, nanoseconds); of two decimals (i128 and i256);
 //! and of three floats, which the station then folds as well, and the crate is given folded. For each
-//! one input, cleared buffers, the four works in turn in one run.
+//! one input, cleared buffers, the four works in turn in one run. Then the station's join of two
+//! passes of 4,096 such rows against a merge of them in Rust, and against sorting.
 
 use arrow_row::driver::{self, Array, Field};
 use oracle::columns::Column;
@@ -17,7 +18,7 @@ use std::process::{Command, ExitCode};
 use std::time::Instant;
 
 const USAGE: &str = "bench [--rounds N] [--nulls] [--descending] [--callgrind] \
-     [--table catalogue|decimals|floats|folded] [--only rust-encode|station-encode|rust-decode|station-decode]";
+     [--table catalogue|decimals|floats|folded|passes] [--only rust-encode|station-encode|rust-decode|station-decode]";
 const ROWS: usize = 4096;
 const NAME_BYTES: usize = 12;
 
@@ -36,6 +37,9 @@ const WORKS: [&str; 4] = [
     "rust-decode",
     "station-decode",
 ];
+
+/// The works on two passes.
+const JOINS: [&str; 3] = ["rust merge", "rust sort", "station"];
 
 /// The input in both forms, and the buffers.
 struct Bench {
@@ -154,10 +158,138 @@ fn medians(bench: &mut Bench, rounds: usize) -> [u64; 4] {
             times[work].push(bench.time(WORKS[work]));
         }
     }
-    times.map(|mut times| {
-        times.sort_unstable();
-        times[times.len() / 2]
-    })
+    times.map(median)
+}
+
+fn median(mut times: Vec<u64>) -> u64 {
+    times.sort_unstable();
+    times[times.len() / 2]
+}
+
+/// Two sorted passes, and the list.
+struct JoinBench {
+    passes: [station::Rows; 2],
+    order: Vec<u64>,
+}
+
+impl JoinBench {
+    /// Rows of two sheets of the catalogue, each sorted; half of those of the second are the first's.
+    fn new(order: u8, nulls: Nulls) -> JoinBench {
+        let table = table_of(TABLES[0].1, order, nulls);
+        let other = make::table_with(
+            &mut Rng::new(10),
+            ROWS,
+            table.columns.clone(),
+            nulls,
+            &[NAME_BYTES],
+        );
+        let [(rows, offsets), (others, other_offsets)] = [&table, &other].map(crate_side::encode);
+        let mut first = crate_side::cut(&rows, &offsets);
+        let second = crate_side::cut(&others, &other_offsets)
+            .into_iter()
+            .step_by(2);
+        let mut second: Vec<&[u8]> = second.chain(first.iter().copied().step_by(2)).collect();
+        first.sort_unstable();
+        second.sort_unstable();
+        JoinBench {
+            passes: [rows_of(&first), rows_of(&second)],
+            order: vec![0; 2 * ROWS],
+        }
+    }
+
+    /// The nanoseconds of one work, with the list cleared.
+    fn time(&mut self, work: &str) -> u64 {
+        self.order.fill(0);
+        let start = Instant::now();
+        match work {
+            "rust merge" => self.rust_merge(),
+            "rust sort" => self.rust_sort(),
+            _ => self.station_join(),
+        }
+        start.elapsed().as_nanos() as u64
+    }
+
+    /// A merge of passes that are taken to be sorted.
+    #[inline(never)]
+    fn rust_merge(&mut self) {
+        let [first, second] = black_box(&self.passes);
+        let (mut i, mut j) = (0, 0);
+        for entry in &mut self.order {
+            let of_second = i == ROWS || (j < ROWS && second.row(j) < first.row(i));
+            (*entry, i, j) = match of_second {
+                true => ((4096 + j) as u64, i, j + 1),
+                false => (i as u64, i + 1, j),
+            };
+        }
+    }
+
+    /// All entries sorted, as if nothing were known of the passes.
+    #[inline(never)]
+    fn rust_sort(&mut self) {
+        let passes = black_box(&self.passes);
+        self.order
+            .iter_mut()
+            .zip(0..)
+            .for_each(|(entry, i)| *entry = i);
+        let row = |entry: u64| passes[entry as usize / 4096].row(entry as usize % 4096);
+        self.order
+            .sort_unstable_by(|a, b| row(*a).cmp(row(*b)).then(a.cmp(b)));
+    }
+
+    #[inline(never)]
+    fn station_join(&mut self) {
+        let ([first, second], n) = (black_box(&self.passes), ROWS as u64);
+        let (rows, others) = (&first.bytes, &second.bytes);
+        let (offsets, other_offsets) = (&first.offsets, &second.offsets);
+        station::join(n, rows, offsets, n, others, other_offsets, &mut self.order)
+            .expect("accepted");
+    }
+
+    /// All three write the same list.
+    fn check(&mut self) {
+        let orders = JOINS.map(|work| {
+            self.time(work);
+            self.order.clone()
+        });
+        assert!(orders[0] == orders[1] && orders[0] == orders[2]);
+    }
+}
+
+/// Rows as a batch.
+fn rows_of(rows: &[&[u8]]) -> station::Rows {
+    let ends = rows.iter().scan(0, |end, row| {
+        *end += row.len() as u64;
+        Some(*end)
+    });
+    station::Rows {
+        bytes: rows.concat(),
+        offsets: [0].into_iter().chain(ends).collect(),
+        nulls: 0,
+    }
+}
+
+/// Times the join, and prints what it is of the merge and of sorting.
+fn measure_join(options: &Options) {
+    let (order, nulls) = columns_said(options);
+    let mut bench = JoinBench::new(order, nulls);
+    bench.check();
+    let rounds = options.number("--rounds").unwrap_or(2001) as usize;
+    let mut times: [Vec<u64>; 3] = Default::default();
+    for round in 0..rounds {
+        for turn in 0..JOINS.len() {
+            let work = (turn + round) % JOINS.len();
+            times[work].push(bench.time(JOINS[work]));
+        }
+    }
+    let bytes: usize = bench.passes.iter().map(|pass| pass.bytes.len()).sum();
+    println!("passes: {ROWS} rows each, {bytes} row bytes together, medians of {rounds} rounds");
+    let [merge, sort, station] = times.map(|times| median(times) as f64 / (2 * ROWS) as f64);
+    println!(
+        "join    rust merge {merge:.2}  rust sort {sort:.2}  station {station:.2}  ns an entry  \
+         ratio to the merge {:.2}, to sorting {:.2}",
+        station / merge,
+        station / sort
+    );
 }
 
 /// The instructions of one work, counted by callgrind: many rounds less one round.
@@ -208,16 +340,24 @@ fn main() -> ExitCode {
             "folding three floats costs {encode:.2} ns a row in encode, {decode:.2} in decode"
         );
     }
+    if wanted.is_none_or(|wanted| wanted == "passes") && !options.has("--only") {
+        measure_join(&options);
+    }
     ExitCode::SUCCESS
 }
 
-/// The medians of one table, printed too; or one work run on it.
-fn measure(options: &Options, name: &str, kinds: &[u8], option: u8) -> Option<[u64; 4]> {
+/// The options of the columns, and where nulls are.
+fn columns_said(options: &Options) -> (u8, Nulls) {
     let nulls = match options.has("--nulls") {
         true => Nulls::Random,
         false => Nulls::None,
     };
-    let order = if options.has("--descending") { 3 } else { 2 };
+    (if options.has("--descending") { 3 } else { 2 }, nulls)
+}
+
+/// The medians of one table, printed too; or one work run on it.
+fn measure(options: &Options, name: &str, kinds: &[u8], option: u8) -> Option<[u64; 4]> {
+    let (order, nulls) = columns_said(options);
     let table = table_of(kinds, order | option, nulls);
     let mut bench = Bench::new(&table);
     bench.check(&table);
