@@ -12,7 +12,7 @@ use lib.Seq.{drop-at}
 use Rattle.format.specs.declared.Check.the-variants.{Pass}
 use Rattle.format.specs.declared.SortOptions.{SortOptions}
 use Rattle.format.specs.declared.Column.{Column}
-use Rattle.format.specs.Limits.{maxRows, maxSlot}
+use Rattle.format.specs.Limits.{maxSlot}
 use Rattle.format.specs.Lists.{endsFrom, joined, low, lowBytes}
 use Rattle.format.specs.Kinds.{Fixed, bool, plain, number, integer, float, parts, Shape, fixed, variable, Slot, width, columnShape}
 use Rattle.format.specs.Fold.{foldedSlot}
@@ -172,8 +172,8 @@ valid-asked : (sh : Shape) (o : SortOptions) (b : Bool) (v : List ℕ) → SlotF
 valid-asked sh o true v h q = refl
 valid-asked sh o false v h q = absurd (true≢false (sym q ∙ h))
 
-all-valid : (sh : Shape) (o : SortOptions) (rs : List Raw) → AllSlots sh o (map (foldedSlot sh o) (map slotOf rs)) → o .required ≡ true → (i : ℕ) → i < length rs
-    → getD (map (λ r. r .valid) rs) i false ≡ true
+all-valid : (sh : Shape) (o : SortOptions) (rs : List Raw) → AllSlots sh o (map (foldedSlot sh o) (map slotOf rs)) → o .required ≡ true
+    → (i : ℕ) → i < length rs → getD (map (λ r. r .valid) rs) i false ≡ true
 all-valid sh o [] h q i l = absurd (omega arith)
 all-valid sh o (r ∷ rs) h q zero l = valid-asked sh o (r .valid) (r .bytes) (h .0) q
 all-valid sh o (r ∷ rs) h q (suc i) l = all-valid sh o rs (h .1) q i (omega arith)

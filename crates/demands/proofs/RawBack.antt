@@ -229,7 +229,8 @@ column-back q ly n c s b e =
     let rest : List ℕ = drop (packed n) s in
     ap₂ (λ (x y : List ℕ). x ++ y)
     (ap (pack (packed n)) (map-each (λ (r : Raw). r .valid) 0 n (rawAt ly n s)) ∙ flags-back n c s b (p .0))
-    (ap (standing ly n (beforeFirst ly n rest)) (map-each (λ (r : Raw). r .bytes) 0 n (rawAt ly n s)) ∙ values-back ly n c rest (bytes-drop (packed n) s b) (p .1))
+    (ap (standing ly n (beforeFirst ly n rest)) (map-each (λ (r : Raw). r .bytes) 0 n (rawAt ly n s))
+    ∙ values-back ly n c rest (bytes-drop (packed n) s b) (p .1))
     ∙ sym (take-add (packed n) (valuesBytes ly n rest) s)
 
 raws-fit : (sh : Shape) (i k : ℕ) (f : ℕ → Raw) → ((j : ℕ) → i ≤ j → j < i + k → Fits maxSlot sh false (f j .bytes)) → AllRaw sh (each i k f)

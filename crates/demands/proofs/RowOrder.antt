@@ -3,7 +3,7 @@ use Prim.Native.Nat.{ℕ, _+_, _<_, Ordering, Ordering·lt as lt, Ordering·gt a
 use mathlib.Core.Path.{_≡_, ap, sym, _∙_, subst}
 use mathlib.Core.Bool.{Bool, true, false, cond}
 use mathlib.Core.Option.{none, some}
-use mathlib.Core.List.{List, [], _∷_}
+use mathlib.Core.List.{List, [], _∷_, _++_}
 use native.Mathlib.Omega.{arith}
 use lib.ListN.{length, take, drop, replicate, length-drop, length-reverse}
 use lib.Seq.{length-take-le}
@@ -25,7 +25,7 @@ use Rattle.laws.proofs.Fields.{bytes-variable, Led, led-variable}
 use Rattle.demands.proofs.Invert.{ranks-directed}
 use Rattle.laws.proofs.HighFirst.{unsigned-order}
 use Rattle.demands.proofs.KeyLaws.{signed-order, float-order}
-use Rattle.demands.proofs.Sep.{Ranks, ranks-self, ranks-append, ranks-even, ranks-cmp, ranks-begins, ranks-begun}
+use Rattle.demands.proofs.Sep.{Ranks, ranks-self, ranks-append, ranks-even, ranks-cmp, ranks-front, ranks-begins, ranks-begun}
 use Rattle.demands.proofs.VariableOrder.{variable-ranks}
 use Rattle.demands.proofs.Orders.{lt≢eq, gt≢eq}
 
@@ -122,6 +122,11 @@ row-ranks (col ∷ cols) (x ∷ xs) (y ∷ ys) hx hy =
 -- two rows compare as their slots do, column by column
 pub row-order : (cols : List Column) (xs ys : List Slot) → RowFits cols xs → RowFits cols ys → cmp (row cols xs) (row cols ys) ≡ rowOrder cols xs ys
 row-order cols xs ys hx hy = ranks-cmp (row-ranks cols xs ys hx hy)
+
+-- so does the first, whatever follows it, cut to the length of the second
+pub row-front : (cols : List Column) (xs ys : List Slot) (s : List ℕ) → RowFits cols xs → RowFits cols ys
+    → cmp (take (length (row cols ys)) (row cols xs ++ s)) (row cols ys) ≡ rowOrder cols xs ys
+row-front cols xs ys s hx hy = ranks-front (row-ranks cols xs ys hx hy) s
 
 -- one begins the other only if they are the same
 pub row-begins : (cols : List Column) (xs ys : List Slot) → RowFits cols xs → RowFits cols ys → Begins (row cols xs) (row cols ys) → row cols xs ≡ row cols ys

@@ -4,7 +4,7 @@ use mathlib.Core.Path.{_≡_, refl, ap, ap₂, sym, _∙_, subst}
 use mathlib.Core.List.{List, [], _∷_, _++_, tail}
 use native.Mathlib.Omega.{arith}
 use native.Mathlib.Nat.{suc-inj, suc-ne-zero}
-use lib.ListN.{length}
+use lib.ListN.{length, take}
 use Rattle.format.specs.Order.{Begins, cmp, then}
 use Rattle.demands.proofs.Orders.{compare-self, lt≢eq, gt≢eq, eq-of-compare, then-eq-left, then-eq-right}
 
@@ -73,6 +73,22 @@ sep-cmp (x ∷ xs) (y ∷ ys) e = ap (then (compare x y)) (sep-cmp xs ys (suc-in
 
 tie : {o : Ordering} {f g : List ℕ} → Ranks o f g → sep f g ≡ eq → f ≡ g
 tie k e = k .alike (sym (k .first) ∙ e)
+
+-- whatever follows the first, cut to the length of the second, it stands so to the second
+front-sep : (f g s : List ℕ) → (sep f g ≡ eq → f ≡ g) → cmp (take (length g) (f ++ s)) g ≡ sep f g
+front-sep [] [] s h = refl
+front-sep [] (y ∷ ys) s h = absurd (nil-cons (h refl))
+front-sep (x ∷ xs) [] s h = absurd (nil-cons (sym (h refl)))
+front-sep (x ∷ xs) (y ∷ ys) s h = go (compare x y) refl (front-sep xs ys s)
+  where
+    go : (o : Ordering) → compare x y ≡ o → ((sep xs ys ≡ eq → xs ≡ ys) → cmp (take (length ys) (xs ++ s)) ys ≡ sep xs ys)
+        → then o (cmp (take (length ys) (xs ++ s)) ys) ≡ then o (sep xs ys)
+    go lt e ih = refl
+    go eq e ih = ih (tails x y xs ys h e)
+    go gt e ih = refl
+
+pub ranks-front : {o : Ordering} {f g : List ℕ} → Ranks o f g → (s : List ℕ) → cmp (take (length g) (f ++ s)) g ≡ o
+ranks-front {o} {f} {g} k s = front-sep f g s (tie k) ∙ k .first
 
 -- the order of the strings is o
 pub ranks-cmp : {o : Ordering} {f g : List ℕ} → Ranks o f g → cmp f g ≡ o

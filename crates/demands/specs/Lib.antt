@@ -7,3 +7,4 @@ pub mod Slices
 pub mod Folded
 pub mod Place
 pub mod JoinOrder
+pub mod Prefix

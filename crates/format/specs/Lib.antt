@@ -16,6 +16,7 @@ pub mod Sheet
 pub mod Passed
 pub mod Cleared
 pub mod Read
+pub mod Prefix
 pub mod Numbers
 pub mod Entries
 pub mod Batch
