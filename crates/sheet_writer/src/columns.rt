@@ -17,6 +17,7 @@ use crate::values::move_values;
 use bits::count_ones;
 use format::Column;
 use format::Kind;
+use format::MAX_ROWS;
 use format::Schema;
 
 // The values of a column, by their layout, and its cursors past the fields.
@@ -138,12 +139,12 @@ fn write_more(schema: Schema, n: usize, rows: &[u8], offsets: &[u64], sheet: &mu
 
 // The same in an array of 4,096 cursors.
 fn write_many(schema: Schema, n: usize, rows: &[u8], offsets: &[u64], sheet: &mut [u8]) -> Written
-    requires { ⌜ n ≤ 4096 ⌝ }
+    requires { ⌜ n ≤ maxRows ⌝ }
     requires { ⌜ Decodable schema n (now rows) (now offsets) (now sheet) ⌝ }
     ensures { λ r. ⌜ Clears n (colsOf schema) (rowsSlots (colsOf schema) (cutRows n (now (rows .entry)) (now (offsets .entry))))
         (now (sheet .entry)) (now (sheet .exit)) r ⌝ }
 {
-    let mut cursors = [0usize; 4096];
+    let mut cursors = [0usize; MAX_ROWS as usize];
     write_rows(schema, n, rows, offsets, &mut cursors, sheet)
 }
 

@@ -1,11 +1,13 @@
 // Decode with the smallest array of numbers that will do: each size has a function of its own, so that a call clears no more.
-ghost use Prim.Native.Nat.{_/_, _≤_};
+ghost use Prim.Native.Nat.{_+_, _/_, _≤_};
 ghost use lib.ListN.{length};
+ghost use Rattle.format.specs.Limits.{maxRows};
 ghost use Rattle.format.specs.Lent.{answerRoom};
 ghost use Rattle.format.specs.Promises.{LentDecoded};
 ghost use Rattle.station_c.specs.Offsets.{Used};
 use crate::bytes::decode_bytes;
 use crate::bytes::put_answer;
+use format::MAX_OFFSETS;
 
 // The first k of the numbers that are lent are used.
 fn decode_lent(
@@ -100,11 +102,11 @@ fn decode_many(
 )
     requires { ⌜ answerRoom ≤ length (now answer) ⌝ }
     requires { ⌜ Used n (length (now offsets) / 8) k ⌝ }
-    requires { ⌜ k ≤ 4097 ⌝ }
+    requires { ⌜ k ≤ maxRows + 1 ⌝ }
     ensures { λ _. ⌜ LentDecoded (now (list .entry)) n (now (rows .entry)) (now (offsets .entry)) (now (sheet .entry)) (now (answer .entry))
         (now (sheet .exit)) (now (answer .exit)) ⌝ }
 {
-    let mut numbers = [0u64; 4097];
+    let mut numbers = [0u64; MAX_OFFSETS];
     decode_lent(list, n, rows, offsets, sheet, answer, &mut numbers, k);
 }
 

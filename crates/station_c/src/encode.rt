@@ -1,11 +1,13 @@
 // Encode with the smallest array of numbers that will do: each size has a function of its own, so that a call clears no more.
-ghost use Prim.Native.Nat.{_/_, _≤_};
+ghost use Prim.Native.Nat.{_+_, _/_, _≤_};
 ghost use lib.ListN.{length};
+ghost use Rattle.format.specs.Limits.{maxRows};
 ghost use Rattle.format.specs.Lent.{answerRoom};
 ghost use Rattle.format.specs.Promises.{LentEncoded};
 ghost use Rattle.station_c.specs.Offsets.{Used};
 use crate::bytes::encode_bytes;
 use crate::bytes::put_answer;
+use format::MAX_OFFSETS;
 
 // The first k of the numbers that are lent are used.
 fn encode_lent(
@@ -100,11 +102,11 @@ fn encode_many(
 )
     requires { ⌜ answerRoom ≤ length (now answer) ⌝ }
     requires { ⌜ Used n (length (now offsets) / 8) k ⌝ }
-    requires { ⌜ k ≤ 4097 ⌝ }
+    requires { ⌜ k ≤ maxRows + 1 ⌝ }
     ensures { λ _. ⌜ LentEncoded (now (list .entry)) n (now (sheet .entry)) (now (rows .entry)) (now (offsets .entry)) (now (answer .entry))
         (now (rows .exit)) (now (offsets .exit)) (now (answer .exit)) ⌝ }
 {
-    let mut numbers = [0u64; 4097];
+    let mut numbers = [0u64; MAX_OFFSETS];
     encode_lent(list, n, sheet, rows, offsets, answer, &mut numbers, k);
 }
 
