@@ -8,11 +8,6 @@ pub mod KeyLaws
 pub mod VariableOrder
 pub mod RowOrder
 pub mod OneRow
-pub mod PrefixRun
-pub mod Fronts
-pub mod FirstColumns
-pub mod FirstFields
-pub mod SideBySide
 pub mod Turning
 pub mod CutRows
 pub mod Raw
@@ -24,7 +19,6 @@ pub mod RowsBack
 pub mod Exact
 pub mod Demand2
 pub mod Demand3
-pub mod Plates
 pub mod NullSlots
 pub mod FoldedRows
 pub mod Calls

@@ -7,4 +7,3 @@ pub mod Slices
 pub mod Folded
 pub mod Place
 pub mod JoinOrder
-pub mod Prefix

@@ -86,7 +86,69 @@ fn start(offsets: &[u64], cursors: &mut [usize])
     }
 }
 
-// The cleared sheet of n rows that passed the checks, written in front of the lent sheet.
+// The cleared sheet of n rows that passed the checks, written in front of the lent sheet, with the cursors that are lent.
+fn write_rows(
+    schema: Schema,
+    n: usize,
+    rows: &[u8],
+    offsets: &[u64],
+    cursors: &mut [usize],
+    sheet: &mut [u8],
+) -> Written
+    requires { ⌜ n ≤ length (now cursors) ⌝ }
+    requires { ⌜ Decodable schema n (now rows) (now offsets) (now sheet) ⌝ }
+    ensures { λ r. ⌜ Clears n (colsOf schema) (rowsSlots (colsOf schema) (cutRows n (now (rows .entry)) (now (offsets .entry))))
+        (now (sheet .entry)) (now (sheet .exit)) r ⌝ }
+{
+    start(offsets, &mut cursors[..n]);
+    write_columns(schema, rows, &mut cursors[..n], sheet)
+}
+
+// The same in an array of 8 cursors.
+fn write_few(schema: Schema, n: usize, rows: &[u8], offsets: &[u64], sheet: &mut [u8]) -> Written
+    requires { ⌜ n ≤ 8 ⌝ }
+    requires { ⌜ Decodable schema n (now rows) (now offsets) (now sheet) ⌝ }
+    ensures { λ r. ⌜ Clears n (colsOf schema) (rowsSlots (colsOf schema) (cutRows n (now (rows .entry)) (now (offsets .entry))))
+        (now (sheet .entry)) (now (sheet .exit)) r ⌝ }
+{
+    let mut cursors = [0usize; 8];
+    write_rows(schema, n, rows, offsets, &mut cursors, sheet)
+}
+
+// The same in an array of 64 cursors.
+fn write_some(schema: Schema, n: usize, rows: &[u8], offsets: &[u64], sheet: &mut [u8]) -> Written
+    requires { ⌜ n ≤ 64 ⌝ }
+    requires { ⌜ Decodable schema n (now rows) (now offsets) (now sheet) ⌝ }
+    ensures { λ r. ⌜ Clears n (colsOf schema) (rowsSlots (colsOf schema) (cutRows n (now (rows .entry)) (now (offsets .entry))))
+        (now (sheet .entry)) (now (sheet .exit)) r ⌝ }
+{
+    let mut cursors = [0usize; 64];
+    write_rows(schema, n, rows, offsets, &mut cursors, sheet)
+}
+
+// The same in an array of 512 cursors.
+fn write_more(schema: Schema, n: usize, rows: &[u8], offsets: &[u64], sheet: &mut [u8]) -> Written
+    requires { ⌜ n ≤ 512 ⌝ }
+    requires { ⌜ Decodable schema n (now rows) (now offsets) (now sheet) ⌝ }
+    ensures { λ r. ⌜ Clears n (colsOf schema) (rowsSlots (colsOf schema) (cutRows n (now (rows .entry)) (now (offsets .entry))))
+        (now (sheet .entry)) (now (sheet .exit)) r ⌝ }
+{
+    let mut cursors = [0usize; 512];
+    write_rows(schema, n, rows, offsets, &mut cursors, sheet)
+}
+
+// The same in an array of 4,096 cursors.
+fn write_many(schema: Schema, n: usize, rows: &[u8], offsets: &[u64], sheet: &mut [u8]) -> Written
+    requires { ⌜ n ≤ maxRows ⌝ }
+    requires { ⌜ Decodable schema n (now rows) (now offsets) (now sheet) ⌝ }
+    ensures { λ r. ⌜ Clears n (colsOf schema) (rowsSlots (colsOf schema) (cutRows n (now (rows .entry)) (now (offsets .entry))))
+        (now (sheet .entry)) (now (sheet .exit)) r ⌝ }
+{
+    let mut cursors = [0usize; MAX_ROWS as usize];
+    write_rows(schema, n, rows, offsets, &mut cursors, sheet)
+}
+
+// The same with the smallest array of cursors that will do: each size has a function of its own, so that a call clears no more.
 pub fn write_sheet(
     schema: Schema,
     n: usize,
@@ -98,7 +160,14 @@ pub fn write_sheet(
     ensures { λ r. ⌜ Clears n (colsOf schema) (rowsSlots (colsOf schema) (cutRows n (now (rows .entry)) (now (offsets .entry))))
         (now (sheet .entry)) (now (sheet .exit)) r ⌝ }
 {
-    let mut cursors = [0usize; MAX_ROWS as usize];
-    start(offsets, &mut cursors[..n]);
-    write_columns(schema, rows, &mut cursors[..n], sheet)
+    if n <= 8 {
+        return write_few(schema, n, rows, offsets, sheet);
+    }
+    if n <= 64 {
+        return write_some(schema, n, rows, offsets, sheet);
+    }
+    if n <= 512 {
+        return write_more(schema, n, rows, offsets, sheet);
+    }
+    write_many(schema, n, rows, offsets, sheet)
 }

@@ -1,16 +1,18 @@
 // The C entries: a slice is a pointer and a length, and offsets and answers are lent as bytes, eight a number, low byte
 // first. Thin over crate `station`; include/station.h says how to call them.
 ghost use Rattle.format.specs.Promises.{LentListChecked, LentMeasured, LentEncoded, LentDecoded, LentJoined, Compared};
-use crate::bytes::decode_bytes;
-use crate::bytes::encode_bytes;
 use crate::bytes::put_answer;
 use crate::bytes::used_offsets;
+use crate::decode::decode_sized;
+use crate::encode::encode_sized;
 use crate::order::MAX_ORDER;
 use crate::order::join_bytes;
 use crate::order::used_entries;
 use format::MAX_OFFSETS;
 
 mod bytes;
+mod decode;
+mod encode;
 mod order;
 mod version;
 
@@ -55,10 +57,8 @@ pub extern "C" fn station_encode(
     if answer.len() < ANSWER_BYTES {
         return;
     }
-    let mut numbers = [0u64; MAX_OFFSETS];
     let k = used_offsets(n, offsets.len());
-    let r = encode_bytes(list, n, sheet, rows, offsets, &mut numbers[..k]);
-    put_answer(answer, r);
+    encode_sized(list, n, sheet, rows, offsets, answer, k);
 }
 
 // Checks rows, and writes their cleared sheet.
@@ -77,10 +77,8 @@ pub extern "C" fn station_decode(
     if answer.len() < ANSWER_BYTES {
         return;
     }
-    let mut numbers = [0u64; MAX_OFFSETS];
     let k = used_offsets(n, offsets.len());
-    let r = decode_bytes(list, n, rows, offsets, sheet, &mut numbers[..k]);
-    put_answer(answer, r);
+    decode_sized(list, n, rows, offsets, sheet, answer, k);
 }
 
 // Writes the joined order of two sorted passes.

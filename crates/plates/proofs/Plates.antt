@@ -29,16 +29,16 @@ use Rattle.basics.proofs.Checks.{refuse-pass}
 use Rattle.basics.proofs.Lists.{each-at, length-each}
 use Rattle.laws.proofs.Cuts.{cut-bytes}
 use Rattle.laws.proofs.ReadRow.{rows-passed}
 use Rattle.demands.specs.declared.order.Ordered.{Ordered}
 use Rattle.demands.specs.declared.order.Ordered.the-variants.{Refused as NotEncoded, NoRow, Is}
 use Rattle.demands.specs.Order.{Batch, batchFault, rowIn, valuesIn, ordered}
-use Rattle.demands.specs.Prefix.{fieldsIn, firstValues, Sorted, Together, Fields, FieldsAgree, keyOrder, KeyThere, KeyOrdered}
+use Rattle.plates.specs.Prefix.{fieldsIn, firstValues, Sorted, Together, Fields, FieldsAgree, keyOrder, KeyThere, KeyOrdered}
 use Rattle.demands.proofs.Accept.{decoded}
 use Rattle.demands.proofs.Exact.{row-valued}
 use Rattle.demands.proofs.Demand3.{Written, row-is, values-fit}
-use Rattle.demands.proofs.FirstFields.{fits-first, row-parts, length-first, first-fields, key-shared, key-begins, fields-agree}
+use Rattle.plates.proofs.FirstFields.{fits-first, row-parts, length-first, first-fields, key-shared, key-begins, fields-agree}
 use Rattle.demands.proofs.RowOrder.{row-front}
-use Rattle.demands.proofs.SideBySide.{side-by-side}
+use Rattle.plates.proofs.SideBySide.{side-by-side}
 
 -- ---- one batch
 module _ {list : List ℕ} {b : Batch} (w : Written list b) where

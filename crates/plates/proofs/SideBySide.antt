@@ -14,9 +14,9 @@ use Rattle.format.specs.Row.{row}
 use Rattle.basics.proofs.Bytes.{bytes-right}
 use Rattle.basics.proofs.Compare.{Tri, below, same, above, tri, compare-lt, compare-gt, compare-eq}
 use Rattle.laws.proofs.Fields.{bytes-row}
-use Rattle.demands.specs.Prefix.{Sorted, Together}
-use Rattle.demands.proofs.FirstFields.{fits-first, first-row, first-fields}
+use Rattle.plates.specs.Prefix.{Sorted, Together}
+use Rattle.plates.proofs.FirstFields.{fits-first, first-row, first-fields}
 use Rattle.demands.proofs.Orders.{lt≢eq}
 
 -- two heads, and how the two strings compare then
 heads : (x y : ℕ) (xs ys : List ℕ) (o : Ordering) → compare x y ≡ o → cmp (x ∷ xs) (y ∷ ys) ≡ then o (cmp xs ys)

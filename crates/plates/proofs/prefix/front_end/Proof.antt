@@ -1,8 +1,8 @@
--- `demands::prefix::front_end` meets its contract. Assumes nothing.
+-- `plates::prefix::front_end` meets its contract. Assumes nothing.
 use borrow.Author.Needs.{needs}
 use borrow.Author.Tests.{lt-ltb, le-ltb}
-use Rattle.demands.proofs.prefix.front_end.Statement.{statement}
-use Rattle.demands.proofs.prefix.front_end.Tie as tie
+use Rattle.plates.proofs.prefix.front_end.Statement.{statement}
+use Rattle.plates.proofs.prefix.front_end.Tie as tie
 
 returns : tie.Need-returns
 returns c = rw (lt-ltb _ _ (c .if1 .taken))

@@ -9,7 +9,7 @@ use Rattle.format.specs.Columns.{columns}
 use Rattle.format.specs.Kinds.{Slot}
 use Rattle.format.specs.Prefix.{firstFields, valuesLength}
 use Rattle.format.specs.Row.{row}
-use Rattle.demands.specs.Prefix.{firstList}
+use Rattle.plates.specs.Prefix.{firstList}
 
 abbrev list : List ℕ
 list = 7 ∷ 2 ∷ 16 ∷ 1 ∷ []

@@ -1,4 +1,4 @@
--- `demands::prefix::compare_front` meets its contract: each row lies between its offsets, and so does what is cut out of the first.
+-- `plates::prefix::compare_front` meets its contract: each row lies between its offsets, and so does what is cut out of the first.
 -- Assumes nothing.
 use borrow.Author.Needs.{needs, sfits-of}
 use Prim.Native.Nat.{ℕ}
@@ -8,9 +8,9 @@ use native.Mathlib.Numerals.{add-one}
 use mir.Syntax.{w32}
 use mir.Facts.{toZ-ofZ}
 use Rattle.format.specs.Entries.{rowBytes, compareAnswer}
-use Rattle.demands.proofs.Fronts.{Front, front-is}
-use Rattle.demands.proofs.prefix.compare_front.Statement.{statement}
-use Rattle.demands.proofs.prefix.compare_front.Tie as tie
+use Rattle.plates.proofs.Fronts.{Front, front-is}
+use Rattle.plates.proofs.prefix.compare_front.Statement.{statement}
+use Rattle.plates.proofs.prefix.compare_front.Tie as tie
 
 -- where the offsets are read
 abbrev start : tie.After-shared-slice-known8 → tie.Start

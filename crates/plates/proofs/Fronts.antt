@@ -12,7 +12,7 @@ use lib.Seq.{take-take, take-all, length-take-le}
 use borrow.Author.Tests.{ltb-true, ltb-false}
 use Rattle.format.specs.Entries.{rowBytes}
 use Rattle.joiner.specs.Rows.{Lies}
-use Rattle.demands.specs.Prefix.{frontEnd}
+use Rattle.plates.specs.Prefix.{frontEnd}
 
 -- it ends between where it begins and where it would end
 front-lies : (from to size : ℕ) → from ≤ to → (from ≤ frontEnd from to size) × (frontEnd from to size ≤ to)

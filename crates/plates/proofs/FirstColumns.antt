@@ -15,7 +15,7 @@ use Rattle.format.specs.Check.{both}
 use Rattle.format.specs.Columns.{descriptionBytes, widthAt, columnAt, descriptionFault, listFaultFrom, columnsFrom, listFault, columns}
 use Rattle.basics.proofs.Checks.{failIf-pass, both-pass, pass-both}
 use Rattle.laws.proofs.Columns.{bytes-wide, bytes-least, description-passed}
-use Rattle.demands.specs.Prefix.{listEnd, firstList}
+use Rattle.plates.specs.Prefix.{listEnd, firstList}
 
 -- ---- one description, within the first p bytes
 module _ (s : List ℕ) (at p : ℕ) (whole : at + descriptionBytes (getD s at 0) ≤ p) (there : p ≤ length s) where

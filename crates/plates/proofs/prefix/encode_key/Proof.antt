@@ -1,15 +1,15 @@
--- `demands::prefix::encode_key` meets its contract: what encode refuses of either sheet is refused, a row that is not there is not
+-- `plates::prefix::encode_key` meets its contract: what encode refuses of either sheet is refused, a row that is not there is not
 -- compared, and else the row stands to the key as its first values do. Assumes nothing.
 use borrow.Author.Needs.{needs, sfits-of}
 use mir.Syntax.{w32}
 use mir.Facts.{toZ-ofZ}
 use Rattle.format.specs.Lists.{Bytes}
 use Rattle.basics.proofs.Bytes.{bytes-of}
 use Rattle.demands.proofs.Demand3.{row-lies}
 use Rattle.demands.proofs.Calls.{encode-refused, batch-written}
-use Rattle.demands.proofs.Plates.{first-refused, second-refused, key-refused, no-row, no-key, key-ordered}
-use Rattle.demands.proofs.prefix.encode_key.Statement.{statement}
-use Rattle.demands.proofs.prefix.encode_key.Tie as tie
+use Rattle.plates.proofs.Plates.{first-refused, second-refused, key-refused, no-row, no-key, key-ordered}
+use Rattle.plates.proofs.prefix.encode_key.Statement.{statement}
+use Rattle.plates.proofs.prefix.encode_key.Tie as tie
 
 -- ---- the first sheet
 abbrev first : tie.After-slice-known6 → tie.After-encode

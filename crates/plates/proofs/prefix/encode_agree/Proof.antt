@@ -1,12 +1,12 @@
--- `demands::prefix::encode_agree` meets its contract: what encode refuses of either sheet is refused, and else rows share their first
+-- `plates::prefix::encode_agree` meets its contract: what encode refuses of either sheet is refused, and else rows share their first
 -- fields exactly where the sheets share their first values. Assumes nothing.
 use borrow.Author.Needs.{needs}
 use Rattle.format.specs.Lists.{Bytes}
 use Rattle.basics.proofs.Bytes.{bytes-of}
 use Rattle.demands.proofs.Calls.{encode-refused, batch-written}
-use Rattle.demands.proofs.Plates.{first-refused, second-refused, agree-refused, agree-both}
-use Rattle.demands.proofs.prefix.encode_agree.Statement.{statement}
-use Rattle.demands.proofs.prefix.encode_agree.Tie as tie
+use Rattle.plates.proofs.Plates.{first-refused, second-refused, agree-refused, agree-both}
+use Rattle.plates.proofs.prefix.encode_agree.Statement.{statement}
+use Rattle.plates.proofs.prefix.encode_agree.Tie as tie
 
 -- ---- the first sheet
 abbrev first : tie.After-slice-known6 → tie.After-encode

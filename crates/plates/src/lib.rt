@@ -1,0 +1,2 @@
+// All rows of one plate: functions that call the real entries on lent buffers, and ensure what the first k fields of encoded rows are.
+pub mod prefix;
