@@ -12,7 +12,7 @@ use Rattle.format.specs.declared.Check.the-variants.{Pass}
 use Rattle.format.specs.declared.Column.{Column}
 use Rattle.format.specs.Limits.{maxColumns}
 use Rattle.format.specs.Check.{both}
-use Rattle.format.specs.Columns.{descriptionBytes, widthAt, columnAt, descriptionFault, listFaultFrom, columnsFrom, listFault, columns}
+use Rattle.format.specs.Columns.{descriptionBytes, widthAt, columnAt, descriptionFault, listFaultFrom, columnsFrom, spelledFault, spelledColumns}
 use Rattle.basics.proofs.Checks.{failIf-pass, both-pass, pass-both}
 use Rattle.laws.proofs.Columns.{bytes-wide, bytes-least, description-passed}
 use Rattle.plates.specs.Prefix.{listEnd, firstList}
@@ -92,9 +92,9 @@ front (suc room) (suc k) s at l e few = go (ltb at (length s)) refl e few (front
         }
 
 -- for every k from 1 to the column count
-pub first-list : (list : List ℕ) (k : ℕ) → listFault list ≡ Pass → 1 ≤ k → k ≤ length (columns list)
-    → (listFault (firstList k list) ≡ Pass) × (columns (firstList k list) ≡ take k (columns list))
-unfolding listFault columns
+pub first-list : (list : List ℕ) (k : ℕ) → spelledFault list ≡ Pass → 1 ≤ k → k ≤ length (spelledColumns list)
+    → (spelledFault (firstList k list) ≡ Pass) × (spelledColumns (firstList k list) ≡ take k (spelledColumns list))
+unfolding spelledFault spelledColumns
 first-list list zero e some few = absurd (omega arith)
 first-list list (suc k) e some few =
     let f = front maxColumns (suc k) list 0 (omega arith) (failIf-pass (eqb (length list) 0) _ _ e .1) few in
