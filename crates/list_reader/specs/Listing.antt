@@ -14,6 +14,15 @@ pub record ListedAs (list : List ℕ) (r : Listed) : Type 0 where
   pub check : r .check ≡ listFault list
   pub schema : listFault list ≡ Pass → r .schema ≡ schemaOf (columns list)
 
+-- some list says so
+pub record OfList (r : Listed) : Type 0 where
+  pub list : List ℕ
+  pub says : ListedAs list r
+
+-- what holds of every list that says so
+abbrev pub OfEach : Listed → (List ℕ → Type 0) → Type 0
+OfEach r P = (list : List ℕ) → ListedAs list r → P list
+
 -- what a list that passes gives: its columns, 1 to 16 of them, within the ceilings
 pub record Sound (list : List ℕ) (schema : Schema) : Type 0 where
   pub cols : colsOf schema ≡ columns list
