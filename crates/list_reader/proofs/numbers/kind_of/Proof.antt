@@ -1,8 +1,8 @@
--- `list_reader::kind_of` meets its contract: each arm is the table's entry for the byte that was matched, and past 17 the
+-- `list_reader::numbers::kind_of` meets its contract: each arm is the table's entry for the byte that was matched, and past 17 the
 -- table says decimals of 32 bytes. Assumes nothing.
 use borrow.Author.Tests.{ne-eqb}
-use Rattle.list_reader.proofs.kind_of.Statement.{statement}
-use Rattle.list_reader.proofs.kind_of.Tie as tie
+use Rattle.list_reader.proofs.numbers.kind_of.Statement.{statement}
+use Rattle.list_reader.proofs.numbers.kind_of.Tie as tie
 
 last : tie.Need-returns-18
 last c =

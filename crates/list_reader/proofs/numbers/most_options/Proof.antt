@@ -1,8 +1,8 @@
--- `list_reader::most_options` meets its contract: each return is the definition's case. Assumes nothing.
+-- `list_reader::numbers::most_options` meets its contract: each return is the definition's case. Assumes nothing.
 use native.Mathlib.Omega.{arith}
 use borrow.Author.Tests.{lt-ltb, le-ltb}
-use Rattle.list_reader.proofs.most_options.Statement.{statement}
-use Rattle.list_reader.proofs.most_options.Tie as tie
+use Rattle.list_reader.proofs.numbers.most_options.Statement.{statement}
+use Rattle.list_reader.proofs.numbers.most_options.Tie as tie
 
 pub most-options-spec : {M : Type 1} → statement M
 most-options-spec =
