@@ -1,7 +1,6 @@
 -- The ways out of `begin`: what each says of the list and the row count; and checks grouped either way. Assumes nothing.
 use Prim.Native.Nat.{ℕ, _<_, _≤_}
 use mathlib.Core.Path.{_≡_, refl, sym, _∙_}
-use mathlib.Core.List.{List}
 use borrow.Author.Tests.{lt-ltb, le-ltb}
 use Rattle.format.specs.declared.Refusal.{Refusal}
 use Rattle.format.specs.declared.Refusal.the-variants.{ManyRows}
@@ -10,7 +9,7 @@ use Rattle.format.specs.declared.Check.the-variants.{Pass, Refuse}
 use Rattle.format.specs.declared.Schema.{Schema}
 use Rattle.format.specs.Limits.{maxRows}
 use Rattle.format.specs.Check.{both}
-use Rattle.format.specs.Columns.{listFault}
+use Rattle.format.specs.Described.{ColumnList, listFault}
 use Rattle.basics.proofs.Checks.{refuse-pass}
 use Rattle.list_reader.specs.declared.Listed.{Listed}
 use Rattle.list_reader.specs.Listing.{ListedAs}
@@ -22,7 +21,7 @@ pub both-grouped : (x y z : Check) → both x (both y z) ≡ both (both x y) z
 both-grouped Pass y z = refl
 both-grouped (Refuse r) y z = refl
 
-module _ (list : List ℕ) (n : ℕ) (r : Listed) (l : ListedAs list r) where
+module _ (list : ColumnList) (n : ℕ) (r : Listed) (l : ListedAs list r) where
   -- the list is refused
   pub bad-list : (x : Refusal) → r .check ≡ Refuse x → Begun list n r
   bad-list x e =

@@ -13,7 +13,7 @@ use Rattle.format.specs.declared.Answer.the-variants.{Done, Refused}
 use Rattle.format.specs.declared.Column.{Column}
 use Rattle.format.specs.declared.Schema.{Schema}
 use Rattle.format.specs.Check.{both}
-use Rattle.format.specs.Columns.{listFault, columns}
+use Rattle.format.specs.Described.{ColumnList, listFault, columns}
 use Rattle.format.specs.Schemas.{colsOf}
 use Rattle.format.specs.Read.{rowsFault}
 use Rattle.format.specs.Entries.{rowCountFault, offsetsFault, cutRows, rowsSlots, decodedSheet, answer, decodeCheck, decodeAnswer, decodeSheet}
@@ -50,7 +50,7 @@ same-total Pass a e = ap (Done a) (e refl)
 same-total (Refuse r) a e = refl
 
 -- ---- the entry
-module _ (list : List ℕ) (n : ℕ) (rows offsets sheet : List ℕ) where
+module _ (list : ColumnList) (n : ℕ) (rows offsets sheet : List ℕ) where
   -- a refusal writes nothing
   refused : (x : Refusal) → decodeCheck list n rows offsets (length sheet) ≡ Refuse x → Decoded list n rows offsets sheet (Refused x) sheet
   unfolding decodeAnswer decodeSheet

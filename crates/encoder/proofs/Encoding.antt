@@ -16,7 +16,7 @@ use Rattle.format.specs.declared.Schema.{Schema}
 use Rattle.format.specs.declared.Answer.the-variants.{Refused}
 use Rattle.format.specs.Check.{both}
 use Rattle.format.specs.Lists.{joined, endsFrom}
-use Rattle.format.specs.Columns.{columns}
+use Rattle.format.specs.Described.{ColumnList, columns}
 use Rattle.format.specs.Schemas.{colsOf}
 use Rattle.format.specs.Row.{row}
 use Rattle.format.specs.Sheet.{sheetSlots, turned}
@@ -79,7 +79,7 @@ module _ (total room n ends : ℕ) where
       (r .0, enough ends (suc n) (OffsetRoom (suc n)) Pass (r .1) .0)
 
 -- a batch that passes is ready where its total has room
-pub ready : (list : List ℕ) (n : ℕ) (sheet : List ℕ) (m : Measuring) → Found list n sheet m → (fault : Check) (rows offsets : List ℕ)
+pub ready : (list : ColumnList) (n : ℕ) (sheet : List ℕ) (m : Measuring) → Found list n sheet m → (fault : Check) (rows offsets : List ℕ)
     → fault ≡ both (totalFault (m .total)) (roomFault (m .total) (length rows) n (length offsets))
     → RowsReady fault (m .schema) n sheet (m .facts) rows offsets
 ready list n sheet m f fault rows offsets e =
@@ -93,7 +93,7 @@ ready list n sheet m f fault rows offsets e =
     }
 
 -- ---- what is answered and left in the buffers
-module _ (list : List ℕ) (n : ℕ) (sheet rows offsets : List ℕ) (m : Measuring) (h : Measures list n sheet m) where
+module _ (list : ColumnList) (n : ℕ) (sheet rows offsets : List ℕ) (m : Measuring) (h : Measures list n sheet m) where
   -- list, 6 and sheet, then 12, 13 and 14
   checks : encodeCheck list n sheet (length rows) (length offsets)
       ≡ both (m .check) (both (totalFault (sheetTotal n (columns list) sheet)) (roomFault (sheetTotal n (columns list) sheet) (length rows) n (length offsets)))

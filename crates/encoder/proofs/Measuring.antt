@@ -6,7 +6,7 @@ use Rattle.format.specs.declared.Refusal.{Refusal}
 use Rattle.format.specs.declared.Check.{Check}
 use Rattle.format.specs.declared.Check.the-variants.{Pass, Refuse}
 use Rattle.format.specs.Check.{both}
-use Rattle.format.specs.Columns.{listFault, columns}
+use Rattle.format.specs.Described.{ColumnList, listFault, columns}
 use Rattle.format.specs.Schemas.{colsOf}
 use Rattle.format.specs.Sheet.{sheetFault}
 use Rattle.format.specs.Entries.{rowCountFault, sheetTotal, totalFault, measureCheck, measureAnswer, answer}
@@ -22,7 +22,7 @@ use Rattle.encoder.specs.declared.measure.Measuring.{Measuring}
 use Rattle.encoder.specs.Measuring.{batchCheck, Measures}
 
 -- ---- list, 6, sheet
-module _ (list : List ℕ) (n : ℕ) (sheet : List ℕ) where
+module _ (list : ColumnList) (n : ℕ) (sheet : List ℕ) where
   -- a refusal of the batch says no more
   refused : (m : Measuring) (x : Refusal) → batchCheck list n sheet ≡ Refuse x → m .check ≡ Refuse x → Measures list n sheet m
   refused m x e a = record { check = a ∙ sym e; found = λ p. absurd (refuse-pass (sym a ∙ p)) }
@@ -62,7 +62,7 @@ module _ (list : List ℕ) (n : ℕ) (sheet : List ℕ) where
 -- ---- then 12
 
 -- list, 6 and sheet, then 12
-pub batch-first : (list : List ℕ) (n : ℕ) (sheet : List ℕ)
+pub batch-first : (list : ColumnList) (n : ℕ) (sheet : List ℕ)
     → measureCheck list n sheet ≡ both (batchCheck list n sheet) (totalFault (sheetTotal n (columns list) sheet))
 unfolding measureCheck
 batch-first list n sheet =
@@ -71,7 +71,7 @@ batch-first list n sheet =
     rw (both-grouped (rowCountFault n) s t, both-grouped (listFault list) (both (rowCountFault n) s) t) refl
 
 -- what is measured is the answer
-pub answered : (list : List ℕ) (n : ℕ) (sheet : List ℕ) (m : Measuring) → Measures list n sheet m
+pub answered : (list : ColumnList) (n : ℕ) (sheet : List ℕ) (m : Measuring) → Measures list n sheet m
     → Measured list n sheet (answer (both (m .check) (totalFault (m .total))) (m .total) (m .nulls))
 unfolding measureAnswer
 answered list n sheet m h = record { answers = ap numbersOf (cases (m .check) refl) }
