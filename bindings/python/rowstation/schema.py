@@ -121,7 +121,7 @@ class Schema:
     ValueError: column plate: there is no kind 'u33'; the kinds are bool, i8, ...
     >>> Schema("hash:fixed:1025")
     Traceback (most recent call last):
-    rowstation.refusals.Refused: refused 4 0 0 0: a width over 1,024 in the column at byte 0 of the list
+    rowstation.refusals.Refused: refused 4 0 0 0: a width over 1,024, or outside fixed binary, in the column at place 0 of the list
     """
 
     def __init__(self, columns: Union[str, Iterable[Union[Column, Given]]]) -> None:
