@@ -134,8 +134,9 @@ class Schema:
                 raise ValueError(f"two columns have the name {name}")
         #: The column list of the station.
         self.list: bytes = b"".join(column.description for column in self.columns)
-        self.lent = np.frombuffer(self.list, np.uint8)
-        library.answer("station_check_list", self.lent)
+        #: What the station read from the list, once: four bytes a column, for every batch of rows.
+        self.read = np.zeros((len(self.columns), 4), np.uint8)
+        library.answer("station_read_list", np.frombuffer(self.list, np.uint8), self.read)
 
     def first(self, k: int) -> Schema:
         """The schema of the first k columns. The bytes of a row's first k fields are the row of the same values under it.
