@@ -6,7 +6,7 @@ use Rattle.sized.proofs.codes.list_codes.Tie as tie
 
 returns : tie.Need-returns
 returns c =
-    let judged = c .before .before in
+    let judged = c .before .before .before in
     let l = judged .before .read-list .ensures in
     no-codes _ _ _ l _ (judged .column-room .ensures _ l) _ (c .before .fault .given .1)
 
@@ -19,7 +19,24 @@ put-codes-requires c κs =
     roomy _ _ _ l _ (judged .column-room .ensures _ l) (passed .enum-told .given .1)
 
 returns-2 : tie.Need-returns-2
-returns-2 c = ?
+returns-2 c =
+    let put = c .before .before in
+    let passed = put .before .before .before in
+    let judged = passed .before .before in
+    let l = judged .before .read-list .ensures in
+    codes-written _ _ _ l _ (judged .column-room .ensures _ l) (passed .enum-told .given .1) _ (put .put-codes .ensures)
 
 pub list-codes-spec : {M : Type 1} → statement M
-list-codes-spec = ?
+list-codes-spec =
+    tie.close
+    (tie.spec
+    (λ c κs. search needs)
+    (λ c κs. search needs)
+    (λ c. search needs)
+    returns
+    (λ c. search needs)
+    put-codes-requires
+    (λ c. search needs)
+    (λ c. search needs)
+    (λ c. search needs)
+    returns-2)
