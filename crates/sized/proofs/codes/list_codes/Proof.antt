@@ -16,7 +16,7 @@ put-codes-requires c κs =
     let passed = c .before .before in
     let judged = passed .before .before in
     let l = judged .before .read-list .ensures in
-    roomy _ _ _ l _ (judged .column-room .ensures _ l) (passed .enum-told .given .1)
+    roomy (judged .before .before .before .before .args .list .now) _ _ l _ (judged .column-room .ensures _ l) (passed .enum-told .given .1)
 
 returns-2 : tie.Need-returns-2
 returns-2 c =
