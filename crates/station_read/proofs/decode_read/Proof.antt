@@ -65,8 +65,16 @@ abbrev R : RattleType
 R = C′.the-row
 
 abbrev stayed : Stays (read.ended .signature .params) (read.ended .kept)
-stayed = (stay-none-slice (0 ∷ []) tt (plain (λ _. R)) yes, (stay-none (λ _. u64) yes, (stay-none-slice (1 ∷ []) tt (plain (λ _. u8)) yes,
-  (stay-none-slice (2 ∷ []) tt (plain (λ _. u64)) yes, (gave-slice (3 ∷ []) tt (plain (λ _. u8)), tt)))))
+stayed = (
+  stay-none-slice (0 ∷ []) tt (plain (λ _. R)) yes,
+  (
+    stay-none (λ _. u64) yes,
+    (
+      stay-none-slice (1 ∷ []) tt (plain (λ _. u8)) yes,
+      (stay-none-slice (2 ∷ []) tt (plain (λ _. u64)) yes, (gave-slice (3 ∷ []) tt (plain (λ _. u8)), tt)),
+    ),
+  ),
+)
 
 module _ {M : Type 1} (𝓤 : URA M) (H : Heap 𝓤) (A : Atoms 𝓤) (mem : Memory → SProp 𝓤) (run : Routine → Fun 𝓤) where
   -- the contracts that the proof cites, and of the first what it says of the result
@@ -241,9 +249,16 @@ decode-read-meets : {M : Type 1} (𝓤 : URA M) (H : Heap 𝓤) (A : Atoms 𝓤)
     → Triple 𝓤 (𝓣 .C #described) (Reads 𝓤 H A mem run) → Triple 𝓤 (𝓣 .C #decode) (Decodes 𝓤 H A mem run)
     → Meets 𝓤 H A read.signature (WpFn 𝓤 H (𝓣 .C) (𝓣 .Λ) code.function) (read.spec 𝓤 H A mem run)
 decode-read-meets 𝓤 H A W mem run 𝓣 reads decodes =
-    walk-meets 𝓤 H A read.ended stayed W
-    (goes-none-slice 𝓤 H A W 4 (0 ∷ []) tt (plain (λ _. R)) yes, (goes-none 𝓤 H A W 4 (λ _. u64) yes (λ κs x f. refl), (goes-none-slice 𝓤 H A W 4 (1 ∷ []) tt (plain (λ _. u8)) yes,
-      (goes-none-slice 𝓤 H A W 4 (2 ∷ []) tt (plain (λ _. u64)) yes, (goes-gave-slice 𝓤 H A W 4 3 tt (plain (λ _. u8)), tt)))))
+    walk-meets 𝓤 H A read.ended stayed W (
+      goes-none-slice 𝓤 H A W 4 (0 ∷ []) tt (plain (λ _. R)) yes,
+      (
+        goes-none 𝓤 H A W 4 (λ _. u64) yes (λ κs x f. refl),
+        (
+          goes-none-slice 𝓤 H A W 4 (1 ∷ []) tt (plain (λ _. u8)) yes,
+          (goes-none-slice 𝓤 H A W 4 (2 ∷ []) tt (plain (λ _. u64)) yes, (goes-gave-slice 𝓤 H A W 4 3 tt (plain (λ _. u8)), tt)),
+        ),
+      ),
+    )
     (read.clauses 𝓤 H A mem run) (WpFn 𝓤 H (𝓣 .C) (𝓣 .Λ) code.function) (WpFn-mono 𝓤 H (W .laws) 𝓣 code.function)
     (decode-read-walks 𝓤 H A W mem run (𝓣 .C) (𝓣 .Λ) (fmOf 𝓤 H (W .laws) 𝓣) reads decodes)
 
