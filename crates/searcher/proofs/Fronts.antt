@@ -15,7 +15,7 @@ use Rattle.basics.proofs.Compare.{Tri, below as less, same, above, tri, choose}
 use Rattle.byte_order.specs.Least.{Least}
 use Rattle.laws.proofs.Below.{heads-below, heads-above, heads-same, none-below, below-self, below-not, up-trans, up-antisym}
 use Rattle.laws.proofs.Parsed.{and-true}
-use Rattle.searcher.specs.Lookup.{begins}
+use Rattle.format.specs.Lookup.{begins}
 use Rattle.searcher.specs.Turns.{front, reached, passed, turned}
 
 -- ---- of two rows neither cut to m bytes is below the other, where it was not before

@@ -11,7 +11,7 @@ use borrow.Author.Tests.{eq-eqb, ne-eqb}
 use Rattle.format.specs.Batch.{below}
 use Rattle.basics.proofs.Compare.{choose}
 use Rattle.laws.proofs.Below.{below-not}
-use Rattle.searcher.specs.Lookup.{begins, firstThat, pastOne, pastLast, missing, foundFirst, foundPast}
+use Rattle.format.specs.Lookup.{begins, firstThat, pastOne, pastLast, missing, foundFirst, foundPast}
 use Rattle.searcher.specs.Turns.{reached, passed, Turns}
 use Rattle.searcher.proofs.Fronts.{passed-above, short-below, begun-reached, begun-left, left-begun, passed-reached}
 

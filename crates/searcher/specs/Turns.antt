@@ -6,7 +6,7 @@ use mathlib.Core.List.{List, []}
 use lib.ListN.{length, getD, take}
 use Rattle.format.specs.Batch.{below}
 use Rattle.searcher.specs.declared.Found.{Found}
-use Rattle.searcher.specs.Lookup.{foundFirst, foundPast}
+use Rattle.format.specs.Lookup.{foundFirst, foundPast}
 
 -- what a row has in front, up to the key's length: the key, where the row begins with it
 abbrev pub front : List ℕ → List ℕ → List ℕ
