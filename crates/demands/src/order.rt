@@ -1,7 +1,7 @@
 // Demand 3: comparing the bytes of two encoded rows compares their values.
 ghost use mathlib.Core.Path.{_≡_};
 ghost use Rattle.format.specs.Entries.{rowBytes, compareAnswer};
-ghost use Rattle.joiner.specs.Rows.{Lies};
+ghost use Rattle.format.specs.Passed.{Lies};
 ghost use Rattle.demands.specs.Order.{batch, OrderedAs};
 use format::Answer;
 use format::Refusal;

@@ -1,7 +1,8 @@
 // Searches by halves over the rows of a sorted batch, compared where they lie.
 ghost use mathlib.Core.Path.{_≡_};
+ghost use Rattle.format.specs.Passed.{Lies};
 ghost use Rattle.format.specs.Entries.{rowBytes, cutRows};
-ghost use Rattle.joiner.specs.Rows.{Lies, Sorted};
+ghost use Rattle.joiner.specs.Rows.{Sorted};
 ghost use Rattle.searcher.specs.Turns.{turned as turned·, Turns, Finds};
 use crate::Found;
 use byte_order::below;

@@ -3,7 +3,7 @@
 use Prim.Native.Nat.{_-_}
 use native.Mathlib.Omega.{arith}
 use Rattle.format.specs.Entries.{rowBytes}
-use Rattle.joiner.proofs.Passes.{cuts-lie}
+use Rattle.laws.proofs.Cuts.{cuts-lie}
 use Rattle.searcher.proofs.Narrowing.{Narrows, begin, end, lower-half, upper-half}
 use Rattle.searcher.proofs.halves.search.Statement.{statement}
 use Rattle.searcher.proofs.halves.search.Tie as tie
