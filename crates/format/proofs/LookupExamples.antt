@@ -7,6 +7,7 @@ use Rattle.format.specs.declared.Returned.{Returned}
 use Rattle.format.specs.Columns.{spelledFault, spelledColumns}
 use Rattle.format.specs.Described.{ColumnList, descriptionsFault, spelled, coded}
 use Rattle.format.specs.Numbers.{three, four, numbersOf}
+use Rattle.format.specs.Batch.{sortedFault}
 use Rattle.format.specs.Lookup.{lookupCheck, lookupAnswer}
 use Rattle.format.specs.Lent.{lentLookup}
 
@@ -30,7 +31,7 @@ pub looks-up : (of 1 (1 ∷ 1 ∷ []) ≡ three 0 1 3)
     × (of 2 (1 ∷ 0 ∷ 1 ∷ 130 ∷ []) ≡ three 0 1 1)
     × (of 2 (1 ∷ 1 ∷ 1 ∷ 200 ∷ []) ≡ three 0 3 3)
     × (numbersOf (lookupAnswer list 1 (1 ∷ 1 ∷ []) 0 [] (0 ∷ [])) ≡ three 0 0 0)
-unfolding lookupAnswer lookupCheck spelledFault spelledColumns
+unfolding lookupAnswer lookupCheck sortedFault spelledFault spelledColumns
 looks-up = (refl, refl, refl, refl, refl, refl)
 
 -- list faults before 31; 31 before the key; a key that is no good field, or cut, or more than those of its columns; then 6, 14, 15, row
@@ -46,7 +47,7 @@ pub look-up-refuses : (numbersOf (lookupAnswer (spelled (1 ∷ 2 ∷ 99 ∷ []))
     × (numbersOf (lookupAnswer list 1 (1 ∷ 1 ∷ []) 1 rows (0 ∷ 13 ∷ [])) ≡ three 15 1 0)
     × (numbersOf (lookupAnswer list 1 (1 ∷ 1 ∷ []) 2 rows (0 ∷ 4 ∷ 6 ∷ [])) ≡ four 16 1 1 2)
     × (numbersOf (lookupAnswer list 1 (1 ∷ 1 ∷ []) 2 (1 ∷ 1 ∷ 1 ∷ 129 ∷ 1 ∷ 0 ∷ 1 ∷ 129 ∷ []) (0 ∷ 4 ∷ 8 ∷ [])) ≡ three 26 0 1)
-unfolding lookupAnswer lookupCheck spelledFault spelledColumns
+unfolding lookupAnswer lookupCheck sortedFault spelledFault spelledColumns
 look-up-refuses = (refl, refl, refl, refl, refl, refl, refl, refl, refl, refl, refl)
 
 -- on lent bytes: the same under the four bytes of each description; an answer that cannot hold four numbers stays
@@ -57,5 +58,5 @@ pub looks-up-lent : (lentLookup list 1 (1 ∷ 1 ∷ []) 3 rows lentEnds (replica
     × (lentLookup (coded (1 ∷ 2 ∷ 0 ∷ 0 ∷ 2 ∷ 2 ∷ 0 ∷ 0 ∷ [])) 1 (1 ∷ 1 ∷ []) 3 rows lentEnds (replicate 32 7)
     ≡ replicate 8 0 ++ 1 ∷ replicate 7 0 ++ 3 ∷ replicate 15 0)
     × (lentLookup list 1 (1 ∷ 1 ∷ []) 3 rows lentEnds (replicate 31 7) ≡ replicate 31 7)
-unfolding lentLookup lookupAnswer lookupCheck spelledFault spelledColumns descriptionsFault
+unfolding lentLookup lookupAnswer lookupCheck sortedFault spelledFault spelledColumns descriptionsFault
 looks-up-lent = (refl, refl, refl)

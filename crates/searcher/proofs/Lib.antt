@@ -2,3 +2,4 @@
 pub mod Fronts
 pub mod Places
 pub mod Narrowing
+pub mod Checking

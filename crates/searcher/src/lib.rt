@@ -1,4 +1,5 @@
 // Looking a key up in a sorted batch: two searches by halves.
+mod checks;
 mod halves;
 
 pub use halves::find;
