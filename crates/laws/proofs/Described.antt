@@ -1,7 +1,7 @@
 -- Lent descriptions: a column by its numbers is that column; and the columns of a list that passes, in each of the three ways, are 1 to
 -- 64, none wider than the limit. Assumes nothing.
 use Prim.Native.Nat.{ℕ, zero, suc, _+_, _≤_}
-use mathlib.Core.Path.{_≡_, refl, ap, ap₂, sym, _∙_, subst}
+use mathlib.Core.Path.{_≡_, refl, ap₂, subst}
 use mathlib.Core.Bool.{Bool, true, false, cond}
 use mathlib.Core.List.{List, [], _∷_, map}
 use native.Mathlib.Omega.{arith}
@@ -91,7 +91,7 @@ descriptions-narrow : (ds : List Description) → descriptionsFault ds ≡ Pass 
 unfolding descriptionsFault
 descriptions-narrow ds e = narrow-from maxColumns 0 ds (failIf-pass (eqb (length ds) 0) _ _ e .1)
 
-descriptions-few : (ds : List Description) → descriptionsFault ds ≡ Pass → (1 ≤ length ds) × (length ds ≤ maxColumns)
+pub descriptions-few : (ds : List Description) → descriptionsFault ds ≡ Pass → (1 ≤ length ds) × (length ds ≤ maxColumns)
 unfolding descriptionsFault
 descriptions-few ds e =
     let p = failIf-pass (eqb (length ds) 0) _ _ e in
