@@ -16,6 +16,7 @@ use Rattle.format.specs.declared.Check.the-variants.{Pass}
 use Rattle.format.specs.Limits.{maxColumns}
 use Rattle.format.specs.Columns.{kindOf, optionsOf}
 use Rattle.format.specs.Described.{Description, kindNumber, optionsNumber, heldWidth, held, columnOf, descriptionsIn, heldFault, descriptionsFaultFrom, descriptionsFault, ColumnList, spelled, described, coded, listFault, columns}
+use Rattle.basics.proofs.Lists.{Every}
 use Rattle.basics.proofs.Checks.{refuse-pass, failIf-pass, both-pass}
 use Rattle.laws.proofs.Columns.{Fine, fine, most-width, kind-narrow, Narrow, spelled-few, spelled-narrow}
 
@@ -79,17 +80,22 @@ few-from room i [] e = omega arith
 few-from zero i (d ∷ ds) e = absurd (refuse-pass e)
 few-from (suc room) i (d ∷ ds) e = omega (arith, few-from room (suc i) ds (both-pass (heldFault i d) _ e .1))
 
-narrow-from : (room i : ℕ) (ds : List Description) → descriptionsFaultFrom room i ds ≡ Pass → Narrow (map columnOf ds)
-narrow-from room i [] e = tt
-narrow-from zero i (d ∷ ds) e = absurd (refuse-pass e)
-narrow-from (suc room) i (d ∷ ds) e =
-    let p = both-pass (heldFault i d) _ e in
-    let f = held-fine i d (p .0) in
-    (kind-narrow (d .kind) (d .width) (most-width (d .kind) (d .width) (f .width)), narrow-from room (suc i) ds (p .1))
+-- each of them passes
+abbrev pub AllFine : List Description → Type 0
+AllFine ds = Every (λ d. Fine (d .kind) false (d .options) (d .width)) ds
 
-descriptions-narrow : (ds : List Description) → descriptionsFault ds ≡ Pass → Narrow (map columnOf ds)
+fine-from : (room i : ℕ) (ds : List Description) → descriptionsFaultFrom room i ds ≡ Pass → AllFine ds
+fine-from room i [] e = tt
+fine-from zero i (d ∷ ds) e = absurd (refuse-pass e)
+fine-from (suc room) i (d ∷ ds) e = let p = both-pass (heldFault i d) _ e in (held-fine i d (p .0), fine-from room (suc i) ds (p .1))
+
+pub all-fine : (ds : List Description) → descriptionsFault ds ≡ Pass → AllFine ds
 unfolding descriptionsFault
-descriptions-narrow ds e = narrow-from maxColumns 0 ds (failIf-pass (eqb (length ds) 0) _ _ e .1)
+all-fine ds e = fine-from maxColumns 0 ds (failIf-pass (eqb (length ds) 0) _ _ e .1)
+
+all-narrow : (ds : List Description) → AllFine ds → Narrow (map columnOf ds)
+all-narrow [] h = tt
+all-narrow (d ∷ ds) h = (kind-narrow (d .kind) (d .width) (most-width (d .kind) (d .width) (h .0 .width)), all-narrow ds (h .1))
 
 pub descriptions-few : (ds : List Description) → descriptionsFault ds ≡ Pass → (1 ≤ length ds) × (length ds ≤ maxColumns)
 unfolding descriptionsFault
@@ -101,8 +107,8 @@ descriptions-few ds e =
 -- ---- a list that passes, in any way
 pub columns-narrow : (list : ColumnList) → listFault list ≡ Pass → Narrow (columns list)
 columns-narrow (spelled s) e = spelled-narrow s e
-columns-narrow (described cols) e = subst Narrow (columns-again cols) (descriptions-narrow (map held cols) e)
-columns-narrow (coded s) e = descriptions-narrow (descriptionsIn s) e
+columns-narrow (described cols) e = subst Narrow (columns-again cols) (all-narrow (map held cols) (all-fine (map held cols) e))
+columns-narrow (coded s) e = all-narrow (descriptionsIn s) (all-fine (descriptionsIn s) e)
 
 pub columns-few : (list : ColumnList) → listFault list ≡ Pass → (1 ≤ length (columns list)) × (length (columns list) ≤ maxColumns)
 columns-few (spelled s) e = spelled-few s e

@@ -1,7 +1,6 @@
 -- Coded descriptions, four bytes at a time: what was coded is read again, and what passes is what its columns are coded as. Assumes nothing.
 use Prim.Native.Nat.{ℕ, suc, _+_, _*_, _/_, _%_, _<_}
 use mathlib.Core.Path.{_≡_, refl, ap, ap₂, sym, subst, _∙_}
-use mathlib.Core.Bool.{false}
 use mathlib.Core.List.{List, [], _∷_, _++_, map}
 use native.Mathlib.Omega.{arith}
 use native.Mathlib.Nat.{add-div-left, div-eq-of-lt}
@@ -12,7 +11,7 @@ use Rattle.format.specs.Lists.{Bytes, each, low, lowBytes}
 use Rattle.format.specs.Described.{Description, held, columnOf, code, codes, codeAt, descriptionsIn}
 use Rattle.basics.proofs.Lists.{Every, each-same, each-next}
 use Rattle.basics.proofs.LowBytes.{low-lowBytes, lowBytes-low}
-use Rattle.laws.proofs.Columns.{Fine}
+use Rattle.laws.proofs.Described.{AllFine}
 use Rattle.readings.proofs.Back.{held-back}
 
 -- a description in the first four bytes, and the others
@@ -65,9 +64,6 @@ pub record Coded (c : List ℕ) : Type 0 where
   pub tail : List ℕ
   pub short : length tail < 4
   pub is : c ≡ codes (map columnOf (descriptionsIn c)) ++ tail
-
-abbrev pub AllFine : List Description → Type 0
-AllFine ds = Every (λ d. Fine (d .kind) false (d .options) (d .width)) ds
 
 too-few : (c : List ℕ) → length c < 4 → Coded c
 too-few c l = record { tail = c; short = l; is = ap (λ (ds : List Description). codes (map columnOf ds) ++ c) (sym (none-in c l)) }

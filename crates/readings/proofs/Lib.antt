@@ -6,3 +6,4 @@ pub mod Refused
 pub mod Accepted
 pub mod Made
 pub mod BothWays
+pub mod Promised

@@ -4,7 +4,6 @@ use mathlib.Core.Path.{_≡_, refl, ap, ap₂, sym, subst, _∙_}
 use mathlib.Core.List.{List, [], _∷_, _++_, map}
 use mathlib.Core.Logic.{_↔_}
 use native.Mathlib.Omega.{arith}
-use lib.Dec.{eqb}
 use lib.ListN.{length, getD, drop, length-drop}
 use borrow.Author.Tests.{le-ltb, lt-ltb}
 use Rattle.format.specs.declared.Column.{Column}
@@ -12,27 +11,17 @@ use Rattle.format.specs.declared.Check.the-variants.{Pass}
 use Rattle.format.specs.Limits.{maxColumns}
 use Rattle.format.specs.Lists.{Bytes}
 use Rattle.format.specs.Columns.{descriptionBytes, columnsFrom, spelledFault, spelledColumns}
-use Rattle.format.specs.Described.{Description, held, columnOf, codes, descriptionsIn, heldFault, descriptionsFaultFrom, descriptionsFault, described, coded, listFault}
+use Rattle.format.specs.Described.{Description, held, columnOf, codes, descriptionsIn, descriptionsFault, described, coded, listFault}
 use Rattle.basics.proofs.Lists.{Every}
-use Rattle.basics.proofs.Checks.{refuse-pass, failIf-pass, both-pass}
-use Rattle.laws.proofs.Described.{held-fine, columns-again, descriptions-few}
+use Rattle.laws.proofs.Described.{AllFine, all-fine, columns-again, descriptions-few}
 use Rattle.readings.specs.Readings.{Spellable, spellAll, Reading, Made, MadeCodes}
 use Rattle.readings.proofs.Back.{fine-spellable}
-use Rattle.readings.proofs.Codes.{AllFine, Narrowed, codes-in, coded-of}
+use Rattle.readings.proofs.Codes.{Narrowed, codes-in, coded-of}
 use Rattle.readings.proofs.Spelled.{next-is, begins, column-is, bytes-spell}
 use Rattle.readings.proofs.Refused.{faults, same-pass}
 use Rattle.readings.proofs.Accepted.{read-accepted}
 
 -- ---- descriptions that pass have list bytes, and these are a reading
-
-fine-from : (room i : ℕ) (ds : List Description) → descriptionsFaultFrom room i ds ≡ Pass → AllFine ds
-fine-from room i [] e = tt
-fine-from zero i (d ∷ ds) e = absurd (refuse-pass e)
-fine-from (suc room) i (d ∷ ds) e = let p = both-pass (heldFault i d) _ e in (held-fine i d (p .0), fine-from room (suc i) ds (p .1))
-
-pub all-fine : (ds : List Description) → descriptionsFault ds ≡ Pass → AllFine ds
-unfolding descriptionsFault
-all-fine ds e = fine-from maxColumns 0 ds (failIf-pass (eqb (length ds) 0) _ _ e .1)
 
 all-spellable : (ds : List Description) → AllFine ds → Every Spellable ds
 all-spellable [] h = tt
