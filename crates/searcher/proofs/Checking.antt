@@ -24,13 +24,9 @@ use Rattle.format.specs.Lookup.{keyColumnsFault}
 use Rattle.basics.proofs.Checks.{both-pass}
 use Rattle.laws.proofs.Cuts.{offsets-passed}
 use Rattle.laws.proofs.InUse.{Held, in-use}
+use Rattle.checks.proofs.Begun.{both-grouped}
 use Rattle.row_reader.specs.declared.Checked.{Checked}
 use Rattle.row_reader.specs.Walk.{Finds, Checks}
-
--- checks one after the other, grouped either way
-both-grouped : (x y z : Check) → both x (both y z) ≡ both (both x y) z
-both-grouped Pass y z = refl
-both-grouped (Refuse r) y z = refl
 
 -- ---- the key
 

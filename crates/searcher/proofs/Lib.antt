@@ -3,3 +3,4 @@ pub mod Fronts
 pub mod Places
 pub mod Narrowing
 pub mod Checking
+pub mod LookingUp

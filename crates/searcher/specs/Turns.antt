@@ -5,7 +5,7 @@ use mathlib.Core.Bool.{Bool, true, false, cond, not}
 use mathlib.Core.List.{List, []}
 use lib.ListN.{length, getD, take}
 use Rattle.format.specs.Batch.{below}
-use Rattle.searcher.specs.declared.Found.{Found}
+use Rattle.searcher.specs.declared.halves.Found.{Found}
 use Rattle.format.specs.Lookup.{foundFirst, foundPast}
 
 -- what a row has in front, up to the key's length: the key, where the row begins with it

@@ -4,9 +4,14 @@ ghost use Rattle.format.specs.Passed.{Lies};
 ghost use Rattle.format.specs.Entries.{rowBytes, cutRows};
 ghost use Rattle.joiner.specs.Rows.{Sorted};
 ghost use Rattle.searcher.specs.Turns.{turned as turned·, Turns, Finds};
-use crate::Found;
 use byte_order::below;
 use byte_order::least;
+
+// The first row that begins with the key and one past the last; where none does, both are where the key would stand.
+pub(crate) struct Found {
+    pub(crate) first: usize,
+    pub(crate) past: usize,
+}
 
 // Whether a row passes the test of the first search, or of the second. Only its bytes up to the key's length count: rows that begin with
 // the key are above it, and the second search has not passed them.
@@ -50,7 +55,7 @@ fn search(past: bool, key: &[u8], n: usize, rows: &[u8], offsets: &[u64]) -> usi
 }
 
 // The rows that begin with the key.
-pub fn find(key: &[u8], n: usize, rows: &[u8], offsets: &[u64]) -> Found
+pub(crate) fn find(key: &[u8], n: usize, rows: &[u8], offsets: &[u64]) -> Found
     requires { ⌜ Sorted 0 n (now rows) (now offsets) ⌝ }
     ensures { λ r. ⌜ Finds (now (key .entry)) (cutRows n (now (rows .entry)) (now (offsets .entry))) r ⌝ }
 {

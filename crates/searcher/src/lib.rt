@@ -1,11 +1,6 @@
-// Looking a key up in a sorted batch: two searches by halves.
-mod checks;
+// Looking a key up under a list that was read, however it came: the rows of a sorted batch that begin with the key, found by halves.
+mod faults;
 mod halves;
+mod listed;
 
-pub use halves::find;
-
-// The first row that begins with the key and one past the last; where none does, both are where the key would stand.
-pub struct Found {
-    pub first: usize,
-    pub past: usize,
-}
+pub use listed::look_up_listed;

@@ -1,9 +1,9 @@
--- `searcher::checks::check_batch` meets its contract: what each check ensures, put together. Assumes nothing.
+-- `searcher::faults::check_batch` meets its contract: what each check ensures, put together. Assumes nothing.
 use borrow.Author.Needs.{needs}
 use Rattle.format.specs.Schemas.{colsOf}
 use Rattle.searcher.proofs.Checking.{many, bad-rows, cuts, by-order}
-use Rattle.searcher.proofs.checks.check_batch.Statement.{statement}
-use Rattle.searcher.proofs.checks.check_batch.Tie as tie
+use Rattle.searcher.proofs.faults.check_batch.Statement.{statement}
+use Rattle.searcher.proofs.faults.check_batch.Tie as tie
 
 returns : tie.Need-returns
 returns c = many _ _ _ _ (c .if1 .taken)

@@ -1,9 +1,9 @@
--- `searcher::checks::check_key` meets its contract: the key is the one row of the first k columns. Assumes nothing.
+-- `searcher::faults::check_key` meets its contract: the key is the one row of the first k columns. Assumes nothing.
 use borrow.Author.Needs.{needs}
 use native.Mathlib.Omega.{arith}
 use Rattle.searcher.proofs.Checking.{no-columns, past-columns, first-limited, key-lies, key-read}
-use Rattle.searcher.proofs.checks.check_key.Statement.{statement}
-use Rattle.searcher.proofs.checks.check_key.Tie as tie
+use Rattle.searcher.proofs.faults.check_key.Statement.{statement}
+use Rattle.searcher.proofs.faults.check_key.Tie as tie
 
 -- 31: there are none, or too few
 returns : tie.Need-returns
