@@ -3,13 +3,13 @@ use Prim.Native.Nat.{ℕ, zero, suc, _<_, _≤_, compare, Ordering, Ordering·lt
 use mathlib.Core.Path.{_≡_, refl, ap, ap₂, sym, _∙_}
 use mathlib.Core.Bool.{Bool, true, false, cond, not, _&&_, true≢false}
 use mathlib.Core.Logic.{_⊎_, inl, inr}
-use mathlib.Core.List.{List, [], _∷_}
+use mathlib.Core.List.{List, [], _∷_, _++_}
 use native.Mathlib.Omega.{arith}
 use lib.Dec.{eqb}
-use lib.ListN.{length, getD, take, drop}
-use lib.Seq.{take-all}
+use lib.ListN.{length, getD, take, drop, take-append-drop}
+use lib.Seq.{take-all, take-at}
 use borrow.Author.Tests.{eqb-true, eq-eqb, not-true, not-false}
-use Rattle.format.specs.Order.{cmp, then}
+use Rattle.format.specs.Order.{Begins, cmp, then}
 use Rattle.format.specs.Batch.{isBelow, below}
 use Rattle.basics.proofs.Compare.{Tri, below as less, same, above, tri, choose}
 use Rattle.byte_order.specs.Least.{Least}
@@ -71,6 +71,14 @@ front-begins (k ∷ key) [] e = absurd (omega (arith, ap length e))
 front-begins (k ∷ key) (y ∷ x) e =
     let head : k ≡ y = sym (ap {B = ℕ} (λ (z : List ℕ). getD z 0 0) e) in
     rw (eq-eqb k y head) (front-begins key x (ap (drop 1) e))
+
+-- a row begins with the key where the definition's test holds
+pub begins-begun : (key x : List ℕ) → begins key x ≡ true → Begins key x
+begins-begun key x h =
+    (drop (length key) x, ap (λ (z : List ℕ). z ++ drop (length key) x) (sym (begins-front key x h)) ∙ take-append-drop (length key) x)
+
+pub begun-begins : (key x : List ℕ) → Begins key x → begins key x ≡ true
+begun-begins key x h = front-begins key x (ap (front key) (sym (h .1)) ∙ take-at key (h .0) (length key) refl)
 
 pub begun-reached : (key x : List ℕ) → begins key x ≡ true → reached key x ≡ true
 begun-reached key x h = rw (begins-front key x h) (ap not (below-self key))

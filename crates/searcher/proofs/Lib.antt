@@ -2,5 +2,6 @@
 pub mod Fronts
 pub mod Places
 pub mod Narrowing
+pub mod Sharing
 pub mod Checking
 pub mod LookingUp
