@@ -5,7 +5,7 @@ use Rattle.station.proofs.look_up.look_up.Statement.{statement}
 use Rattle.station.proofs.look_up.look_up.Tie as tie
 
 returns : tie.Need-returns
-returns c = c .look-up-listed .ensures _ (c .before .before .read-list .ensures)
+returns c = c .look-up-listed .ensures _ (c .before .read-list .ensures)
 
 pub look-up-spec : {M : Type 1} → statement M
 look-up-spec = tie.close (tie.spec (λ c κs. search needs) (λ c κs. search needs) returns)
