@@ -125,6 +125,6 @@ looked-up list k key n bytes offsets r key-bytes row-bytes l = record { found = 
         (sym (numbers-injective r (lookupAnswer list k key n bytes offsets) (l .answers)) ∙ e) in
         let p = checks-passed list k key n bytes offsets (d .0) in
         found list k key n bytes offsets key-bytes row-bytes p first past
-        (subst (λ (m : ℕ). Shares key (cutRows n bytes offsets) m past) (d .1 .0)
-        (subst (λ (m : ℕ). Shares key (cutRows n bytes offsets) (foundFirst key (cutRows n bytes offsets)) m) (d .1 .1)
+        (subst (λ (m : ℕ). Shares key (cutRows n bytes offsets) m past) (d .1)
+        (subst (λ (m : ℕ). Shares key (cutRows n bytes offsets) (foundFirst key (cutRows n bytes offsets)) m) (d .2)
         (shares 0 key (cutRows n bytes offsets) (p .sorted))))

@@ -224,7 +224,16 @@ pub extern "C" fn station_look_up_read(
         return;
     }
     let used = used_offsets(n, offsets.len());
-    look_up_sized(read_codes(descriptions), k, key, n, rows, offsets, answer, used);
+    look_up_sized(
+        read_codes(descriptions),
+        k,
+        key,
+        n,
+        rows,
+        offsets,
+        answer,
+        used,
+    );
 }
 
 // Compares any bytes.

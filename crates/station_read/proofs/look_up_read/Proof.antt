@@ -64,9 +64,19 @@ abbrev R : RattleType
 R = C′.the-row
 
 abbrev stayed : Stays (read.ended .signature .params) (read.ended .kept)
-stayed =
-    (stay-none-slice (0 ∷ []) tt (plain (λ _. R)) yes, (stay-none (λ _. u64) yes, (stay-none-slice (1 ∷ []) tt (plain (λ _. u8)) yes, (stay-none (λ _. u64) yes,
-    (stay-none-slice (2 ∷ []) tt (plain (λ _. u8)) yes, (stay-none-slice (3 ∷ []) tt (plain (λ _. u64)) yes, tt))))))
+stayed = (
+  stay-none-slice (0 ∷ []) tt (plain (λ _. R)) yes,
+  (
+    stay-none (λ _. u64) yes,
+    (
+      stay-none-slice (1 ∷ []) tt (plain (λ _. u8)) yes,
+      (
+        stay-none (λ _. u64) yes,
+        (stay-none-slice (2 ∷ []) tt (plain (λ _. u8)) yes, (stay-none-slice (3 ∷ []) tt (plain (λ _. u64)) yes, tt)),
+      ),
+    ),
+  ),
+)
 
 module _ {M : Type 1} (𝓤 : URA M) (H : Heap 𝓤) (A : Atoms 𝓤) (mem : Memory → SProp 𝓤) (run : Routine → Fun 𝓤) where
   -- the contracts that the proof cites, and of each what it says of the result
@@ -162,9 +172,16 @@ module _ {M : Type 1} (𝓤 : URA M) (H : Heap 𝓤) (A : Atoms 𝓤) (W : Given
       nothing ! $ nothing ! $ move ! (2 ∷ 0 ∷ []) $ join ! $ move ! (2 ∷ 1 ∷ []) $ join ! $ move ! (1 ∷ 0 ∷ []) $ join ! $ frame ! $ done !
 
   abbrev to-looked : Listed → Val → Looks 𝓤 H A mem run .Ghost
-  to-looked l v =
-      (((κ₁, (κ₂, (κ₃, tt))), (q₁, (q₂, (q₃, tt))), tt, (l, (k, (x₁, (n, (x₂, (x₃, tt)))))),
-      (v ∷ [], (vint w64 k ∷ [], (v₁ ∷ [], (vint w64 n ∷ [], (v₂ ∷ [], (v₃ ∷ [], tt))))))), tt)
+  to-looked l v = (
+    (
+      (κ₁, (κ₂, (κ₃, tt))),
+      (q₁, (q₂, (q₃, tt))),
+      tt,
+      (l, (k, (x₁, (n, (x₂, (x₃, tt)))))),
+      (v ∷ [], (vint w64 k ∷ [], (v₁ ∷ [], (vint w64 n ∷ [], (v₂ ∷ [], (v₃ ∷ [], tt)))))),
+    ),
+    tt,
+  )
 
   goes-looked : (l : Listed) (v : Val) → OfList l
       → ent 𝓤 (sep 𝓤 (A .lft κ₁ q₁) (sep 𝓤 (A .lft κ₂ q₂) (sep 𝓤 (A .lft κ₃ q₃) (sep 𝓤 (sem 𝓤 H A Own₁) (sep 𝓤 (sem 𝓤 H A Own₂)
@@ -241,8 +258,19 @@ module _ {M : Type 1} (𝓤 : URA M) (H : Heap 𝓤) (A : Atoms 𝓤) (W : Given
   look-up-read-walks C Λ fm reads looks =
       walked 𝓤 H A read.ended stayed (read.clauses 𝓤 H A mem run) (WpFn 𝓤 H C Λ code.function)
       (λ κs. (slice-vals, (uint-vals w64, (slice-vals, (uint-vals w64, (slice-vals, (slice-vals, tt)))))))
-      (λ κs. (shr-slice-tells (named 0) (κs .0) R, (uint-tells w64, (shr-slice-tells (named 1) (κs .1 .0) u8, (uint-tells w64,
-      (shr-slice-tells (named 2) (κs .1 .1 .0) u8, (shr-slice-tells (named 3) (κs .1 .1 .1 .0) u64, tt)))))))
+      (λ κs. (
+        shr-slice-tells (named 0) (κs .0) R,
+        (
+          uint-tells w64,
+          (
+            shr-slice-tells (named 1) (κs .1 .0) u8,
+            (
+              uint-tells w64,
+              (shr-slice-tells (named 2) (κs .1 .1 .0) u8, (shr-slice-tells (named 3) (κs .1 .1 .1 .0) u64, tt)),
+            ),
+          ),
+        ),
+      ))
       (λ κs qs bounds a g are.
       let y = a .1 .1 .0 in
       let z = a .1 .1 .1 .1 .0 in
@@ -258,10 +286,19 @@ look-up-read-meets : {M : Type 1} (𝓤 : URA M) (H : Heap 𝓤) (A : Atoms 𝓤
     → Triple 𝓤 (𝓣 .C #described) (Reads 𝓤 H A mem run) → Triple 𝓤 (𝓣 .C #looked) (Looks 𝓤 H A mem run)
     → Meets 𝓤 H A read.signature (WpFn 𝓤 H (𝓣 .C) (𝓣 .Λ) code.function) (read.spec 𝓤 H A mem run)
 look-up-read-meets 𝓤 H A W mem run 𝓣 reads looks =
-    walk-meets 𝓤 H A read.ended stayed W
-    (goes-none-slice 𝓤 H A W 4 (0 ∷ []) tt (plain (λ _. R)) yes, (goes-none 𝓤 H A W 4 (λ _. u64) yes (λ κs x f. refl),
-    (goes-none-slice 𝓤 H A W 4 (1 ∷ []) tt (plain (λ _. u8)) yes, (goes-none 𝓤 H A W 4 (λ _. u64) yes (λ κs x f. refl),
-    (goes-none-slice 𝓤 H A W 4 (2 ∷ []) tt (plain (λ _. u8)) yes, (goes-none-slice 𝓤 H A W 4 (3 ∷ []) tt (plain (λ _. u64)) yes, tt))))))
+    walk-meets 𝓤 H A read.ended stayed W (
+      goes-none-slice 𝓤 H A W 4 (0 ∷ []) tt (plain (λ _. R)) yes,
+      (
+        goes-none 𝓤 H A W 4 (λ _. u64) yes (λ κs x f. refl),
+        (
+          goes-none-slice 𝓤 H A W 4 (1 ∷ []) tt (plain (λ _. u8)) yes,
+          (
+            goes-none 𝓤 H A W 4 (λ _. u64) yes (λ κs x f. refl),
+            (goes-none-slice 𝓤 H A W 4 (2 ∷ []) tt (plain (λ _. u8)) yes, (goes-none-slice 𝓤 H A W 4 (3 ∷ []) tt (plain (λ _. u64)) yes, tt)),
+          ),
+        ),
+      ),
+    )
     (read.clauses 𝓤 H A mem run) (WpFn 𝓤 H (𝓣 .C) (𝓣 .Λ) code.function) (WpFn-mono 𝓤 H (W .laws) 𝓣 code.function)
     (look-up-read-walks 𝓤 H A W mem run (𝓣 .C) (𝓣 .Λ) (fmOf 𝓤 H (W .laws) 𝓣) reads looks)
 
