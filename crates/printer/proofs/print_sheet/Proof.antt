@@ -3,6 +3,7 @@ use borrow.Author.Needs.{needs}
 use mathlib.Core.Path.{ap}
 use native.Mathlib.Omega.{arith}
 use lib.ListN.{length}
+use Rattle.format.specs.Described.{spelled}
 use Rattle.printer.proofs.Written.{wrote-as}
 use Rattle.format.specs.Described.{spelled}
 use Rattle.printer.proofs.Output.{sheet-short, refused-text, rows-cuts, rows-text}
