@@ -309,4 +309,4 @@ look-up-read-spec 𝓤 H 𝓜 𝓖 𝓡 =
     (tables 𝓤 H 𝓜 𝓡 code.env .C) (tables 𝓤 H 𝓜 𝓡 code.env .Λ) #look-up-read code.function (code.unfolded 𝓤 H 𝓜 𝓡)
     (look-up-read-meets 𝓤 H (𝓖 .A) (givenOf 𝓤 H 𝓜 𝓖) (𝓜 .mem) (𝓡 .run) (tablesOf 𝓤 H 𝓜 (tables 𝓤 H 𝓜 𝓡 code.env))
     (cited 𝓤 H (Reads 𝓤 H (𝓖 .A) (𝓜 .mem) (𝓡 .run)) 𝓜 𝓡 code.env #described described-def.routine code.calls-lent-columns·described (described-thm.met 𝓤 H 𝓜 𝓖 𝓡))
-    (cited 𝓤 H (Looks 𝓤 H (𝓖 .A) (𝓜 .mem) (𝓡 .run)) 𝓜 𝓡 code.env #looked looked-def.routine code.calls-searcher·listed·look-up-listed (looked-thm.met 𝓤 H 𝓜 𝓖 𝓡)))
+    (cited 𝓤 H (Looks 𝓤 H (𝓖 .A) (𝓜 .mem) (𝓡 .run)) 𝓜 𝓡 code.env #looked looked-def.routine code.calls-searcher·look-up-listed (looked-thm.met 𝓤 H 𝓜 𝓖 𝓡)))
