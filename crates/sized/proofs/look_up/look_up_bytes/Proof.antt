@@ -7,12 +7,11 @@ use Rattle.sized.proofs.look_up.look_up_bytes.Tie as tie
 
 returns : tie.Need-returns
 returns c =
-    let found = c .before .before in
-    let read = found .before .before .before .before .before in
+    let read = c .before .before .before .before in
     let args = read .before .before .before .before .before .before .args in
     λ list l.
     bytes-looked-up list (args .k) (args .key .now) (args .n) (args .rows .now) (args .offsets .now) (length (args .numbers .now)) _ _
-    (read .read-offsets .ensures) (found .look-up-listed .ensures list l)
+    (read .read-offsets .ensures) (c .look-up-listed .ensures list l)
 
 pub look-up-bytes-spec : {M : Type 1} → statement M
-look-up-bytes-spec = tie.close (tie.spec (λ c κs. search needs) (λ c κs. search needs) (λ c. search needs) (λ c. search needs) returns)
+look-up-bytes-spec = tie.close (tie.spec (λ c κs. search needs) (λ c κs. search needs) (λ c. search needs) returns)

@@ -8,8 +8,8 @@ use Rattle.sized.proofs.look_up.look_up_lent.Statement.{statement}
 use Rattle.sized.proofs.look_up.look_up_lent.Tie as tie
 
 -- where the function starts
-abbrev start : tie.After-look-up-bytes-arg → tie.Start
-start c = c .before .before .before .before .before .before
+abbrev start : tie.After-slice-known2 → tie.Start
+start c = c .before .before .before .before .before
 
 slice-relend-prefix-look-up-bytes : tie.Need-slice-relend-prefix-look-up-bytes
 slice-relend-prefix-look-up-bytes c = start c .pre .1
@@ -25,7 +25,7 @@ look-up-bytes-requires c κs =
 returns : tie.Need-returns
 returns c =
     let at-put-answer = c .before .before in
-    let at-bytes = at-put-answer .before .before .before .before .before .before in
+    let at-bytes = at-put-answer .before .before .before .before in
     let at-arg = at-bytes .before in
     let s = start (at-arg .before) in
     let args = s .args in
@@ -42,7 +42,6 @@ look-up-lent-spec =
     slice-aggregate-look-up-bytes
     look-up-bytes-requires
     (λ c κs. search needs)
-    (λ c. search needs)
     (λ c. search needs)
     (λ c. search needs)
     returns)
