@@ -4,6 +4,7 @@ pub mod Maps
 pub mod Wrotes
 pub mod Moving
 pub mod Running
+pub mod OnePass
 pub mod Packing
 pub mod Ones
 pub mod Parts
