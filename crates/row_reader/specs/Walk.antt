@@ -13,7 +13,7 @@ use Rattle.format.specs.Lists.{sum}
 use Rattle.format.specs.Sheet.{layout, packed}
 use Rattle.format.specs.Read.{fieldRead, readField, rowSlots, rowsFault}
 use Rattle.format.specs.Entries.{cutRows, decodedSheet, offsetsFault}
-use Rattle.format.specs.Cleared.{added, rowAdded}
+use Rattle.format.specs.Cleared.{added, rowAdded, slotLength}
 use Rattle.row_reader.specs.declared.Checked.{Checked}
 
 -- the bytes of the values in variable columns, over all rows
@@ -35,6 +35,11 @@ pub record Plain (col : Column) (len : ℕ) : Type 0 where
 
 abbrev pub Lengthy : Column → ℕ → Type 0
 Lengthy col len = 0 < len → Plain col len
+
+-- the field in front of s is good, has so many bytes, and its value adds so many
+pub record Counts (col : Column) (s : List ℕ) (len value : ℕ) : Type 0 where
+  pub reads : Value len value ≡ fieldRead s (readField (columnShape col) (col .options) s)
+  pub adds : (x : Slot) → slotLength x ≡ value → value ≡ added (layout col) x
 
 -- of rows: the first fault, and where there is none the bytes of variable values
 pub record Finds (cols : List Column) (rows : List (List ℕ)) (r : Checked) : Type 0 where

@@ -11,6 +11,7 @@ ghost use Rattle.format.specs.Cleared.{slotLength, added};
 ghost use Rattle.row_reader.specs.Walk.{Finds};
 use crate::Checked;
 use crate::field::read_field;
+use crate::field::read_short;
 use crate::lengths::plain_lengths;
 use crate::lengths::plain_there;
 use format::Check;
@@ -33,7 +34,7 @@ fn added_bytes(column: Column, value: usize) -> usize
 }
 
 // The first fault in row order, then column order; each field is read from the part of the row that the previous one left,
-// but where a plain field stands there.
+// but where a plain field or a short value stands there.
 // A fault's place in the row is the row's length less the bytes left from the bad byte on.
 pub fn check_fields(schema: Schema, n: usize, rows: &[u8], offsets: &[u64]) -> Checked
     requires { ⌜ n ≤ maxRows ⌝ }
@@ -60,19 +61,25 @@ pub fn check_fields(schema: Schema, n: usize, rows: &[u8], offsets: &[u64]) -> C
             } else {
                 let column = columns[c];
                 let rest = &row[at..];
-                let read = read_field(rest, column);
-                match read {
-                    FieldRead::Null(len) => {
-                        at += len;
-                    }
-                    FieldRead::Value(len, value) => {
-                        at += len;
-                        bytes += added_bytes(column, value);
-                    }
-                    FieldRead::Fault(fault, left) => {
-                        let place = row.len() - left;
-                        check = Check::Refuse(Refusal::Row(fault, r, c, place));
-                        break 'rows;
+                let short = read_short(rest, column);
+                if 0 < short.field {
+                    at += short.field;
+                    bytes += short.value;
+                } else {
+                    let read = read_field(rest, column);
+                    match read {
+                        FieldRead::Null(len) => {
+                            at += len;
+                        }
+                        FieldRead::Value(len, value) => {
+                            at += len;
+                            bytes += added_bytes(column, value);
+                        }
+                        FieldRead::Fault(fault, left) => {
+                            let place = row.len() - left;
+                            check = Check::Refuse(Refusal::Row(fault, r, c, place));
+                            break 'rows;
+                        }
                     }
                 }
             }

@@ -208,16 +208,34 @@ past-plain c stood p o =
     (sym (plain .reads (drop at (bytes (row t))) (omega (arith, there .1, whole)) one)) in
     taken inv (here t) (some (said .0)) _ _ _ (said .2) (omega (arith, p, plain .adds (some (said .0)))) o
 
--- ---- the field reader has answered of the rest of the row
+-- ---- a short value stands there
 
 abbrev other : tie.Else1 Inv-loop μ-loop Inv-rows μ-rows → Turn
 other c = c .before .before
+
+abbrev Short : Type 0
+Short = tie.After-read-short Inv-loop μ-loop Inv-rows μ-rows
+
+abbrev asked-of : Short → Turn
+asked-of c = other (c .before .before .before)
+
+past-short : (c : Short) {bytes′ at′ : ℕ} → 0 < c .read-short .result .field → bytes′ ≡ at-loop (asked-of c) .loop .bytes + c .read-short .result .value
+    → at′ ≡ at-loop (asked-of c) .loop .at + c .read-short .result .field → Next (asked-of c) bytes′ at′
+past-short c some-bytes p o =
+    let t = asked-of c in
+    let at = at-loop t .loop .at in
+    let counts = c .read-short .ensures some-bytes in
+    let said = says-rest (col t) (bytes (row t)) at _ (bytes-are (row t)) (counts .reads) in
+    let value = said .0 in
+    taken (at-loop t .loop .inv .1) (here t) (some value) _ _ _ (said .2) (omega (arith, p, counts .adds (some value) (said .1))) o
+
+-- ---- the field reader has answered of the rest of the row
 
 abbrev Called : Type 0
 Called = tie.After-read-field Inv-loop μ-loop Inv-rows μ-rows
 
 abbrev turn : Called → Turn
-turn c = other (c .before .before .before)
+turn c = asked-of (c .before .before .before)
 
 abbrev loop : Called → tie.At-loop Inv-loop μ-loop Inv-rows μ-rows
 loop c = at-loop (turn c)
@@ -308,14 +326,34 @@ part-rest-start c = at-loop (other (c .before)) .loop .inv .1 .within
 part-rest-end : tie.Need-part-rest-end Inv-loop μ-loop Inv-rows μ-rows
 part-rest-end c = omega arith
 
+read-short-requires : tie.Need-read-short-requires Inv-loop μ-loop Inv-rows μ-rows
+read-short-requires c κs = search needs
+
+-- where the next turn stands past a short value
+after-short : (c : tie.Then2 Inv-loop μ-loop Inv-rows μ-rows) → let short = c .before .before in
+    Next (asked-of short) (at-loop (asked-of short) .loop .bytes + short .read-short .result .value)
+    (at-loop (asked-of short) .loop .at + short .read-short .result .field)
+after-short c = past-short (c .before .before) (c .if2 .taken) refl refl
+
+add-at-2 : tie.Need-add-at-2 Inv-loop μ-loop Inv-rows μ-rows
+add-at-2 c =
+    let told = c .before in
+    let t = asked-of (told .before .before) in
+    omega (arith, after-short told .within, short (row t), fits (start (row t)))
+
+add-bytes : tie.Need-add-bytes Inv-loop μ-loop Inv-rows μ-rows
+add-bytes c =
+    let told = c .before .before in
+    omega (arith, bytes-small (stands (row (asked-of (told .before .before)))) (after-short told))
+
 read-field-requires : tie.Need-read-field-requires Inv-loop μ-loop Inv-rows μ-rows
 read-field-requires c κs = search needs
 
 enum-known-read : tie.Need-enum-known-read Inv-loop μ-loop Inv-rows μ-rows
 enum-known-read c = search needs
 
-add-at-2 : tie.Need-add-at-2 Inv-loop μ-loop Inv-rows μ-rows
-add-at-2 c =
+add-at-3 : tie.Need-add-at-3 Inv-loop μ-loop Inv-rows μ-rows
+add-at-3 c =
     let called = c .before .before .before in
     let next = past-null called (c .before .read .given .1) refl refl in
     omega (arith, next .within, short (row (turn called)), fits (start (row (turn called))))
@@ -323,8 +361,8 @@ add-at-2 c =
 enum-known-read-2 : tie.Need-enum-known-read-2 Inv-loop μ-loop Inv-rows μ-rows
 enum-known-read-2 c = search needs
 
-add-at-3 : tie.Need-add-at-3 Inv-loop μ-loop Inv-rows μ-rows
-add-at-3 c =
+add-at-4 : tie.Need-add-at-4 Inv-loop μ-loop Inv-rows μ-rows
+add-at-4 c =
     let called = c .before .before .before in
     let t = turn called in
     let took = said called (c .before .read2 .given .1) .2 in
@@ -333,8 +371,8 @@ add-at-3 c =
 added-bytes-requires : tie.Need-added-bytes-requires Inv-loop μ-loop Inv-rows μ-rows
 added-bytes-requires c κs = search needs
 
-add-bytes : tie.Need-add-bytes Inv-loop μ-loop Inv-rows μ-rows
-add-bytes c =
+add-bytes-2 : tie.Need-add-bytes-2 Inv-loop μ-loop Inv-rows μ-rows
+add-bytes-2 c =
     let told = c .before .before in
     let called = told .before .before in
     let next = past-value called (c .added-bytes .result) (told .read2 .given .1) (c .added-bytes .ensures) refl refl in
@@ -366,11 +404,16 @@ loop-again c =
           (λ w. past-plain asked (w .0 .taken) (w .1) (w .2))
           (⊎-elim
           (λ w.
-          let read : Called = record { before = record { before = record { before = record { before = asked; if1 = w .0 }; column = w .1 }; rest = w .2 }; read-field = w .3 } in
-          past-null read (w .5 .given .1) (w .7) (w .8))
+          let short : Short = record { before = record { before = record { before = record { before = asked; if1 = w .0 }; column = w .1 }; rest = w .2 }; read-short = w .3 } in
+          past-short short (w .5 .taken) (w .8) (w .9))
+          (⊎-elim
           (λ w.
-          let read : Called = record { before = record { before = record { before = record { before = asked; if1 = w .0 }; column = w .1 }; rest = w .2 }; read-field = w .3 } in
-          past-value read (w .7 .result) (w .5 .given .1) (w .7 .ensures) (w .8) (w .9)))
+          let short : Short = record { before = record { before = record { before = record { before = asked; if1 = w .0 }; column = w .1 }; rest = w .2 }; read-short = w .3 } in
+          past-null (record { before = record { before = record { before = short; struct-known = w .4 }; if2 = w .5 }; read-field = w .6 }) (w .8 .given .1) (w .10) (w .11))
+          (λ w.
+          let short : Short = record { before = record { before = record { before = record { before = asked; if1 = w .0 }; column = w .1 }; rest = w .2 }; read-short = w .3 } in
+          past-value (record { before = record { before = record { before = short; struct-known = w .4 }; if2 = w .5 }; read-field = w .6 })
+          (w .10 .result) (w .8 .given .1) (w .10 .ensures) (w .11) (w .12))))
           (c .if1 .came),
     )
 
@@ -387,7 +430,7 @@ all-read c = omega (arith, full (start (c .before .before)), c .loop-test .left)
 rows-again : tie.Need-rows-again Inv-loop μ-loop Inv-rows μ-rows
 rows-again c =
     let at = c .before .before in
-    (at .loop .inv .0, passed (stands (at .before)) (at .loop .inv .1) (all-read (c .before)) (c .if2 .left))
+    (at .loop .inv .0, passed (stands (at .before)) (at .loop .inv .1) (all-read (c .before)) (c .if3 .left))
 
 returns : tie.Need-returns Inv-loop μ-loop Inv-rows μ-rows
 returns c =
@@ -404,7 +447,7 @@ returns-2 c =
 returns-3 : tie.Need-returns-3 Inv-loop μ-loop Inv-rows μ-rows
 returns-3 c =
     let at = c .before .before in
-    let extra = longer (at .loop .inv .1) (all-read (c .before)) (c .if2 .taken) in
+    let extra = longer (at .loop .inv .1) (all-read (c .before)) (c .if3 .taken) in
     faulty (stands (at .before)) (at .loop .inv .1)
     (extra ∙ ap (λ (n : ℕ). Refuse (refusal.Row Extra (r (at .before)) n (at .loop .at))) (full (start (at .before))))
 
@@ -436,13 +479,16 @@ check-fields-spec =
     sub-rest
     part-rest-start
     part-rest-end
+    read-short-requires
+    add-at-2
+    add-bytes
     read-field-requires
     enum-known-read
-    add-at-2
-    enum-known-read-2
     add-at-3
+    enum-known-read-2
+    add-at-4
     added-bytes-requires
-    add-bytes
+    add-bytes-2
     enum-known-read-3
     sub-place
     add-c

@@ -53,7 +53,7 @@ loop-again c =
     let t = turn at-end in
     let inv = t .before .loop .inv in (
       counting-next (inv .0) 8 (small _ (t .loop-test .taken)) _ (omega arith) (at-end .byte-at .ensures) (c .if2 .left)
-      (omega (arith, inv .1, t .loop-test .taken)),
+          (omega (arith, inv .1, t .loop-test .taken)),
       omega (arith, inv .1),
     )
 
