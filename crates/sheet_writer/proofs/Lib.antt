@@ -9,3 +9,4 @@ pub mod Packing
 pub mod Ones
 pub mod Parts
 pub mod Stand
+pub mod Numbers
