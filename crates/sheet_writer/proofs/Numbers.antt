@@ -6,16 +6,18 @@ use native.Mathlib.Omega.{arith}
 use lib.ListN.{length, getD, set, drop, length-drop}
 use lib.Seq.{sets}
 use Rattle.format.specs.declared.Column.{Column}
+use Rattle.format.specs.declared.Kind.{Kind}
 use Rattle.format.specs.Kinds.{Shape, fixed, columnShape, shape, shapeBytes, valueBytes}
 use Rattle.format.specs.Lists.{Bytes}
 use Rattle.format.specs.Cleared.{fixedSlot}
 use Rattle.format.specs.Read.{Good, readField, readFixed, slotRead}
 use Rattle.number.specs.declared.Coding.{Coding}
 use Rattle.number.specs.declared.Coding.the-variants.{Unsigned, Signed, Float}
+use Rattle.basics.specs.Wrote.{Wrote}
 use Rattle.basics.proofs.Bytes.{bytes-drop}
 use Rattle.fixed_reader.specs.Coded.{coded}
 use Rattle.fixed_reader.proofs.Storing.{coded-width}
-use Rattle.sheet_writer.specs.Cursors.{Readable, cursorField, cursorSlot, kind16, kind32, kind64, nextAt, widesAt}
+use Rattle.sheet_writer.specs.Cursors.{Readable, cursorField, cursorSlot, kind16, kind32, kind64, nextAt, nextsAt, numberColumn, widesAt}
 use Rattle.sheet_writer.proofs.Lead.{Whole, whole, inside}
 use Rattle.sheet_writer.proofs.Moving.{Moving, move-readable, move-room, move-more}
 
@@ -75,3 +77,22 @@ pub shape64 : (c : Coding) → shape (kind64 c) ≡ fixed (coded c 8)
 shape64 Unsigned = refl
 shape64 Signed = refl
 shape64 Float = refl
+
+-- ---- a column of such a kind
+
+module _ (col : Column) (kind : Kind) (e : col .kind ≡ kind) (rows xs : List ℕ) where
+  abbrev named : Column
+  named = numberColumn kind (col .options)
+
+  same : col ≡ named
+  same = ap (λ (k : Kind). numberColumn k (col .options)) e
+
+  pub named-asked : (at room : ℕ) → Readable col rows xs → at + length (widesAt col rows xs) ≤ room
+      → Readable named rows xs × (at + length (widesAt named rows xs) ≤ room)
+  named-asked at room such fits =
+      subst (λ (c : Column). Readable c rows xs × (at + length (widesAt c rows xs) ≤ room)) same (such, fits)
+
+  pub named-wrote : {at next : ℕ} {x y now : List ℕ} → Wrote (widesAt named rows xs) at x y next × (now ≡ nextsAt named rows xs)
+      → Wrote (widesAt col rows xs) at x y next × (now ≡ nextsAt col rows xs)
+  named-wrote {at} {next} {x} {y} {now} w =
+      subst (λ (c : Column). Wrote (widesAt c rows xs) at x y next × (now ≡ nextsAt c rows xs)) (sym same) w

@@ -12,7 +12,7 @@ use crate::ended::move_ended;
 use crate::flags::Flag;
 use crate::flags::pack;
 use crate::values::advance;
-use crate::values::move_values;
+use crate::words::move_wide;
 use bits::count_ones;
 use format::Column;
 use format::Kind;
@@ -45,7 +45,7 @@ fn write_values(
             return move_ended(rows, cursors, options, sheet, at);
         }
         _ => {
-            return move_values(rows, cursors, column, sheet, at);
+            return move_wide(rows, cursors, column, sheet, at);
         }
     }
 }

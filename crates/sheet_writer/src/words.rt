@@ -2,11 +2,15 @@
 ghost use mathlib.Core.Path.{_≡_};
 ghost use Prim.Native.Nat.{_+_, _≤_};
 ghost use lib.ListN.{length};
+ghost use Rattle.basics.specs.Wide.{WideKind};
 ghost use Rattle.basics.specs.Wrote.{Wrote};
 ghost use Rattle.sheet_writer.specs.Cursors.{Readable, kind16, kind32, kind64, nextsAt, numberColumn, widesAt};
+use crate::values::move_values;
 use fixed_reader::slot16;
 use fixed_reader::slot32;
 use fixed_reader::slot64;
+use format::Column;
+use format::Kind;
 use format::SortOptions;
 use number::Coding;
 
@@ -89,4 +93,34 @@ pub fn move_words64(
         r += 1;
     }
     place
+}
+
+// The values of any fixed kind but bool, by the width of its numbers.
+pub fn move_wide(
+    rows: &[u8],
+    cursors: &mut [usize],
+    column: Column,
+    sheet: &mut [u8],
+    at: usize,
+) -> usize
+    requires { ⌜ WideKind (column .kind) ⌝ }
+    requires { ⌜ Readable column (now rows) (now cursors) ⌝ }
+    requires { ⌜ at + length (widesAt column (now rows) (now cursors)) ≤ length (now sheet) ⌝ }
+    ensures { λ r. ⌜ Wrote (widesAt column (now (rows .entry)) (now (cursors .entry))) at (now (sheet .entry)) (now (sheet .exit)) r ⌝ }
+    ensures { λ _. ⌜ now (cursors .exit) ≡ nextsAt column (now (rows .entry)) (now (cursors .entry)) ⌝ }
+{
+    let kind = column.kind;
+    let options = column.options;
+    match kind {
+        Kind::I16 => move_words16(rows, cursors, Coding::Signed, options, sheet, at),
+        Kind::U16 => move_words16(rows, cursors, Coding::Unsigned, options, sheet, at),
+        Kind::F16 => move_words16(rows, cursors, Coding::Float, options, sheet, at),
+        Kind::I32 => move_words32(rows, cursors, Coding::Signed, options, sheet, at),
+        Kind::U32 => move_words32(rows, cursors, Coding::Unsigned, options, sheet, at),
+        Kind::F32 => move_words32(rows, cursors, Coding::Float, options, sheet, at),
+        Kind::I64 => move_words64(rows, cursors, Coding::Signed, options, sheet, at),
+        Kind::U64 => move_words64(rows, cursors, Coding::Unsigned, options, sheet, at),
+        Kind::F64 => move_words64(rows, cursors, Coding::Float, options, sheet, at),
+        _ => move_values(rows, cursors, column, sheet, at),
+    }
 }

@@ -147,8 +147,8 @@ module _ (c : tie.At-match-keys3) where
   slots : valuesAt (column fixed) (rows fixed) (cursors fixed) ≡ widesAt (column fixed) (rows fixed) (cursors fixed)
   slots = wide-values (column fixed) (rows fixed) (cursors fixed) wide
 
-move-values-requires : tie.Need-move-values-requires
-move-values-requires c κs =
+move-wide-requires : tie.Need-move-wide-requires
+move-wide-requires c κs =
     let told = c .before .before in
     (wide told, (readable (fixed told), room (fixed told) _ (slots told)))
 
@@ -162,7 +162,7 @@ returns-3 : tie.Need-returns-3
 returns-3 c =
     let moved = c .before .before .before .before in
     let told = moved .before .before .before in
-    let values = moved .move-values .ensures in
+    let values = moved .move-wide .ensures in
     (done (fixed told) (slots told) (values .0), values .1)
 
 pub write-values-spec : {M : Type 1} → statement M
@@ -180,7 +180,7 @@ write-values-spec =
     same-length-3
     same-length-4
     returns-2
-    move-values-requires
+    move-wide-requires
     same-length-5
     same-length-6
     returns-3)
