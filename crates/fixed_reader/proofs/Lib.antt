@@ -7,3 +7,4 @@ pub mod Taking
 pub mod Parts
 pub mod Words
 pub mod DecodeArms
+pub mod Storing

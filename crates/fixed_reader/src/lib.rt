@@ -6,9 +6,13 @@
 mod decoder;
 mod numbers;
 mod reader;
+mod slots;
 
 pub use decoder::decode;
 pub use decoder::decode_boolean;
 pub use reader::read;
 pub use reader::read_boolean;
 pub use reader::read_float;
+pub use slots::slot16;
+pub use slots::slot32;
+pub use slots::slot64;

@@ -5,3 +5,4 @@ pub mod Turns
 pub mod Arms
 pub mod FrameSums
 pub mod Batches
+pub mod Stored

@@ -42,7 +42,7 @@ took col s x r b q =
     let d : drop (length s - length r) s ≡ r = ap (drop (length s - length r)) (e .0) ∙ drop-at f r (length s - length r) (omega arith) in
     record { is = q ∙ ap (got x) (sym d); inside = omega arith; fits = e .1 }
 
-says : (col : Column) (s : List ℕ) (a : FieldRead) → Bytes s → a ≡ fieldRead s (readField (columnShape col) (col .options) s) → Says col s a
+pub says : (col : Column) (s : List ℕ) (a : FieldRead) → Bytes s → a ≡ fieldRead s (readField (columnShape col) (col .options) s) → Says col s a
 says col s a b e = subst (Says col s) (sym e) (go (readField (columnShape col) (col .options) s) refl)
   where
     go : (p : Parsed Slot) → readField (columnShape col) (col .options) s ≡ p → Says col s (fieldRead s p)

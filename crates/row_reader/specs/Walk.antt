@@ -1,17 +1,19 @@
 -- What the walk over a batch of rows finds, and what the check of a batch answers.
-use Prim.Native.Nat.{ℕ, _+_, _*_, _≤_}
+use Prim.Native.Nat.{ℕ, _+_, _-_, _*_, _<_, _≤_}
 use mathlib.Core.Path.{_≡_}
 use mathlib.Core.List.{List, map}
-use lib.ListN.{length}
+use lib.ListN.{length, getD}
 use Rattle.format.specs.declared.Check.the-variants.{Pass}
 use Rattle.format.specs.declared.Column.{Column}
+use Rattle.format.specs.declared.FieldRead.the-variants.{Value}
+use Rattle.format.specs.Kinds.{Slot, columnShape}
 use Rattle.format.specs.Limits.{maxColumns, maxRows, maxSlot, maxWidth}
 use Rattle.format.specs.Check.{both}
 use Rattle.format.specs.Lists.{sum}
-use Rattle.format.specs.Sheet.{packed}
-use Rattle.format.specs.Read.{rowSlots, rowsFault}
+use Rattle.format.specs.Sheet.{layout, packed}
+use Rattle.format.specs.Read.{fieldRead, readField, rowSlots, rowsFault}
 use Rattle.format.specs.Entries.{cutRows, decodedSheet, offsetsFault}
-use Rattle.format.specs.Cleared.{rowAdded}
+use Rattle.format.specs.Cleared.{added, rowAdded, slotLength}
 use Rattle.row_reader.specs.declared.Checked.{Checked}
 
 -- the bytes of the values in variable columns, over all rows
@@ -25,6 +27,19 @@ mostData = maxColumns * maxSlot * maxRows
 -- the validity and the values of the widest column
 abbrev pub widestFrame : ℕ
 widestFrame = packed maxRows + maxRows * maxWidth
+
+-- a length other than 0 is that of every field of a column that opens with 01 and is there whole; its value adds nothing
+pub record Plain (col : Column) (len : ℕ) : Type 0 where
+  pub reads : (s : List ℕ) → len ≤ length s → getD s 0 0 ≡ 1 → fieldRead s (readField (columnShape col) (col .options) s) ≡ Value len (len - 1)
+  pub adds : (x : Slot) → added (layout col) x ≡ 0
+
+abbrev pub Lengthy : Column → ℕ → Type 0
+Lengthy col len = 0 < len → Plain col len
+
+-- the field in front of s is good, has so many bytes, and its value adds so many
+pub record Counts (col : Column) (s : List ℕ) (len value : ℕ) : Type 0 where
+  pub reads : Value len value ≡ fieldRead s (readField (columnShape col) (col .options) s)
+  pub adds : (x : Slot) → slotLength x ≡ value → value ≡ added (layout col) x
 
 -- of rows: the first fault, and where there is none the bytes of variable values
 pub record Finds (cols : List Column) (rows : List (List ℕ)) (r : Checked) : Type 0 where

@@ -3,6 +3,7 @@ use format::Check;
 
 mod batch;
 mod field;
+mod lengths;
 mod offsets;
 mod room;
 mod walk;

@@ -11,6 +11,9 @@ ghost use Rattle.format.specs.Cleared.{slotLength, added};
 ghost use Rattle.row_reader.specs.Walk.{Finds};
 use crate::Checked;
 use crate::field::read_field;
+use crate::field::read_short;
+use crate::lengths::plain_lengths;
+use crate::lengths::plain_there;
 use format::Check;
 use format::Column;
 use format::FieldRead;
@@ -30,7 +33,8 @@ fn added_bytes(column: Column, value: usize) -> usize
     }
 }
 
-// The first fault in row order, then column order; each field is read from the part of the row that the previous one left.
+// The first fault in row order, then column order; each field is read from the part of the row that the previous one left,
+// but where a plain field or a short value stands there.
 // A fault's place in the row is the row's length less the bytes left from the bad byte on.
 pub fn check_fields(schema: Schema, n: usize, rows: &[u8], offsets: &[u64]) -> Checked
     requires { ⌜ n ≤ maxRows ⌝ }
@@ -40,6 +44,7 @@ pub fn check_fields(schema: Schema, n: usize, rows: &[u8], offsets: &[u64]) -> C
 {
     let count = schema.count;
     let columns = schema.columns;
+    let lengths = plain_lengths(schema);
     let mut check = Check::Pass;
     let mut bytes: usize = 0;
     let mut r = 0;
@@ -50,21 +55,32 @@ pub fn check_fields(schema: Schema, n: usize, rows: &[u8], offsets: &[u64]) -> C
         let mut at = 0;
         let mut c = 0;
         while c < count {
-            let column = columns[c];
-            let rest = &row[at..];
-            let read = read_field(rest, column);
-            match read {
-                FieldRead::Null(len) => {
-                    at += len;
-                }
-                FieldRead::Value(len, value) => {
-                    at += len;
-                    bytes += added_bytes(column, value);
-                }
-                FieldRead::Fault(fault, left) => {
-                    let place = row.len() - left;
-                    check = Check::Refuse(Refusal::Row(fault, r, c, place));
-                    break 'rows;
+            let len = lengths[c];
+            if plain_there(row, at, len) {
+                at += len;
+            } else {
+                let column = columns[c];
+                let rest = &row[at..];
+                let short = read_short(rest, column);
+                if 0 < short.field {
+                    at += short.field;
+                    bytes += short.value;
+                } else {
+                    let read = read_field(rest, column);
+                    match read {
+                        FieldRead::Null(len) => {
+                            at += len;
+                        }
+                        FieldRead::Value(len, value) => {
+                            at += len;
+                            bytes += added_bytes(column, value);
+                        }
+                        FieldRead::Fault(fault, left) => {
+                            let place = row.len() - left;
+                            check = Check::Refuse(Refusal::Row(fault, r, c, place));
+                            break 'rows;
+                        }
+                    }
                 }
             }
             c += 1;

@@ -4,7 +4,9 @@ pub mod Maps
 pub mod Wrotes
 pub mod Moving
 pub mod Running
+pub mod OnePass
 pub mod Packing
 pub mod Ones
 pub mod Parts
 pub mod Stand
+pub mod Numbers

@@ -91,7 +91,7 @@ module _ {col : Column} {rows : List ℕ} {piece : Slot → List ℕ} {xs out₀
     p = getD now r 0
 
     -- the cursor of row r has not moved yet
-    still : p ≡ getD xs r 0
+    pub still : p ≡ getD xs r 0
     still = fill-at (t .moved) h
 
     pub move-readable : Readable col rows xs → Good (cursorField col rows p)

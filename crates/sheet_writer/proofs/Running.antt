@@ -15,7 +15,7 @@ use Rattle.basics.proofs.Append.{Walk, walk-start, walk-piece, walk-room}
 use Rattle.sheet_writer.proofs.Wrotes.{wrote-whole}
 
 -- k, and after it where the value of the slot at each cursor ends, four bytes each
-abbrev endBytes : (ℕ → Slot) → ℕ → List ℕ → List ℕ
+abbrev pub endBytes : (ℕ → Slot) → ℕ → List ℕ → List ℕ
 endBytes slot k xs = joined (map (lowBytes 4) (endsFrom k (map variableSlot (map slot xs))))
 
 -- the next end comes first, whether values follow or not

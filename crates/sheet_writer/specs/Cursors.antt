@@ -7,7 +7,8 @@ use mathlib.Core.List.{List, [], _∷_, map}
 use lib.Dec.{ltb}
 use lib.ListN.{length, getD, drop}
 use Rattle.format.specs.declared.Check.the-variants.{Pass}
-use Rattle.format.specs.declared.Kind.the-variants.{Variable}
+use Rattle.format.specs.declared.Kind.{Kind}
+use Rattle.format.specs.declared.Kind.the-variants.{I16, I32, I64, U16, U32, U64, F16, F32, F64, Variable}
 use Rattle.format.specs.declared.SortOptions.{SortOptions}
 use Rattle.format.specs.declared.Column.{Column}
 use Rattle.format.specs.declared.Schema.{Schema}
@@ -20,6 +21,8 @@ use Rattle.format.specs.Cleared.{clearedSheet, clearedValues, fixedSlot, isTrue
 use Rattle.format.specs.Read.{Parsed, Good, slotRead, leftAfter, readField, rowSlots, rowsFault}
 use Rattle.format.specs.Entries.{cutRows, decodedSheet, offsetsFault}
 use Rattle.basics.specs.Wrote.{Wrote}
+use Rattle.number.specs.declared.Coding.{Coding}
+use Rattle.number.specs.declared.Coding.the-variants.{Unsigned, Signed, Float}
 use Rattle.sheet_writer.specs.declared.Written.{Written}
 use Rattle.sheet_writer.specs.declared.flags.Flag.{Flag}
 use Rattle.sheet_writer.specs.declared.flags.Flag.the-variants.{Valid, True}
@@ -77,6 +80,25 @@ valuesAt col rows cursors = clearedValues (layout col) (length cursors) (cursorS
 -- values of one width
 abbrev pub widesAt : Column → List ℕ → List ℕ → List ℕ
 widesAt col rows cursors = joined (map (fixedSlot (valueBytes (col .kind))) (cursorSlots col rows cursors))
+
+-- numbers of 16, 32 and 64 bits, by their coding
+abbrev pub kind16 : Coding → Kind
+kind16 Unsigned = U16
+kind16 Signed = I16
+kind16 Float = F16
+
+abbrev pub kind32 : Coding → Kind
+kind32 Unsigned = U32
+kind32 Signed = I32
+kind32 Float = F32
+
+abbrev pub kind64 : Coding → Kind
+kind64 Unsigned = U64
+kind64 Signed = I64
+kind64 Float = F64
+
+abbrev pub numberColumn : Kind → SortOptions → Column
+numberColumn kind o = record { kind = kind; options = o }
 
 -- variable bytes: the ends, and the bytes between them
 abbrev pub variableColumn : SortOptions → Column

@@ -8,12 +8,11 @@ ghost use Rattle.format.specs.Schemas.{colsOf};
 ghost use Rattle.format.specs.Entries.{cutRows, rowsSlots};
 ghost use Rattle.sheet_writer.specs.Cursors.{Clears, Decodable, Readable, Writable, nextsAt, slotsToCome, valuesAt};
 use crate::Written;
-use crate::ended::move_data;
-use crate::ended::write_ends;
+use crate::ended::move_ended;
 use crate::flags::Flag;
 use crate::flags::pack;
 use crate::values::advance;
-use crate::values::move_values;
+use crate::words::move_wide;
 use bits::count_ones;
 use format::Column;
 use format::Kind;
@@ -43,11 +42,10 @@ fn write_values(
             return end;
         }
         Kind::Variable => {
-            let data = write_ends(rows, cursors, options, sheet, at);
-            return move_data(rows, cursors, options, sheet, data);
+            return move_ended(rows, cursors, options, sheet, at);
         }
         _ => {
-            return move_values(rows, cursors, column, sheet, at);
+            return move_wide(rows, cursors, column, sheet, at);
         }
     }
 }

@@ -6,6 +6,7 @@ mod columns;
 mod ended;
 mod flags;
 mod values;
+mod words;
 
 pub use columns::write_sheet;
 

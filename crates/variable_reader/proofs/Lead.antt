@@ -19,6 +19,7 @@ use Rattle.format.specs.Kinds.{Slot}
 use Rattle.format.specs.Cleared.{variableSlot}
 use Rattle.format.specs.Read.{Parsed, got, fault, Good, fieldRead, leftAfter, nullLead, slotRead, readBlocks, readValue, readVariable, valueSlot}
 use Rattle.laws.proofs.Directed.{length-directed}
+use Rattle.laws.proofs.Fields.{not-null}
 use Rattle.variable_reader.specs.Counted.{blocksRead, counted, valueOf, restOf}
 
 -- a value by its lead byte x, where u are the n - 1 bytes after it
@@ -107,6 +108,15 @@ module _ (o : SortOptions) (row : List ℕ) (some-lead : 0 < length row) (no-nul
       → r ≡ fieldRead row (readVariable maxSlot o row)
   read-blocks r e h =
       h ∙ sym (value-counted (o .descending) row (blocksRead (o .descending) row)) ∙ sym (ap (fieldRead row) (lead-blocks o row some-lead no-null e))
+
+-- the lead byte of a value is no null byte
+pub value-lead : (o : SortOptions) (row : List ℕ) → 0 < length row → getD (directed (o .descending) row) 0 0 ≡ 2 → nullLead o (getD row 0 0) ≡ false
+value-lead o [] h e = absurd (omega arith)
+value-lead o (b ∷ row) h e = go (o .descending) e
+  where
+    go : (d : Bool) → getD (directed d (b ∷ row)) 0 0 ≡ 2 → nullLead o b ≡ false
+    go true e = not-null o b (omega arith) (omega arith)
+    go false e = not-null o b (omega arith) (omega arith)
 
 -- ---- what the copying walk answers
 

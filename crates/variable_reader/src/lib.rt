@@ -6,7 +6,10 @@
 //     33 bytes     02 | 8 bytes FF | 8 bytes FF | 8 bytes FF | 8 bytes FF | 1 byte, 00 x31, 01
 mod copier;
 mod reader;
+mod short;
 
 pub use copier::Copied;
 pub use copier::decode_blocks;
 pub use reader::read;
+pub use short::Short;
+pub use short::read_short;

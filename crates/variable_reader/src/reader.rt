@@ -69,7 +69,7 @@ fn unpadded(row: &[u8], from: usize, to: usize, descending: bool) -> usize
 }
 
 // A last block at a place, whose end byte says how many data bytes it has, with `count` bytes of the value before it.
-fn last_block(
+pub fn last_block(
     row: &[u8],
     at: usize,
     size: usize,

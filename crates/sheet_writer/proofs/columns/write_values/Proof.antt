@@ -15,7 +15,6 @@ use Rattle.basics.proofs.Sorts.{wide-arm}
 use Rattle.sheet_writer.specs.declared.flags.Flag.the-variants.{True}
 use Rattle.sheet_writer.specs.Cursors.{Readable, dataAt, endsAt, flagsAt, valuesAt, widesAt}
 use Rattle.sheet_writer.proofs.Parts.{flags-long, bool-values, bool-there, bool-next, wide-values, variable-values, variable-readable, variable-next}
-use Rattle.sheet_writer.proofs.Wrotes.{wrote-both, room-first, room-after}
 use Rattle.sheet_writer.proofs.columns.write_values.Statement.{statement}
 use Rattle.sheet_writer.proofs.columns.write_values.Tie as tie
 
@@ -115,25 +114,11 @@ module _ (c : tie.After-enum-told2) where
 enum-told-2 : tie.Need-enum-told-2
 enum-told-2 c = search needs
 
-write-ends-requires : tie.Need-write-ends-requires
-write-ends-requires c κs =
+move-ended-requires : tie.Need-move-ended-requires
+move-ended-requires c κs =
     let told = c .before .before in
-    let b = blocks told in (
-      start b .pre .0,
-      (
-        variable-readable (column b) (rows b) (cursors b) (told .enum-told2 .given .1) (readable b),
-        room-first (ends told) (bytes told) _ (start b .args .sheet .now) (room b _ (both told)),
-      ),
-    )
-
-move-data-requires : tie.Need-move-data-requires
-move-data-requires c κs =
-    let ended = c .before .before .before .before in
-    let told = ended .before .before .before in
-    let b = blocks told in (
-      variable-readable (column b) (rows b) (cursors b) (told .enum-told2 .given .1) (readable b),
-      room-after (ended .write-ends .ensures) (bytes told) (room b _ (both told)),
-    )
+    let b = blocks told in
+    (start b .pre .0, (variable-readable (column b) (rows b) (cursors b) (told .enum-told2 .given .1) (readable b), room b _ (both told)))
 
 same-length-3 : tie.Need-same-length-3
 same-length-3 c = search needs
@@ -144,12 +129,11 @@ same-length-4 c = search needs
 returns-2 : tie.Need-returns-2
 returns-2 c =
     let moved = c .before .before .before .before in
-    let ended = moved .before .before .before .before .before in
-    let told = ended .before .before .before in
+    let told = moved .before .before .before in
     let b = blocks told in
     let next = variable-next (column b) (rows b) (cursors b) (told .enum-told2 .given .1) in
-    let copied = moved .move-data .ensures in
-    (done b (both told) (wrote-both (ended .write-ends .ensures) (copied .0)), copied .1 ∙ next)
+    let values = moved .move-ended .ensures in
+    (done b (both told) (values .0), values .1 ∙ next)
 
 -- ---- values of one width
 
@@ -163,8 +147,8 @@ module _ (c : tie.At-match-keys3) where
   slots : valuesAt (column fixed) (rows fixed) (cursors fixed) ≡ widesAt (column fixed) (rows fixed) (cursors fixed)
   slots = wide-values (column fixed) (rows fixed) (cursors fixed) wide
 
-move-values-requires : tie.Need-move-values-requires
-move-values-requires c κs =
+move-wide-requires : tie.Need-move-wide-requires
+move-wide-requires c κs =
     let told = c .before .before in
     (wide told, (readable (fixed told), room (fixed told) _ (slots told)))
 
@@ -178,7 +162,7 @@ returns-3 : tie.Need-returns-3
 returns-3 c =
     let moved = c .before .before .before .before in
     let told = moved .before .before .before in
-    let values = moved .move-values .ensures in
+    let values = moved .move-wide .ensures in
     (done (fixed told) (slots told) (values .0), values .1)
 
 pub write-values-spec : {M : Type 1} → statement M
@@ -192,12 +176,11 @@ write-values-spec =
     same-length-2
     returns
     enum-told-2
-    write-ends-requires
-    move-data-requires
+    move-ended-requires
     same-length-3
     same-length-4
     returns-2
-    move-values-requires
+    move-wide-requires
     same-length-5
     same-length-6
     returns-3)
