@@ -7,6 +7,11 @@ use Rattle.station_c.proofs.station_look_up.Tie as tie
 returns : tie.Need-returns
 returns c = look-up-short _ (c .if1 .taken) _ _ _ _ _ _
 
+returns-2 : tie.Need-returns-2
+returns-2 c =
+    let called = c .before .before in
+    called .look-up-sized .ensures _ (called .before .before .read-list .ensures)
+
 pub station-look-up-spec : {M : Type 1} → statement M
 station-look-up-spec =
     tie.close
@@ -14,6 +19,6 @@ station-look-up-spec =
     returns
     (λ c κs. search needs)
     (λ c κs. search needs)
+    (λ c κs. search needs)
     (λ c. search needs)
-    (λ c. search needs)
-    (λ c. search needs))
+    returns-2)
