@@ -53,13 +53,15 @@
  * offsets  n+1 numbers of eight bytes, low byte first: 0, then each row's end. A length that is no multiple
  *          of eight leaves a tail that does not count and stays.
  *
+ * k, key   The fields of the first k columns as bytes, as a row of these columns alone has them.
+ *
  * order    Entries of eight bytes, low byte first, one for each row of two passes: 4,096 times the pass plus the
  *          row. A tail as in offsets.
  *
  * answer   Four numbers of eight bytes, low byte first, so 32 bytes; a shorter answer, and no lent byte
  *          changes. The first is 0 for done, and else the number of the refusal:
  *
- *            0   done                                       total, null slots
+ *            0   done                                       total, null slots; of look_up two rows
  *            1   list empty, or a body cut                  place of the kind byte, 0
  *            2   unknown kind                               the same
  *            3   other option bits set, or fold elsewhere   the same
@@ -91,6 +93,7 @@
  *            27  null in a required column                  column, first null row
  *            28  float not folded where the column folds    row, column
  *            29  too few descriptions lent                  columns, 0
+ *            31  k of 0 or past the columns                 k, 0
  *
  *          Of descriptions 1 is for none, and the place in 1 to 5 is the index of the column.
  *
@@ -122,8 +125,10 @@ enum {
     STATION_MEASURE_READ_STACK = 19456,
     STATION_ENCODE_STACK = 58368,
     STATION_ENCODE_READ_STACK = 58368,
-    STATION_DECODE_STACK = 77824,
-    STATION_DECODE_READ_STACK = 77824,
+    STATION_DECODE_STACK = 79872,
+    STATION_DECODE_READ_STACK = 79872,
+    STATION_LOOK_UP_STACK = 48128,
+    STATION_LOOK_UP_READ_STACK = 48128,
     STATION_JOIN_STACK = 132096,
     STATION_COMPARE_STACK = 64
 };
@@ -168,6 +173,17 @@ void station_encode_read(const uint8_t *descriptions, size_t descriptions_len, u
 void station_decode_read(const uint8_t *descriptions, size_t descriptions_len, uint64_t n, const uint8_t *rows,
                          size_t rows_len, const uint8_t *offsets, size_t offsets_len, uint8_t *sheet, size_t sheet_len,
                          uint8_t *answer, size_t answer_len);
+
+/* Looks a key up in a batch whose rows are sorted as bytes. First the first row that begins with the key, then one past
+ * the last such row; where none does, both are the first row above the key, or n. The key is checked as row 0 of the first
+ * k columns, and the batch's rows under all. */
+void station_look_up(const uint8_t *list, size_t list_len, uint64_t k, const uint8_t *key, size_t key_len, uint64_t n,
+                     const uint8_t *rows, size_t rows_len, const uint8_t *offsets, size_t offsets_len, uint8_t *answer,
+                     size_t answer_len);
+
+void station_look_up_read(const uint8_t *descriptions, size_t descriptions_len, uint64_t k, const uint8_t *key,
+                          size_t key_len, uint64_t n, const uint8_t *rows, size_t rows_len, const uint8_t *offsets,
+                          size_t offsets_len, uint8_t *answer, size_t answer_len);
 
 /* Writes the joined order of two passes, whose rows are sorted as bytes: sorted, every row of both once, equal rows in
  * their order, pass 0 first. Rows are not read as fields. Total: the rows of both, and no null slots. */

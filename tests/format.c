@@ -36,15 +36,15 @@ enum batch { OF_SHEET, PASS0, PASS1, BATCHES };
 /* The words of an example. Those up to INPUT have bytes for a value, which may go on in the next line. Those of a batch stand in the
  * order of the batches. */
 enum word {
-    LIST, COLUMNS, SHEET, CLEARED, ROW, ROW0, ROW1, INPUT,
-    N, N0, N1, OFFSETS, OFFSETS0, OFFSETS1, COLUMN_ROOM, ROW_ROOM, OFFSET_ROOM, SHEET_ROOM, ORDER_ROOM,
-    REFUSED, CHECK, READ, MEASURE, ENCODE, DECODE, JOIN, COMPARE, ORDER, PRINTS,
+    LIST, COLUMNS, SHEET, CLEARED, KEY, ROW, ROW0, ROW1, INPUT,
+    K, N, N0, N1, OFFSETS, OFFSETS0, OFFSETS1, COLUMN_ROOM, ROW_ROOM, OFFSET_ROOM, SHEET_ROOM, ORDER_ROOM,
+    REFUSED, CHECK, READ, MEASURE, ENCODE, DECODE, FOUND, JOIN, COMPARE, ORDER, PRINTS,
     WORDS,
 };
 static const char *const NAMES[WORDS] = {
-    "list", "columns", "sheet", "cleared", "row", "row0", "row1", "input",
-    "n", "n0", "n1", "offsets", "offsets0", "offsets1", "column-room", "row-room", "offset-room", "sheet-room", "order-room",
-    "refused", "check", "read", "measure", "encode", "decode", "join", "compare", "order", "prints",
+    "list", "columns", "sheet", "cleared", "key", "row", "row0", "row1", "input",
+    "k", "n", "n0", "n1", "offsets", "offsets0", "offsets1", "column-room", "row-room", "offset-room", "sheet-room", "order-room",
+    "refused", "check", "read", "measure", "encode", "decode", "found", "join", "compare", "order", "prints",
 };
 
 struct bytes {
@@ -218,21 +218,23 @@ struct way {
     void (*measure)(const uint8_t *, size_t, uint64_t, const uint8_t *, size_t, uint8_t *, size_t);
     void (*encode)(const uint8_t *, size_t, uint64_t, const uint8_t *, size_t, uint8_t *, size_t, uint8_t *, size_t, uint8_t *, size_t);
     void (*decode)(const uint8_t *, size_t, uint64_t, const uint8_t *, size_t, const uint8_t *, size_t, uint8_t *, size_t, uint8_t *, size_t);
+    void (*look_up)(const uint8_t *, size_t, uint64_t, const uint8_t *, size_t, uint64_t, const uint8_t *, size_t, const uint8_t *, size_t,
+                    uint8_t *, size_t);
 };
 
 static struct way by_list(void) {
-    return (struct way){ex.value[LIST], station_measure, station_encode, station_decode};
+    return (struct way){ex.value[LIST], station_measure, station_encode, station_decode, station_look_up};
 }
 
 static struct way by_descriptions(struct bytes columns) {
-    return (struct way){columns, station_measure_read, station_encode_read, station_decode_read};
+    return (struct way){columns, station_measure_read, station_encode_read, station_decode_read, station_look_up_read};
 }
 
 static void try_list(void) {
     struct bytes list = ex.value[LIST];
     uint8_t answer[STATION_ANSWER_BYTES];
     station_check_list(list.at, list.len, answer, sizeof answer);
-    if (ex.has[CHECK] || !(ex.has[SHEET] || ex.has[ROW] || ex.has[COLUMN_ROOM] || ex.has[READ])) judge(CHECK, answer, 0);
+    if (ex.has[CHECK] || !(ex.has[SHEET] || ex.has[ROW] || ex.has[KEY] || ex.has[COLUMN_ROOM] || ex.has[READ])) judge(CHECK, answer, 0);
     if (ex.has[REFUSED]) return;
     for (size_t i = 0; i < list.len; i += list.at[i] == 15 ? 4 : 2) kind_seen[list.at[i]] = true;
 }
@@ -242,7 +244,7 @@ static struct bytes try_read(void) {
     struct bytes list = ex.value[LIST], columns = filled(COLUMN * number(COLUMN_ROOM, MOST_COLUMNS));
     uint8_t answer[STATION_ANSWER_BYTES];
     station_read_list(list.at, list.len, columns.at, columns.len, answer, sizeof answer);
-    if (ex.has[READ] || (ex.has[REFUSED] && !(ex.has[SHEET] || ex.has[ROW]))) judge(READ, answer, 0);
+    if (ex.has[READ] || (ex.has[REFUSED] && !(ex.has[SHEET] || ex.has[ROW] || ex.has[KEY]))) judge(READ, answer, 0);
     size_t len = eight(answer) ? 0 : COLUMN * eight(answer + 8);
     struct bytes rest = {columns.at + len, columns.len - len, 0};
     if (!untouched(rest)) fault(ex.line, "read_list writes more than it counts");
@@ -282,6 +284,15 @@ static void try_decode(struct way way) {
     if (ex.has[REFUSED] && !untouched(sheet)) fault(ex.line, "decode refuses and writes");
     if (!ex.has[REFUSED] && !same(sheet, right)) fault(ex.line, "decode writes another sheet");
     free(sheet.at);
+    free(ends.at);
+}
+
+static void try_look_up(struct way way) {
+    struct bytes list = way.columns, key = ex.value[KEY], rows = ex.value[ROW], ends = offsets(OF_SHEET);
+    uint64_t k = number(K, 0), n = number(N, ex.batch[OF_SHEET].rows);
+    uint8_t answer[STATION_ANSWER_BYTES];
+    way.look_up(list.at, list.len, k, key.at, key.len, n, rows.at, rows.len, ends.at, ends.len, answer, sizeof answer);
+    judge(FOUND, answer, 0);
     free(ends.at);
 }
 
@@ -386,8 +397,12 @@ static void begin(void) {
     }
 }
 
-/* What the example says of a sheet and its rows. */
+/* What the example says of a key, or of a sheet and its rows. */
 static void try_way(struct way way) {
+    if (ex.has[KEY]) {
+        try_look_up(way);
+        return;
+    }
     if (ex.has[SHEET]) try_encode(way);
     if (ex.has[ROW] || (ex.has[SHEET] && !ex.has[REFUSED])) try_decode(way);
 }
@@ -415,7 +430,8 @@ static void finish(void) {
     if (ex.has[PRINTS] && strncmp(text(PRINTS), "refused ", 8) == 0) refusal_seen[atoi(text(PRINTS) + 8) % CODES] = true;
     if (ex.has[SHEET] && !ex.has[N]) fault(ex.line, "a sheet without its row count");
     if (ex.has[SHEET] && ex.has[ROW] && refused) fault(ex.line, "rows of a sheet that is refused");
-    bool columns = ex.has[LIST] || (ex.has[COLUMNS] && (ex.has[SHEET] || ex.has[ROW]));
+    bool columns = ex.has[LIST] || (ex.has[COLUMNS] && (ex.has[SHEET] || ex.has[ROW] || ex.has[KEY]));
+    if (ex.has[KEY] && (ex.has[SHEET] || !ex.has[K])) fault(ex.line, "a key with a sheet, or without its count of columns");
     if (!columns && !passes && !ex.has[COMPARE] && !ex.has[INPUT]) fault(ex.line, "nothing to try");
     if (columns) try_columns();
     if (ex.has[LIST] && ex.has[SHEET] && !room) try_rows();

@@ -1,6 +1,6 @@
 /* Two rows of a catalogue of glyphs: plate (u32), glyph name (variable bytes), contour (u16), position (f64), exposure
- * (months, days, nanoseconds). Encodes them, prints each row in hex, compares the two, decodes them again. Then the same
- * with the list read once, as one would for many sheets.
+ * (months, days, nanoseconds). Encodes them, prints each row in hex, compares the two, decodes them again, and looks their
+ * plate up. Then the same with the list read once, as one would for many sheets.
  *
  *   cc -I include bindings/c/example.c target/staticlib/libstation_c.a -o example && ./example
  */
@@ -37,6 +37,24 @@ static int done(const char *call, const uint8_t *answer) {
     printf("%s: refused %" PRIu64 " %" PRIu64 " %" PRIu64 " %" PRIu64 "\n", call, number(answer, 0), number(answer, 1),
            number(answer, 2), number(answer, 3));
     return 0;
+}
+
+/* Looks plate 7 up, whose key is the five bytes that row 0 begins with, in the two rows put in order: row 1, which has no
+ * name, comes first. */
+static int look_up(const uint8_t *rows, uint64_t middle, uint64_t end) {
+    uint8_t sorted[128], offsets[3 * 8] = {0}, answer[STATION_ANSWER_BYTES];
+    uint64_t first = end - middle;
+
+    memcpy(sorted, rows + middle, first);
+    memcpy(sorted + first, rows, middle);
+    for (size_t k = 0; k < 8; k++) {
+        offsets[8 + k] = (uint8_t)(first >> 8 * k);
+        offsets[16 + k] = (uint8_t)(end >> 8 * k);
+    }
+    station_look_up(LIST, sizeof LIST, 1, rows, 5, 2, sorted, end, offsets, sizeof offsets, answer, sizeof answer);
+    if (!done("look_up", answer)) return 0;
+    printf("plate 7: from row %" PRIu64 " up to row %" PRIu64 "\n", number(answer, 1), number(answer, 2));
+    return 1;
 }
 
 /* The list is read once; its descriptions stand for it in every call that follows. Answers whether rows and sheet are those
@@ -79,6 +97,7 @@ int main(void) {
     if (!done("decode", answer)) return 1;
     int same = number(answer, 1) == sizeof SHEET && memcmp(sheet, SHEET, sizeof SHEET) == 0;
     printf("decoded: %s\n", same ? "the same sheet" : "another sheet");
+    if (!look_up(rows, middle, end)) return 1;
     int alike = read_once(rows, end);
     printf("with the list read once: %s\n", alike ? "the same rows and sheet" : "other bytes");
     return same && alike ? 0 : 1;

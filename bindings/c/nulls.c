@@ -86,6 +86,17 @@ int main(void) {
     station_encode_read(NULL, 0, 0, NULL, 0, NULL, 0, NULL, 0, NULL, 0);
     station_decode_read(NULL, 0, 0, NULL, 0, NULL, 0, NULL, 0, NULL, 0);
 
+    station_look_up(NULL, 0, 1, NULL, 0, 0, NULL, 0, NULL, 0, answer, sizeof answer);
+    hold("look_up of nothing", 1, 0, 0);
+    station_look_up(LIST, sizeof LIST, 0, NULL, 0, 0, NULL, 0, NULL, 0, answer, sizeof answer);
+    hold("look_up of no key", 31, 0, 0);
+    station_look_up(LIST, sizeof LIST, 1, NULL, 0, 0, NULL, 0, NULL, 0, answer, sizeof answer);
+    hold("look_up of a key that is cut", 16, 0, 0);
+    station_look_up_read(DESCRIPTION, sizeof DESCRIPTION, 1, zero + 6, 0, 0, NULL, 0, NULL, 0, answer, sizeof answer);
+    hold("look_up_read of a key that is cut", 16, 0, 0);
+    station_look_up(NULL, 0, 0, NULL, 0, 0, NULL, 0, NULL, 0, NULL, 0);
+    station_look_up_read(NULL, 0, 0, NULL, 0, 0, NULL, 0, NULL, 0, NULL, 0);
+
     station_join(0, NULL, 0, NULL, 0, 0, NULL, 0, NULL, 0, NULL, 0, answer, sizeof answer);
     hold("join of nothing", 14, 1, 0);
     station_join(0, NULL, 0, zero, sizeof zero, 0, NULL, 0, zero, sizeof zero, NULL, 0, answer, sizeof answer);

@@ -1,5 +1,5 @@
 //! Calls of the C entries with any bytes, and what document 01 says that they leave behind; of lists
-//! that are read once and of the join, document 02.
+//! that are read once, of the join and of the look-up, document 02.
 
 use crate::columns::{descriptions_of, Column};
 use crate::hex::hex_start;
@@ -9,6 +9,19 @@ use crate::trap;
 use crate::yard::{Lend, Yard};
 use station::raw;
 use std::fmt;
+
+/// An argument of an entry, by name: a number, a slice that is read, a slice that is written to.
+enum Argument {
+    Number(&'static str),
+    Read(&'static str),
+    Written(&'static str),
+}
+
+use Argument::{Number, Read, Written};
+
+const N: Argument = Number("n");
+const LIST: Argument = Read("list");
+const DESCRIPTIONS: Argument = Read("descriptions");
 
 /// The C entries.
 #[derive(Clone, Copy, Debug, PartialEq, Eq)]
@@ -21,11 +34,13 @@ pub enum Entry {
     EncodeRead,
     Decode,
     DecodeRead,
+    LookUp,
+    LookUpRead,
     Join,
     Compare,
 }
 
-pub const ENTRIES: [Entry; 10] = [
+pub const ENTRIES: [Entry; 12] = [
     Entry::CheckList,
     Entry::ReadList,
     Entry::Measure,
@@ -34,6 +49,8 @@ pub const ENTRIES: [Entry; 10] = [
     Entry::EncodeRead,
     Entry::Decode,
     Entry::DecodeRead,
+    Entry::LookUp,
+    Entry::LookUpRead,
     Entry::Join,
     Entry::Compare,
 ];
@@ -49,6 +66,8 @@ impl Entry {
             Entry::EncodeRead => "encode_read",
             Entry::Decode => "decode",
             Entry::DecodeRead => "decode_read",
+            Entry::LookUp => "look_up",
+            Entry::LookUpRead => "look_up_read",
             Entry::Join => "join",
             Entry::Compare => "compare",
         }
@@ -65,24 +84,51 @@ impl Entry {
             Entry::EncodeRead => raw::station_encode_read as *const (),
             Entry::Decode => raw::station_decode as *const (),
             Entry::DecodeRead => raw::station_decode_read as *const (),
+            Entry::LookUp => raw::station_look_up as *const (),
+            Entry::LookUpRead => raw::station_look_up_read as *const (),
             Entry::Join => raw::station_join as *const (),
             Entry::Compare => raw::station_compare as *const (),
         }
     }
 
-    /// The names of the slices that the entry reads, and of those that it writes to.
-    fn arguments(self) -> (&'static [&'static str], &'static [&'static str]) {
-        match self {
-            Entry::CheckList => (&["list"], &[]),
-            Entry::ReadList => (&["list"], &["descriptions"]),
-            Entry::Measure => (&["list", "sheet"], &[]),
-            Entry::MeasureRead => (&["descriptions", "sheet"], &[]),
-            Entry::Encode => (&["list", "sheet"], &["rows", "offsets"]),
-            Entry::EncodeRead => (&["descriptions", "sheet"], &["rows", "offsets"]),
-            Entry::Decode => (&["list", "rows", "offsets"], &["sheet"]),
-            Entry::DecodeRead => (&["descriptions", "rows", "offsets"], &["sheet"]),
-            Entry::Join => (&["rows0", "offsets0", "rows1", "offsets1"], &["order"]),
-            Entry::Compare => (&["a", "b"], &[]),
+    /// What the entry is given, in its order; all but compare then take an answer.
+    fn arguments(self) -> Vec<Argument> {
+        let columns = match self.listed() == self {
+            true => LIST,
+            false => DESCRIPTIONS,
+        };
+        match self.listed() {
+            Entry::CheckList => vec![LIST],
+            Entry::ReadList => vec![LIST, Written("descriptions")],
+            Entry::Measure => vec![columns, N, Read("sheet")],
+            Entry::Encode => {
+                let lent = [Written("rows"), Written("offsets")];
+                [columns, N, Read("sheet")]
+                    .into_iter()
+                    .chain(lent)
+                    .collect()
+            }
+            Entry::Decode => {
+                let rows = [Read("rows"), Read("offsets"), Written("sheet")];
+                [columns, N].into_iter().chain(rows).collect()
+            }
+            Entry::LookUp => {
+                let rows = [N, Read("rows"), Read("offsets")];
+                [columns, Number("k"), Read("key")]
+                    .into_iter()
+                    .chain(rows)
+                    .collect()
+            }
+            Entry::Join => vec![
+                Number("n0"),
+                Read("rows0"),
+                Read("offsets0"),
+                Number("n1"),
+                Read("rows1"),
+                Read("offsets1"),
+                Written("order"),
+            ],
+            _ => vec![Read("a"), Read("b")],
         }
     }
 
@@ -92,6 +138,7 @@ impl Entry {
             Entry::Measure => Some(Entry::MeasureRead),
             Entry::Encode => Some(Entry::EncodeRead),
             Entry::Decode => Some(Entry::DecodeRead),
+            Entry::LookUp => Some(Entry::LookUpRead),
             _ => None,
         }
     }
@@ -111,14 +158,13 @@ impl Entry {
     }
 }
 
-/// One call: the slices that are read, in the order of the entry, and the lengths of those that are
-/// lent for writing. What these hold at first is [`junk`].
+/// One call: the numbers, the slices that are read, and the lengths of those that are lent for writing,
+/// each in the order of the entry. What is lent for writing holds [`junk`] at first.
 #[derive(Clone, Debug, PartialEq, Eq)]
 pub struct Call {
     pub entry: Entry,
-    pub n: u64,
-    /// The rows of the second pass, in a join.
-    pub n1: u64,
+    /// Counts of rows, and of columns.
+    pub numbers: Vec<u64>,
     pub given: Vec<Vec<u8>>,
     pub lent: Vec<usize>,
     pub answer: usize,
@@ -160,11 +206,10 @@ pub fn numbers(bytes: &[u8]) -> Vec<u64> {
 }
 
 impl Call {
-    fn new(entry: Entry, n: u64, given: &[&[u8]], lent: &[usize]) -> Call {
+    fn new(entry: Entry, numbers: &[u64], given: &[&[u8]], lent: &[usize]) -> Call {
         Call {
             entry,
-            n,
-            n1: 0,
+            numbers: numbers.to_vec(),
             given: given.iter().map(|bytes| bytes.to_vec()).collect(),
             lent: lent.to_vec(),
             answer: station::ANSWER_BYTES,
@@ -172,39 +217,47 @@ impl Call {
     }
 
     pub fn check_list(list: &[u8]) -> Call {
-        Call::new(Entry::CheckList, 0, &[list], &[])
+        Call::new(Entry::CheckList, &[], &[list], &[])
     }
 
     /// The room is bytes.
     pub fn read_list(list: &[u8], descriptions: usize) -> Call {
-        Call::new(Entry::ReadList, 0, &[list], &[descriptions])
+        Call::new(Entry::ReadList, &[], &[list], &[descriptions])
     }
 
     pub fn measure(list: &[u8], n: u64, sheet: &[u8]) -> Call {
-        Call::new(Entry::Measure, n, &[list, sheet], &[])
+        Call::new(Entry::Measure, &[n], &[list, sheet], &[])
     }
 
     /// The rooms are bytes, for offsets too.
     pub fn encode(list: &[u8], n: u64, sheet: &[u8], rows: usize, offsets: usize) -> Call {
-        Call::new(Entry::Encode, n, &[list, sheet], &[rows, offsets])
+        Call::new(Entry::Encode, &[n], &[list, sheet], &[rows, offsets])
     }
 
     /// The offsets are bytes.
     pub fn decode(list: &[u8], n: u64, rows: &[u8], offsets: &[u8], sheet: usize) -> Call {
-        Call::new(Entry::Decode, n, &[list, rows, offsets], &[sheet])
+        Call::new(Entry::Decode, &[n], &[list, rows, offsets], &[sheet])
+    }
+
+    /// The batch is its rows and their offsets in bytes.
+    pub fn look_up(list: &[u8], k: u64, key: &[u8], n: u64, batch: [&[u8]; 2]) -> Call {
+        let [rows, offsets] = batch;
+        Call::new(Entry::LookUp, &[k, n], &[list, key, rows, offsets], &[])
     }
 
     /// The passes in order, each its rows and their offsets; offsets and room are bytes.
     pub fn join(counts: [u64; 2], passes: [[&[u8]; 2]; 2], order: usize) -> Call {
-        let given = passes.concat();
-        Call {
-            n1: counts[1],
-            ..Call::new(Entry::Join, counts[0], &given, &[order])
-        }
+        Call::new(Entry::Join, &counts, &passes.concat(), &[order])
     }
 
     pub fn compare(a: &[u8], b: &[u8]) -> Call {
-        Call::new(Entry::Compare, 0, &[a, b], &[])
+        Call::new(Entry::Compare, &[], &[a, b], &[])
+    }
+
+    /// The same call with another number at a place.
+    pub fn with_number(mut self, i: usize, number: u64) -> Call {
+        self.numbers[i] = number;
+        self
     }
 
     /// The same call with these descriptions in place of its list, if the entry takes a list.
@@ -244,6 +297,7 @@ impl Call {
     /// What document 01 says: the numbers, and what is written in front of each lent slice.
     fn said(&self) -> Checked<(Numbers, Vec<Vec<u8>>)> {
         let given = |i: usize| self.given[i].as_slice();
+        let number = |i: usize| self.numbers[i];
         Ok(match self.entry {
             Entry::Compare => ([0; 4], vec![]),
             Entry::CheckList => {
@@ -257,13 +311,13 @@ impl Call {
             }
             Entry::Measure | Entry::MeasureRead => {
                 let columns = self.entry.columns(given(0))?;
-                let measured = model::measure_under(columns, self.n, given(1))?;
+                let measured = model::measure_under(columns, number(0), given(1))?;
                 ([0, measured.total, measured.nulls, 0], vec![])
             }
             Entry::Encode | Entry::EncodeRead => {
                 let (columns, sheet) = (self.entry.columns(given(0))?, given(1));
                 let rooms = (self.lent[0], self.lent[1] / 8);
-                let encoded = model::encode_under(columns, self.n, sheet, rooms.0, rooms.1)?;
+                let encoded = model::encode_under(columns, number(0), sheet, rooms.0, rooms.1)?;
                 let total = encoded.rows.len() as u64;
                 let written = vec![encoded.rows, eights(&encoded.offsets)];
                 ([0, total, encoded.nulls, 0], written)
@@ -271,14 +325,20 @@ impl Call {
             Entry::Decode | Entry::DecodeRead => {
                 let (columns, offsets) = (self.entry.columns(given(0))?, numbers(given(2)));
                 let (rows, room) = (given(1), self.lent[0]);
-                let decoded = model::decode_under(columns, self.n, rows, &offsets, room)?;
+                let decoded = model::decode_under(columns, number(0), rows, &offsets, room)?;
                 let total = decoded.sheet.len() as u64;
                 ([0, total, decoded.nulls, 0], vec![decoded.sheet])
             }
+            Entry::LookUp | Entry::LookUpRead => {
+                let (columns, offsets) = (self.entry.columns(given(0))?, numbers(given(3)));
+                let batch = (number(1), given(2), &offsets[..]);
+                let found = model::look_up(&columns, number(0), given(1), batch)?;
+                ([0, found.start as u64, found.end as u64, 0], vec![])
+            }
             Entry::Join => {
                 let offsets = [numbers(given(1)), numbers(given(3))];
-                let first = (self.n, given(0), &offsets[0][..]);
-                let second = (self.n1, given(2), &offsets[1][..]);
+                let first = (number(0), given(0), &offsets[0][..]);
+                let second = (number(1), given(2), &offsets[1][..]);
                 let order = model::join(first, second, self.lent[0] / 8)?;
                 ([0, order.len() as u64, 0, 0], vec![eights(&order)])
             }
@@ -349,31 +409,20 @@ impl Call {
         }
     }
 
-    /// The counts of rows that the entry takes, each with the slice that it stands in front of.
-    fn counts(&self) -> Vec<(usize, u64)> {
-        match self.entry {
-            Entry::CheckList | Entry::ReadList | Entry::Compare => vec![],
-            Entry::Join => vec![(0, self.n), (2, self.n1)],
-            _ => vec![(1, self.n)],
-        }
-    }
-
-    /// What the C entry is given: each slice as a pointer and a length, counts of rows between them,
-    /// the answer last. Words past its own it does not see.
+    /// What the C entry is given: numbers as they are, each slice as a pointer and a length, the answer
+    /// last. Words past its own it does not see.
     fn words(&self, given: &[Lend], lent: &[Lend], answer: Lend) -> [u64; WORDS] {
-        let mut slices: Vec<Lend> = [given, lent].concat();
+        let (mut numbers, mut given, mut lent) = (self.numbers.iter(), given.iter(), lent.iter());
+        let two = |slice: Lend| vec![slice.at as u64, slice.len as u64];
+        let arguments = self.entry.arguments().into_iter();
+        let words = arguments.map(|argument| match argument {
+            Number(_) => vec![*numbers.next().expect("a number")],
+            Read(_) => two(*given.next().expect("a slice to read")),
+            Written(_) => two(*lent.next().expect("a slice to write to")),
+        });
+        let mut words: Vec<u64> = words.flatten().collect();
         if self.entry != Entry::Compare {
-            slices.push(answer);
-        }
-        let (counts, mut words) = (self.counts(), Vec::new());
-        for (i, slice) in slices.iter().enumerate() {
-            words.extend(
-                counts
-                    .iter()
-                    .filter(|count| count.0 == i)
-                    .map(|count| count.1),
-            );
-            words.extend([slice.at as u64, slice.len as u64]);
+            words.extend(two(answer));
         }
         words.resize(WORDS, 0);
         words.try_into().expect("as many")
@@ -382,16 +431,21 @@ impl Call {
 
 impl fmt::Display for Call {
     fn fmt(&self, f: &mut fmt::Formatter<'_>) -> fmt::Result {
-        let (read, written) = self.entry.arguments();
-        write!(f, "{} n {}", self.entry.name(), self.n)?;
-        if self.entry == Entry::Join {
-            write!(f, " n1 {}", self.n1)?;
-        }
-        for (name, bytes) in read.iter().zip(&self.given) {
-            write!(f, " {name} {}", hex_start(bytes))?;
-        }
-        for (name, len) in written.iter().zip(&self.lent) {
-            write!(f, " room for {name} {len}")?;
+        let mut numbers = self.numbers.iter();
+        let (mut given, mut lent) = (self.given.iter(), self.lent.iter());
+        write!(f, "{}", self.entry.name())?;
+        for argument in self.entry.arguments() {
+            match argument {
+                Number(name) => write!(f, " {name} {}", numbers.next().expect("a number"))?,
+                Read(name) => {
+                    let bytes = given.next().expect("a slice to read");
+                    write!(f, " {name} {}", hex_start(bytes))?
+                }
+                Written(name) => {
+                    let room = lent.next().expect("a slice to write to");
+                    write!(f, " room for {name} {room}")?
+                }
+            }
         }
         write!(f, " room for the answer {}", self.answer)
     }

@@ -105,6 +105,15 @@ fn change_number(rng: &mut Rng, number: u64) -> u64 {
     }
 }
 
+/// One change to one of some numbers; of one number, no choice is drawn.
+fn change_one(rng: &mut Rng, numbers: &mut [u64]) {
+    let i = match numbers.len() {
+        1 => 0,
+        count => rng.below(count),
+    };
+    numbers[i] = change_number(rng, numbers[i]);
+}
+
 /// Room a little over or under what is needed, or far from it.
 fn change_room(rng: &mut Rng, room: usize) -> usize {
     match rng.below(4) {
@@ -137,7 +146,7 @@ pub fn encode(rng: &mut Rng, good: &Good) -> Call {
     for _ in 0..rng.pick(&[1, 1, 1, 2, 3]) {
         match rng.below(8) {
             0 => change(rng, &mut call.given[0]),
-            1 => call.n = change_number(rng, call.n),
+            1 => change_one(rng, &mut call.numbers),
             2 if !call.lent.is_empty() => {
                 let which = rng.below(2);
                 call.lent[which] = change_room(rng, call.lent[which]);
@@ -161,7 +170,7 @@ pub fn decode(rng: &mut Rng, good: &Good) -> Call {
     for _ in 0..rng.below(3) {
         match rng.below(8) {
             0 => change(rng, &mut call.given[0]),
-            1 => call.n = change_number(rng, call.n),
+            1 => change_one(rng, &mut call.numbers),
             2 => call.lent[0] = change_room(rng, call.lent[0]),
             3 if rng.once_in(4) => call.answer = rng.below(48),
             4 | 5 => change_offsets(rng, &mut call.given[2]),
@@ -188,13 +197,28 @@ pub fn read(rng: &mut Rng, good: &Good) -> Call {
     call
 }
 
+/// A call of a look-up, wrong in one way or more: of the list or the descriptions, the numbers, the
+/// key, the rows, the offsets.
+pub fn look_up(rng: &mut Rng, mut call: Call) -> Call {
+    for _ in 0..rng.pick(&[1, 1, 1, 2, 3]) {
+        match rng.below(10) {
+            0 => change(rng, &mut call.given[0]),
+            1 => change_one(rng, &mut call.numbers),
+            2 if rng.once_in(4) => call.answer = rng.below(48),
+            3..=5 => change(rng, &mut call.given[1]),
+            6 => change_offsets(rng, &mut call.given[3]),
+            _ => change(rng, &mut call.given[2]),
+        }
+    }
+    call
+}
+
 /// A call of join, wrong in one way or more.
 pub fn join(rng: &mut Rng, mut call: Call) -> Call {
     for _ in 0..rng.pick(&[1, 1, 1, 2, 3]) {
         let which = rng.below(2);
         match rng.below(8) {
-            0 if which == 0 => call.n = change_number(rng, call.n),
-            0 => call.n1 = change_number(rng, call.n1),
+            0 => change_one(rng, &mut call.numbers),
             1 => call.lent[0] = change_room(rng, call.lent[0]),
             2 if rng.once_in(4) => call.answer = rng.below(48),
             3 | 4 => change_offsets(rng, &mut call.given[2 * which + 1]),

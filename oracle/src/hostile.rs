@@ -4,6 +4,7 @@ use crate::call::{Call, Entry, ENTRIES};
 use crate::columns::descriptions_of;
 use crate::damage::{self, Good};
 use crate::joins;
+use crate::lookups;
 use crate::make;
 use crate::rng::Rng;
 
@@ -72,7 +73,12 @@ fn noisy(rng: &mut Rng, entry: Entry) -> Call {
             let offsets = some_offsets(rng, bytes.len());
             Call::decode(&list, n, &bytes, &offsets, room)
         }
-        Entry::MeasureRead | Entry::EncodeRead | Entry::DecodeRead => {
+        Entry::LookUp => {
+            let (k, key) = (some_count(rng), noise(rng));
+            let offsets = some_offsets(rng, bytes.len());
+            Call::look_up(&list, k, &key, n, [&bytes, &offsets])
+        }
+        Entry::MeasureRead | Entry::EncodeRead | Entry::DecodeRead | Entry::LookUpRead => {
             let listed = noisy(rng, entry.listed());
             let descriptions = some_descriptions(rng);
             listed.under(&descriptions).expect("an entry with a list")
@@ -122,6 +128,17 @@ pub fn call_among(rng: &mut Rng, entries: &[Entry]) -> Call {
         {
             let good = some_good(rng);
             damage::read(rng, &good)
+        }
+        Entry::LookUp | Entry::LookUpRead if !rng.once_in(4) => {
+            let good = lookups::some_look_up(rng);
+            let good = match entry {
+                Entry::LookUp => good,
+                _ => good.read().expect("a list that can be read"),
+            };
+            match rng.once_in(4) {
+                true => good,
+                false => damage::look_up(rng, good),
+            }
         }
         Entry::Join if !rng.once_in(4) => {
             let good = joins::join(&joins::some_passes(rng));

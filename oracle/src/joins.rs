@@ -187,10 +187,7 @@ fn with_later_faults(judge: &mut Judge, call: &Call, which: usize) {
     short.lent[0] = short.lent[0].saturating_sub(8);
     judge.call(short);
     if which == 0 {
-        judge.call(Call {
-            n1: 4097,
-            ..call.clone()
-        });
+        judge.call(call.clone().with_number(1, 4097));
         let mut cut = call.clone();
         cut.given[3].clear();
         judge.call(cut);
@@ -214,13 +211,7 @@ fn out_of_order(judge: &mut Judge, passes: &Passes, which: usize) {
 fn offsets(judge: &mut Judge, passes: &Passes, which: usize) {
     let (good, slot) = (join(passes), 2 * which + 1);
     for n in [MAX_ROWS, MAX_ROWS + 1, u64::MAX] {
-        let call = match which {
-            0 => Call { n, ..good.clone() },
-            _ => Call {
-                n1: n,
-                ..good.clone()
-            },
-        };
+        let call = good.clone().with_number(which, n);
         with_later_faults(judge, &call, which);
     }
     let rows = good.given[2 * which].len() as u64;

@@ -12,8 +12,8 @@ use crate::yard::Yard;
 use std::process::ExitCode;
 use std::time::{Duration, Instant};
 
-/// The numbers that an entry may answer with: 0, and refusals 1 to 24 and 26 to 29.
-const ANSWERS: usize = 30;
+/// The numbers that an entry may answer with: 0, and refusals 1 to 24, 26 to 29 and 31.
+const ANSWERS: usize = 32;
 /// Of so many calls under a list that can be read, one is made again under its descriptions.
 const READ_AGAIN: u64 = 4;
 /// Pairs of rows that are compared in each table.

@@ -13,6 +13,7 @@ pub mod hex;
 pub mod hostile;
 pub mod joins;
 pub mod judge;
+pub mod lookups;
 pub mod make;
 pub mod misreads;
 pub mod model;

@@ -1,11 +1,12 @@
 //! Document 01 as a plain program, written from the document: slow, and easy to hold against it. The
-//! descriptions and the join are document 02's.
+//! descriptions, the look-up and the join are document 02's.
 
 use crate::columns::{
     value_bytes, Column, BOOL, DAY_TIME, FIXED_BINARY, FLOATS, I128, I256, KINDS, MONTH_DAY_NANO,
     VARIABLE,
 };
 use crate::table::{Slot, Table};
+use std::ops::Range;
 
 pub const MAX_COLUMNS: usize = 64;
 pub const MAX_ROWS: u64 = 4096;
@@ -625,16 +626,28 @@ pub fn decode_under(
 /// A pass as it is lent: the count of its rows, the rows, their offsets.
 pub type Pass<'a> = (u64, &'a [u8], &'a [u64]);
 
-/// The rows of a pass: 6, 14, 15, 12, 26 (the pass, the first row below its predecessor).
-fn read_pass<'a>(pass: u64, (n, rows, offsets): Pass<'a>) -> Checked<Vec<&'a [u8]>> {
+/// The rows between offsets: 6, 14, 15, 12.
+fn cut_rows<'a>((n, rows, offsets): Pass<'a>) -> Checked<Vec<&'a [u8]>> {
     refuse_if(n > MAX_ROWS, [6, n, 0])?;
     let n = n as usize;
     check_offsets(n, rows, offsets)?;
     let row = |r: usize| &rows[offsets[r] as usize..offsets[r + 1] as usize];
-    for r in 1..n {
-        refuse_if(row(r) < row(r - 1), [26, pass, r as u64])?;
-    }
     Ok((0..n).map(row).collect())
+}
+
+/// 26: the pass, the first row below its predecessor.
+fn check_order(pass: u64, rows: &[&[u8]]) -> Checked<()> {
+    for r in 1..rows.len() {
+        refuse_if(rows[r] < rows[r - 1], [26, pass, r as u64])?;
+    }
+    Ok(())
+}
+
+/// The rows of a pass: 6, 14, 15, 12, 26.
+fn read_pass<'a>(pass: u64, batch: Pass<'a>) -> Checked<Vec<&'a [u8]>> {
+    let rows = cut_rows(batch)?;
+    check_order(pass, &rows)?;
+    Ok(rows)
 }
 
 /// Pass 0, pass 1, then the list, 14 (rows of both, 0). Each entry is 4,096 times the pass plus the
@@ -648,6 +661,31 @@ pub fn join(first: Pass, second: Pass, room: usize) -> Checked<Vec<u64>> {
     // A stable sort: what is equal keeps its order.
     order.sort_by_key(|entry| rows[(entry / 4096) as usize][(entry % 4096) as usize]);
     Ok(order)
+}
+
+// ---- look up
+
+/// The rows that begin with a key, the fields of the first k columns, in a sorted batch; where none
+/// does, where the first row greater than the key stands. After the list: 31 (k, 0) for a k of 0 or
+/// past the columns; the key as row 0 of the first k columns; 6, 14, 15, 12, row faults, 26 (0, row).
+pub fn look_up(columns: &[Column], k: u64, key: &[u8], batch: Pass) -> Checked<Range<usize>> {
+    refuse_if(k == 0 || k > columns.len() as u64, [31, k, 0])?;
+    read_row(&columns[..k as usize], 0, key)?;
+    let rows = cut_rows(batch)?;
+    for (r, row) in rows.iter().enumerate() {
+        read_row(columns, r, row)?;
+    }
+    check_order(0, &rows)?;
+    let begins = |row: &&[u8]| row.starts_with(key);
+    let last = rows.iter().rposition(begins);
+    Ok(match (rows.iter().position(begins), last) {
+        (Some(first), Some(last)) => first..last + 1,
+        _ => {
+            let above = rows.iter().position(|row| *row > key);
+            let place = above.unwrap_or(rows.len());
+            place..place
+        }
+    })
 }
 
 #[cfg(test)]
@@ -813,6 +851,30 @@ mod tests {
         assert_eq!(read(&block(0, !4)), [21, 1, 1, 7]);
         assert_eq!(read(&block(0, 0)), [16, 1, 1, 12]);
     }
+
+    #[test]
+    fn a_key_is_looked_up() {
+        let columns = read_list(&[6, 2, 16, 2]).unwrap();
+        let rows: &[u8] = &[1, 5, 0, 1, 5, 1, 1, 7, 1];
+        let batch: Pass = (3, rows, &[0, 3, 6, 9]);
+        let found = |k, key: &[u8]| look_up(&columns, k, key, batch);
+        assert_eq!(found(1, &[1, 5]), Ok(0..2));
+        assert_eq!(found(2, &[1, 5, 1]), Ok(1..2));
+        assert_eq!(found(1, &[1, 6]), Ok(2..2));
+        assert_eq!(found(1, &[0, 0]), Ok(0..0));
+        assert_eq!(found(1, &[1, 8]), Ok(3..3));
+        assert_eq!(refused(found(0, &[])), [31, 0, 0]);
+        assert_eq!(refused(found(3, &[])), [31, 3, 0]);
+        assert_eq!(refused_row(found(1, &[1])), [16, 0, 0, 1]);
+        assert_eq!(refused_row(found(1, &[1, 5, 1])), [22, 0, 1, 2]);
+        let under = |batch: Pass| refused_row(look_up(&columns, 1, &[1, 5], batch));
+        assert_eq!(under((4097, b"", &[])), [6, 4097, 0, 0]);
+        assert_eq!(under((2, &rows[3..], &[0, 3])), [14, 3, 0, 0]);
+        let swapped: &[u8] = &[1, 7, 1, 1, 5, 9];
+        assert_eq!(under((2, swapped, &[0, 3, 6])), [17, 1, 1, 2]);
+        assert_eq!(under((2, &[1, 7, 1, 1, 5, 1], &[0, 3, 6])), [26, 0, 1, 0]);
+    }
+
     #[test]
     fn a_join_checks_its_passes_in_order() {
         let ends: &[u64] = &[0, 1, 2];

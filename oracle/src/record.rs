@@ -37,9 +37,13 @@ impl Case {
         };
         let mut counts = Vec::new();
         match call.entry {
-            Entry::Encode => counts.extend([call.n, call.lent[0] as u64, call.lent[1] as u64 / 8]),
+            Entry::Encode => counts.extend([
+                call.numbers[0],
+                call.lent[0] as u64,
+                call.lent[1] as u64 / 8,
+            ]),
             Entry::Decode => {
-                counts.extend([call.n, call.lent[0] as u64]);
+                counts.extend([call.numbers[0], call.lent[0] as u64]);
                 counts.extend(numbers(&call.given[2]));
             }
             _ => {}
@@ -65,13 +69,15 @@ impl Case {
                 let rows = vec![FILL; call.lent[0]];
                 let offsets = vec![OFFSET_FILL; call.lent[1] / 8];
                 let (list, sheet) = (&call.given[0], &call.given[1]);
-                let encoded = model::encode(list, call.n, sheet, rows.len(), offsets.len());
-                let decoded = model::decode(list, call.n, &rows, &offsets, sheet.len());
+                let n = call.numbers[0];
+                let encoded = model::encode(list, n, sheet, rows.len(), offsets.len());
+                let decoded = model::decode(list, n, &rows, &offsets, sheet.len());
                 encode_line(call, &encoded, &decoded)
             }
             Case::Call(call) if call.entry == Entry::Decode => {
                 let (list, rows, offsets) = (&call.given[0], &call.given[1], &call.given[2]);
-                let decoded = model::decode(list, call.n, rows, &numbers(offsets), call.lent[0]);
+                let (n, offsets) = (call.numbers[0], numbers(offsets));
+                let decoded = model::decode(list, n, rows, &offsets, call.lent[0]);
                 decode_words("decode", &decoded, call.lent[0])
             }
             Case::Call(call) => format!("compare {}", call.expected().sign),
@@ -120,7 +126,7 @@ fn decoded_by_crate(table: &Table) -> Decoded {
 fn encode_line(call: &Call, encoded: &Checked<Encoded>, decoded: &Checked<Decoded>) -> String {
     let (list, sheet) = (&call.given[0], &call.given[1]);
     let columns = model::read_list(list).map(|columns| [0, columns.len() as u64, 0, 0]);
-    let measured = model::measure(list, call.n, sheet);
+    let measured = model::measure(list, call.numbers[0], sheet);
     let measured = measured.map(|measured| [0, measured.total, measured.nulls, 0]);
     [
         words("list", &columns),

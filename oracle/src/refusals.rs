@@ -7,6 +7,7 @@ use crate::damage::{self, Good};
 use crate::document::one_slot_each;
 use crate::joins::join;
 use crate::judge::Judge;
+use crate::lookups;
 use crate::make::{self, Nulls};
 use crate::model::MAX_COLUMNS;
 use crate::rng::Rng;
@@ -211,8 +212,8 @@ pub fn rooms(judge: &mut Judge, rng: &mut Rng) {
         }
         for n in [4096, 4097, u64::MAX] {
             judge.call(Call::measure(&good.list, n, &good.sheet));
-            judge.call(Call { n, ..good.encode() });
-            judge.call(Call { n, ..good.decode() });
+            judge.call(good.encode().with_number(0, n));
+            judge.call(good.decode().with_number(0, n));
         }
     }
 }
@@ -228,6 +229,7 @@ pub fn empty(judge: &mut Judge) {
         good.encode(),
         good.decode(),
         Call::read_list(&good.list, 4),
+        lookups::look_up(&good, 1, good.row(0)),
         join(&[vec![b"a".to_vec(), b"b".to_vec()], vec![b"a".to_vec()]]),
         Call::compare(good.row(0), good.row(1)),
         // No rows: nothing is refused, though slices are empty.

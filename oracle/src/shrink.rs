@@ -109,11 +109,10 @@ fn slot_steps(table: &Table) -> Vec<Step<Table>> {
 /// Fewer rows, fewer bytes read, fewer bits set in them, less room.
 fn call_steps(call: &Call) -> Vec<Step<Call>> {
     let mut steps: Vec<Step<Call>> = Vec::new();
-    for n in [0, 1, call.n / 2, call.n.saturating_sub(1)] {
-        steps.push(Box::new(move |call| call.n = n.min(call.n)));
-    }
-    for n in [0, 1, call.n1 / 2, call.n1.saturating_sub(1)] {
-        steps.push(Box::new(move |call| call.n1 = n.min(call.n1)));
+    for (i, number) in call.numbers.iter().copied().enumerate() {
+        for less in [0, 1, number / 2, number.saturating_sub(1)] {
+            steps.push(Box::new(move |call| call.numbers[i] = less.min(number)));
+        }
     }
     for (i, bytes) in call.given.iter().enumerate() {
         for part in parts(bytes.len()) {
@@ -161,6 +160,9 @@ mod tests {
     fn a_call_shrinks_to_what_fails() {
         let call = Call::measure(&[5; 90], 1000, &[7; 300]);
         let small = shrunk_call(call, |call| call.given[1].contains(&7));
-        assert_eq!((small.n, small.given), (0, vec![vec![], vec![7]]));
+        assert_eq!(
+            (small.numbers, small.given),
+            (vec![0], vec![vec![], vec![7]])
+        );
     }
 }

@@ -46,6 +46,8 @@ ENTRIES = {
     "station_encode_read": (None, _SLICE + _NUMBER + _SLICE * 4),
     "station_decode": (None, _SLICE + _NUMBER + _SLICE * 4),
     "station_decode_read": (None, _SLICE + _NUMBER + _SLICE * 4),
+    "station_look_up": (None, _SLICE + _NUMBER + _SLICE + _NUMBER + _SLICE * 3),
+    "station_look_up_read": (None, _SLICE + _NUMBER + _SLICE + _NUMBER + _SLICE * 3),
     "station_join": (None, (_NUMBER + _SLICE * 2) * 2 + _SLICE * 2),
     "station_compare": (ctypes.c_int32, _SLICE * 2),
 }

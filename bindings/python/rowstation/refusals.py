@@ -47,6 +47,7 @@ REASONS = {
     27: Reason("column {second} is required, and null in row {third}", "column", "row"),
     28: Reason("row {second}, column {third}, byte {fourth}: the float is not folded", "row", "column", "byte"),
     29: Reason("the list of descriptions is too short for {second} columns", "columns"),
+    31: Reason("a key of {second} columns, of none or of more than there are", "columns"),
 }
 
 #: Answers that this package acts on itself.

@@ -185,7 +185,8 @@ class Rows:
     def look_up(self, *values: Any) -> range:
         """Which rows begin with these values, as many as are given. The rows must be in order.
 
-        Where no row does, the range is empty, and stands where such rows would.
+        Where no row does, the range is empty, and stands where such rows would. Up to 4,096 rows the station looks them up, and checks
+        every row; in more of them only the order is checked, and once.
 
         >>> schema = Schema("plate:u32,glyph:text")
         >>> rows = encode(schema, {"plate": [7, 7, 9], "glyph": ["a", "b", "a"]})
@@ -194,9 +195,12 @@ class Rows:
         >>> rows[rows.look_up(7)].decode()["glyph"].tolist()
         ['a', 'b']
         """
+        begins = key(self.schema, *values)
+        if _fits(self):
+            return _found(self, len(values), begins)
         if self._first_below() < len(self):
             raise OutOfOrder(self._first_below())
-        return _look_up(self, key(self.schema, *values))
+        return _look_up(self, begins)
 
 
 class Join:
@@ -297,6 +301,18 @@ def _merged(first: Rows, second: Rows, both: Rows, in_order: bool) -> Tuple[np.n
         if rows._in_order < len(rows):
             raise OutOfOrder(rows._in_order, which)
     return order, same
+
+
+def _found(rows: Rows, k: int, begins: bytes) -> range:
+    """The rows that begin so, as the station finds them in a batch that one call takes."""
+    batch = rows._whole()
+    try:
+        first, end, _ = library.answer("station_look_up_read", rows.schema.read, k, np.frombuffer(begins, np.uint8), len(rows), *batch)
+    except Refused as refusal:
+        if refusal.number != OUT_OF_ORDER:
+            raise
+        raise OutOfOrder(refusal.third) from None
+    return range(first, end)
 
 
 def _look_up(rows: Rows, begins: bytes) -> range:

@@ -270,6 +270,26 @@ class Joins(unittest.TestCase):
                     key = station.key(schema, *wanted)
                     self.assertEqual(found.start, sum(row < key for row in rows))
 
+    def test_look_up_in_few_rows_and_many(self):
+        """Up to 4,096 rows the station looks a key up, and else this package does: both find the same, and say what is wrong."""
+        schema = station.Schema("plate:u16,contour:u8")
+        for count in (0, 1, 4096, 4097, 9000):
+            rows = station.encode(schema, [np.arange(count) // 3, np.arange(count) % 3])
+            with mock.patch.object(library, "answer", wraps=library.answer) as answer:
+                found = [rows.look_up(plate) for plate in (0, 7, count // 3, 5000)]
+            entries = [call.args[0] for call in answer.mock_calls]
+            self.assertEqual("station_look_up_read" in entries, count <= 4096)
+            scanned = [[i for i in range(count) if i // 3 == plate] for plate in (0, 7, count // 3, 5000)]
+            self.assertEqual([list(rows) for rows in found], scanned)
+            if count > 1:
+                with self.assertRaises(station.OutOfOrder) as caught:
+                    rows[::-1].look_up(0)
+                self.assertEqual(caught.exception.numbers, (26, 0, 1, 0))
+        damaged = station.Rows.of(schema, [b"\1\0\7\1\1", b"\1\0\7\3\1"])
+        with self.assertRaises(station.Refused) as caught:
+            damaged.look_up(7)
+        self.assertEqual(caught.exception.numbers, (17, 1, 1, 3))
+
     def test_look_up_says_what_is_wrong(self):
         rows = station.encode(self.schema, [[2, 1], ["a", "a"]])
         with self.assertRaises(station.OutOfOrder):

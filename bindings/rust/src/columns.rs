@@ -1,6 +1,7 @@
 //! Column lists that are read once, for many sheets under one list.
 
-use crate::{answered, decoded, encoded, raw, read_list, Answer, Refusal, Rows};
+use crate::{answered, decoded, encoded, found, raw, read_list, Answer, Refusal, Rows};
+use std::ops::Range;
 
 /// The most columns of a list.
 const MOST: usize = 64;
@@ -152,6 +153,35 @@ impl Columns {
                 a.len(),
             )
         })
+    }
+
+    /// As [`look_up`](crate::look_up).
+    pub fn look_up(
+        &self,
+        k: u64,
+        key: &[u8],
+        n: u64,
+        rows: &[u8],
+        offsets: &[u64],
+    ) -> Result<Range<usize>, Refusal> {
+        let (at, len) = self.lent();
+        // SAFETY: as in `encode`.
+        found(answered(|a| unsafe {
+            raw::station_look_up_read(
+                at,
+                len,
+                k,
+                key.as_ptr(),
+                key.len(),
+                n,
+                rows.as_ptr(),
+                rows.len(),
+                offsets.as_ptr().cast(),
+                size_of_val(offsets),
+                a.as_mut_ptr(),
+                a.len(),
+            )
+        }))
     }
 
     /// As [`encode_to_vec`](crate::encode_to_vec).

@@ -31,6 +31,7 @@ mod refusal;
 pub use columns::{Columns, Description};
 pub use refusal::Refusal;
 use std::cmp::Ordering;
+use std::ops::Range;
 
 /// The C entries as they stand in the archive, for callers that lend bytes themselves.
 ///
@@ -130,6 +131,36 @@ pub mod raw {
             offsets_len: usize,
             sheet: *mut u8,
             sheet_len: usize,
+            answer: *mut u8,
+            answer_len: usize,
+        );
+        /// Looks a key up in a sorted batch.
+        pub fn station_look_up(
+            list: *const u8,
+            list_len: usize,
+            k: u64,
+            key: *const u8,
+            key_len: usize,
+            n: u64,
+            rows: *const u8,
+            rows_len: usize,
+            offsets: *const u8,
+            offsets_len: usize,
+            answer: *mut u8,
+            answer_len: usize,
+        );
+        /// The same under descriptions.
+        pub fn station_look_up_read(
+            descriptions: *const u8,
+            descriptions_len: usize,
+            k: u64,
+            key: *const u8,
+            key_len: usize,
+            n: u64,
+            rows: *const u8,
+            rows_len: usize,
+            offsets: *const u8,
+            offsets_len: usize,
             answer: *mut u8,
             answer_len: usize,
         );
@@ -414,6 +445,52 @@ pub fn decode(list: &[u8], n: u64, rows: &[u8], offsets: &[u64], sheet: &mut [u8
             a.len(),
         )
     })
+}
+
+/// Looks a key up, the fields of the first `k` columns as bytes, in a batch whose rows are sorted: the
+/// rows that begin with it, or where none does an empty range that stands where such rows would.
+///
+/// ```
+/// // Contour (u8) and glyph name (variable bytes): 5 null, 5 "", 7 "".
+/// let (list, rows) = ([6, 2, 16, 2], [1, 5, 0, 1, 5, 1, 1, 7, 1]);
+/// let found = |k, key: &[u8]| station::look_up(&list, k, key, 3, &rows, &[0, 3, 6, 9]);
+/// assert_eq!(found(1, &[1, 5])?, 0..2);
+/// assert_eq!(found(2, &[1, 5, 1])?, 1..2);
+/// assert_eq!(found(1, &[1, 6])?, 2..2);
+/// assert_eq!(found(3, &[1, 6]).unwrap_err().number, 31);
+/// # Ok::<(), station::Refusal>(())
+/// ```
+pub fn look_up(
+    list: &[u8],
+    k: u64,
+    key: &[u8],
+    n: u64,
+    rows: &[u8],
+    offsets: &[u64],
+) -> Result<Range<usize>, Refusal> {
+    // SAFETY: as in `encode`.
+    found(answered(|a| unsafe {
+        raw::station_look_up(
+            list.as_ptr(),
+            list.len(),
+            k,
+            key.as_ptr(),
+            key.len(),
+            n,
+            rows.as_ptr(),
+            rows.len(),
+            offsets.as_ptr().cast(),
+            size_of_val(offsets),
+            a.as_mut_ptr(),
+            a.len(),
+        )
+    }))
+}
+
+/// The rows of an answer to a look-up: the first, and one past the last, both at most 4,096.
+fn found(answer: Answer) -> Result<Range<usize>, Refusal> {
+    let Done { total, nulls } = answer?;
+    Ok(total as usize..nulls as usize)
 }
 
 /// Writes the joined order of two sorted passes to the front of `order`, an entry a row: 4,096 times

@@ -9,7 +9,7 @@ use std::fmt;
 /// `Display` gives the four numbers and what they mean.
 #[derive(Clone, Copy, Debug, PartialEq, Eq, Hash)]
 pub struct Refusal {
-    /// The reason, 1 to 24 or 26 to 29.
+    /// The reason, 1 to 24, 26 to 29 or 31.
     pub number: u64,
     /// The first number that goes with it.
     pub second: u64,
@@ -76,6 +76,7 @@ impl fmt::Display for Refusal {
             ),
             27 => write!(f, "column {a} is required, and null in row {b}"),
             29 => write!(f, "the list of descriptions is too short for {a} columns"),
+            31 => write!(f, "a key of {a} columns, of none or of more than there are"),
             _ => write!(
                 f,
                 "row {a}, column {b}, byte {place}: {}",

@@ -193,8 +193,59 @@ fn what_no_reading_makes_is_refused_by_its_index() {
 }
 
 #[test]
+fn a_key_is_looked_up_as_a_scan_finds_it() {
+    // Plates 0 to 9, some of them more often than others, and a bool; the keys of plates 0 to 10.
+    let list = [kind::U8, 2, kind::BOOL, 2];
+    let plates: Vec<u8> = (0..60u32).map(|i| (i * i % 10) as u8).collect();
+    let validity = [&[0xFF; 7][..], &[0x0F]].concat();
+    let sheet = [&validity[..], &plates, &validity, &[0; 8]].concat();
+    let rows = encode_to_vec(&list, 60, &sheet).unwrap();
+    let rows = sorted(rows.iter().map(<[u8]>::to_vec).collect());
+    let columns = Columns::read(&list).unwrap();
+    for plate in 0..=10 {
+        let key = [1, plate];
+        let of = |row: &&[u8]| row.starts_with(&key);
+        let below = rows.iter().filter(|row| *row < &key[..]).count();
+        let scanned = below..below + rows.iter().filter(of).count();
+        let (bytes, offsets) = (&rows.bytes, &rows.offsets);
+        assert_eq!(
+            look_up(&list, 1, &key, 60, bytes, offsets),
+            Ok(scanned.clone())
+        );
+        assert_eq!(columns.look_up(1, &key, 60, bytes, offsets), Ok(scanned));
+    }
+}
+
+#[test]
+fn a_look_up_refuses_in_its_order() {
+    let list = [kind::U8, 2, kind::U8, 2];
+    let check = |list: &[u8], k, key: &[u8], n, rows: &[u8], offsets: &[u64]| {
+        look_up(list, k, key, n, rows, offsets).map(|_| Done { total: 0, nulls: 0 })
+    };
+    assert_eq!(check(&[6], 0, &[], 4097, &[], &[]), refused(1, 0, 0));
+    assert_eq!(check(&list, 0, &[], 4097, &[], &[]), refused(31, 0, 0));
+    assert_eq!(check(&list, 3, &[], 4097, &[], &[]), refused(31, 3, 0));
+    assert_eq!(
+        check(&list, 1, &[1], 4097, &[], &[]),
+        refused_at(16, 0, 0, 1)
+    );
+    let long = check(&list, 1, &[1, 5, 1], 4097, &[], &[]);
+    assert_eq!(long, refused_at(22, 0, 1, 2));
+    assert_eq!(
+        check(&list, 1, &[1, 5], 4097, &[], &[]),
+        refused(6, 4097, 0)
+    );
+    assert_eq!(check(&list, 1, &[1, 5], 1, &[], &[0]), refused(14, 2, 0));
+    assert_eq!(check(&list, 1, &[1, 5], 1, &[], &[0, 4]), refused(15, 1, 0));
+    let cut = check(&list, 1, &[1, 5], 1, &[1, 5], &[0, 2]);
+    assert_eq!(cut, refused_at(16, 0, 1, 2));
+    let fallen = check(&list, 1, &[1, 5], 2, &[1, 5, 1, 6, 1, 5, 1, 5], &[0, 4, 8]);
+    assert_eq!(fallen, refused(26, 0, 1));
+}
+
+#[test]
 fn every_reason_reads_well() {
-    for number in (1..=24).chain(27..=29) {
+    for number in (1..=24).chain(27..=29).chain([31]) {
         let text = refused_at(number, 5, 6, 7).unwrap_err().to_string();
         assert!(text.starts_with(&format!("refused {number} 5 6 7: ")));
         assert!(!text.contains("unknown reason"), "{text}");

@@ -22,7 +22,8 @@ const GREATER: i32 = 1;
 // The bytes of a word.
 const WORD: usize = 8;
 
-fn least(n: usize, m: usize) -> usize
+// The lesser of two numbers.
+pub fn least(n: usize, m: usize) -> usize
     ensures { λ r. ⌜ Least n m r ⌝ }
 {
     if n < m { n } else { m }

@@ -11,16 +11,14 @@ use Rattle.format.specs.Described.{ColumnList, columns}
 use Rattle.format.specs.Order.{Begins, cmp}
 use Rattle.format.specs.Fits.{RowFits}
 use Rattle.format.specs.Row.{row}
-use Rattle.format.specs.Passed.{Cuts}
+use Rattle.format.specs.Passed.{Cuts, Lies}
 use Rattle.format.specs.Sheet.{sheetSlots}
 use Rattle.format.specs.Value.{rowOrder}
 use Rattle.format.specs.Entries.{sheetRows, encodeRows, encodeOffsets, rowBytes, sign, compareAnswer}
 use Rattle.laws.proofs.Sheets.{sheet-fits}
 use Rattle.laws.proofs.Turned.{rows-many}
-use Rattle.laws.proofs.Cuts.{written-cuts, written-row}
+use Rattle.laws.proofs.Cuts.{written-cuts, written-row, cuts-lie}
 use Rattle.laws.proofs.Accept.{encoded, encode-rows, encode-offsets}
-use Rattle.joiner.specs.Rows.{Lies}
-use Rattle.joiner.proofs.Passes.{cuts-lie}
 use Rattle.demands.specs.Order.{Batch, batchFault, rowIn, valuesIn}
 use Rattle.demands.proofs.RowOrder.{row-order, row-begins, row-begun}
 use Rattle.demands.proofs.OneRow.{row-injective}

@@ -7,7 +7,7 @@ use lib.IntN.{ℤ}
 use Rattle.format.specs.declared.Column.{Column}
 use Rattle.format.specs.declared.Answer.{Answer}
 use Rattle.format.specs.Described.{ColumnList}
-use Rattle.format.specs.Promises.{Joined, LentJoined}
+use Rattle.format.specs.Promises.{Joined, LookedUp, LentJoined, LentLookedUp}
 use Rattle.format.specs.Promises.{ListChecked, ListRead, Measured, Encoded, Decoded, Compared, LentListChecked, LentListRead, LentMeasured, LentEncoded, LentDecoded}
 use Rattle.laws.proofs.Numbers.{numbers-injective}
 
@@ -34,6 +34,10 @@ pub join-unique : {n₀ : ℕ} {rows₀ offsets₀ : List ℕ} {n₁ : ℕ} {row
     → Joined n₀ rows₀ offsets₀ n₁ rows₁ offsets₁ list r list₁ → Joined n₀ rows₀ offsets₀ n₁ rows₁ offsets₁ list r′ list₂
     → (r ≡ r′) × (list₁ ≡ list₂)
 join-unique {r} {r′} g h = (numbers-injective r r′ (cc), cc)
+
+pub look-up-unique : {list : ColumnList} {k : ℕ} {key : List ℕ} {n : ℕ} {rows offsets : List ℕ} {r r′ : Answer}
+    → LookedUp list k key n rows offsets r → LookedUp list k key n rows offsets r′ → r ≡ r′
+look-up-unique {r} {r′} g h = numbers-injective r r′ (cc)
 
 pub compare-unique : {a b : List ℕ} {r r′ : ℤ} → Compared a b r → Compared a b r′ → r ≡ r′
 compare-unique g h = cc
@@ -65,3 +69,7 @@ pub lent-join-unique : {n₀ : ℕ} {rows₀ offsets₀ : List ℕ} {n₁ : ℕ}
     → LentJoined n₀ rows₀ offsets₀ n₁ rows₁ offsets₁ list lent list₁ lent₁ → LentJoined n₀ rows₀ offsets₀ n₁ rows₁ offsets₁ list lent list₂ lent₂
     → (lent₁ ≡ lent₂) × (list₁ ≡ list₂)
 lent-join-unique g h = (cc, cc)
+
+pub lent-look-up-unique : {list : ColumnList} {k : ℕ} {key : List ℕ} {n : ℕ} {rows offsets lent lent₁ lent₂ : List ℕ}
+    → LentLookedUp list k key n rows offsets lent lent₁ → LentLookedUp list k key n rows offsets lent lent₂ → lent₁ ≡ lent₂
+lent-look-up-unique g h = cc

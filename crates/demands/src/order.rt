@@ -2,7 +2,7 @@
 ghost use mathlib.Core.Path.{_≡_};
 ghost use Rattle.format.specs.Described.{spelled};
 ghost use Rattle.format.specs.Entries.{rowBytes, compareAnswer};
-ghost use Rattle.joiner.specs.Rows.{Lies};
+ghost use Rattle.format.specs.Passed.{Lies};
 ghost use Rattle.demands.specs.Order.{batch, OrderedAs};
 use format::Answer;
 use format::Refusal;

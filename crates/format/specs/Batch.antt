@@ -2,11 +2,13 @@
 use Prim.Native.Nat.{ℕ, suc, Ordering, Ordering·lt as lt, Ordering·eq as eq, Ordering·gt as gt}
 use mathlib.Core.Bool.{Bool, true, false}
 use mathlib.Core.List.{List, [], _∷_}
+use Rattle.format.specs.declared.Column.{Column}
 use Rattle.format.specs.declared.Check.{Check}
 use Rattle.format.specs.declared.Check.the-variants.{Pass}
 use Rattle.format.specs.declared.Refusal.the-variants.{OutOfOrder}
 use Rattle.format.specs.Check.{both, failIf}
 use Rattle.format.specs.Order.{cmp}
+use Rattle.format.specs.Read.{rowsFault}
 use Rattle.format.specs.Entries.{rowCountFault, offsetsFault, cutRows}
 
 abbrev pub isBelow : Ordering → Bool
@@ -34,3 +36,11 @@ passFault p n bytes offsets =
     both (rowCountFault n)
     (both (offsetsFault n bytes offsets)
     (orderFault p (cutRows n bytes offsets)))
+
+-- n sorted rows of the columns: 6, 14, 15, 12, row faults, 26; a batch by itself is pass 0
+unfoldable pub sortedFault : List Column → ℕ → List ℕ → List ℕ → Check
+sortedFault cols n bytes offsets =
+    both (rowCountFault n)
+    (both (offsetsFault n bytes offsets)
+    (both (rowsFault 0 cols (cutRows n bytes offsets))
+    (orderFault 0 (cutRows n bytes offsets))))

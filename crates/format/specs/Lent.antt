@@ -13,6 +13,7 @@ use Rattle.format.specs.Described.{ColumnList, codes}
 use Rattle.format.specs.Numbers.{numbersOf}
 use Rattle.format.specs.Entries.{written, checkListAnswer, readListCheck, readListAnswer, measureAnswer, encodeAnswer, encodeRows, encodeOffsets, decodeAnswer, decodeSheet}
 use Rattle.format.specs.Join.{joinAnswer, joinList}
+use Rattle.format.specs.Lookup.{lookupAnswer}
 
 -- the numbers of lent bytes; a shorter tail does not count
 abbrev pub eights : List ℕ → List ℕ
@@ -77,3 +78,6 @@ lentJoin n₀ rows₀ offsets₀ n₁ rows₁ offsets₁ list lent =
 unfoldable pub lentJoinList : ℕ → List ℕ → List ℕ → ℕ → List ℕ → List ℕ → List ℕ → List ℕ → List ℕ
 lentJoinList n₀ rows₀ offsets₀ n₁ rows₁ offsets₁ list lent =
     unlessShort lent (over (eightBytes (joinList n₀ rows₀ (eights offsets₀) n₁ rows₁ (eights offsets₁) (eights list))) list) list
+
+unfoldable pub lentLookup : ColumnList → ℕ → List ℕ → ℕ → List ℕ → List ℕ → List ℕ → List ℕ
+lentLookup list k key n rows offsets lent = answerBytes (lookupAnswer list k key n rows (eights offsets)) lent

@@ -36,3 +36,13 @@ pub record Cuts (n : ℕ) (bytes offsets : List ℕ) : Type 0 where
   pub rising : (j : ℕ) → j < n → getD offsets j 0 ≤ getD offsets (suc j) 0
   pub inside : getD offsets n 0 ≤ length bytes
   pub small : getD offsets n 0 ≤ maxTotal
+
+-- row r lies between its offsets, within the row bytes
+pub record Lies (bytes offsets : List ℕ) (r : ℕ) : Type 0 where
+  pub there : r + 1 < length offsets
+  pub rises : getD offsets r 0 ≤ getD offsets (r + 1) 0
+  pub inside : getD offsets (r + 1) 0 ≤ length bytes
+
+-- each of n rows does
+abbrev pub AllLie : ℕ → List ℕ → List ℕ → Type 0
+AllLie n bytes offsets = (r : ℕ) → r < n → Lies bytes offsets r

@@ -11,7 +11,8 @@ use Rattle.format.specs.Described.{ColumnList}
 use Rattle.format.specs.Numbers.{numbersOf}
 use Rattle.format.specs.Entries.{checkListAnswer, readListAnswer, readListColumns, measureAnswer, encodeAnswer, encodeRows, encodeOffsets, decodeAnswer, decodeSheet, compareAnswer}
 use Rattle.format.specs.Join.{joinAnswer, joinList}
-use Rattle.format.specs.Lent.{lentJoin, lentJoinList}
+use Rattle.format.specs.Lookup.{lookupAnswer}
+use Rattle.format.specs.Lent.{lentJoin, lentJoinList, lentLookup}
 use Rattle.format.specs.Lent.{lentCheckList, lentReadList, lentReadListCodes, lentMeasure, lentEncode, lentEncodeRows, lentEncodeOffsets, lentDecode, lentDecodeSheet}
 
 -- check_list
@@ -42,6 +43,10 @@ pub record Decoded (list : ColumnList) (n : ℕ) (rows offsets sheet : List ℕ)
 pub record Joined (n₀ : ℕ) (rows₀ offsets₀ : List ℕ) (n₁ : ℕ) (rows₁ offsets₁ list : List ℕ) (r : Answer) (list′ : List ℕ) : Type 0 where
   pub answers : numbersOf r ≡ numbersOf (joinAnswer n₀ rows₀ offsets₀ n₁ rows₁ offsets₁ (length list))
   pub order : list′ ≡ joinList n₀ rows₀ offsets₀ n₁ rows₁ offsets₁ list
+
+-- look_up, under a list of any case
+pub record LookedUp (list : ColumnList) (k : ℕ) (key : List ℕ) (n : ℕ) (rows offsets : List ℕ) (r : Answer) : Type 0 where
+  pub answers : numbersOf r ≡ numbersOf (lookupAnswer list k key n rows offsets)
 
 -- compare
 pub record Compared (a b : List ℕ) (r : ℤ) : Type 0 where
@@ -77,3 +82,7 @@ pub record LentDecoded (list : ColumnList) (n : ℕ) (rows offsets sheet lent sh
 pub record LentJoined (n₀ : ℕ) (rows₀ offsets₀ : List ℕ) (n₁ : ℕ) (rows₁ offsets₁ list lent list′ lent′ : List ℕ) : Type 0 where
   pub answers : lent′ ≡ lentJoin n₀ rows₀ offsets₀ n₁ rows₁ offsets₁ list lent
   pub order : list′ ≡ lentJoinList n₀ rows₀ offsets₀ n₁ rows₁ offsets₁ list lent
+
+-- station_look_up under a list in bytes, station_look_up_read under coded descriptions
+pub record LentLookedUp (list : ColumnList) (k : ℕ) (key : List ℕ) (n : ℕ) (rows offsets lent lent′ : List ℕ) : Type 0 where
+  pub answers : lent′ ≡ lentLookup list k key n rows offsets lent

@@ -16,21 +16,10 @@ use Rattle.format.specs.declared.Refusal.the-variants.{ManyRows, OutOfOrder}
 use Rattle.format.specs.Limits.{maxRows}
 use Rattle.format.specs.Check.{failIf}
 use Rattle.format.specs.Lists.{each}
-use Rattle.format.specs.Passed.{Cuts}
 use Rattle.format.specs.Entries.{rowBytes, cutRows, offsetsFault}
 use Rattle.format.specs.Batch.{below, orderFrom, orderFault, passFault}
 use Rattle.basics.proofs.Append.{each-step, each-none}
 use Rattle.basics.proofs.Compare.{choose}
-use Rattle.laws.proofs.Cuts.{below-last}
-use Rattle.joiner.specs.Rows.{Lies}
-
--- row r lies between its offsets
-pub cuts-lie : {n : ℕ} {bytes offsets : List ℕ} → Cuts n bytes offsets → (r : ℕ) → r < n → Lies bytes offsets r
-cuts-lie {n} {bytes} {offsets} c r h = record {
-  there = omega (arith, c .there);
-  rises = rw (add-one r) (c .rising r h);
-  inside = omega (arith, below-last n bytes offsets c (n - (r + 1)) (r + 1) (omega arith), c .inside);
-}
 
 -- ---- the loop
 

@@ -11,12 +11,6 @@ use Rattle.format.specs.Passed.{Cuts}
 use Rattle.format.specs.Entries.{cutRows}
 use Rattle.format.specs.Batch.{below, orderFault}
 
--- row r lies between its offsets, within the row bytes
-pub record Lies (bytes offsets : List ℕ) (r : ℕ) : Type 0 where
-  pub there : r + 1 < length offsets
-  pub rises : getD offsets r 0 ≤ getD offsets (r + 1) 0
-  pub inside : getD offsets (r + 1) 0 ≤ length bytes
-
 -- pass p of n rows is in order: nothing of it is refused
 pub record Sorted (p n : ℕ) (bytes offsets : List ℕ) : Type 0 where
   pub few : n ≤ maxRows

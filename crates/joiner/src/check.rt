@@ -11,7 +11,7 @@ use format::Refusal;
 use row_reader::check_offsets;
 
 // 26: the first row of n that is below the one before it.
-fn check_order(pass: usize, n: usize, rows: &[u8], offsets: &[u64]) -> Check
+pub fn check_order(pass: usize, n: usize, rows: &[u8], offsets: &[u64]) -> Check
     requires { ⌜ n ≤ maxRows ⌝ }
     requires { ⌜ Cuts n (now rows) (now offsets) ⌝ }
     ensures { λ r. ⌜ r ≡ orderFault pass (cutRows n (now (rows .entry)) (now (offsets .entry))) ⌝ }

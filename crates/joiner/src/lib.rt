@@ -3,5 +3,6 @@ mod check;
 mod merging;
 mod rows;
 
+pub use check::check_order;
 pub use check::check_pass;
 pub use merging::merge;

@@ -2,7 +2,7 @@
 ghost use mathlib.Core.Path.{_≡_};
 ghost use Rattle.format.specs.Batch.{below as below·};
 ghost use Rattle.format.specs.Entries.{rowBytes};
-ghost use Rattle.joiner.specs.Rows.{Lies};
+ghost use Rattle.format.specs.Passed.{Lies};
 use byte_order::below;
 
 // Whether row r of one batch is below row q of another.

@@ -9,17 +9,17 @@ use Rattle.format.specs.Batch.{isBelow, below}
 use Rattle.basics.proofs.Compare.{Tri, below as less, same, above, tri, compare-lt, compare-gt, compare-eq}
 
 -- two heads, and how the two strings compare then
-heads-below : (x y : ℕ) (xs ys : List ℕ) → x < y → below (x ∷ xs) (y ∷ ys) ≡ true
+pub heads-below : (x y : ℕ) (xs ys : List ℕ) → x < y → below (x ∷ xs) (y ∷ ys) ≡ true
 heads-below x y xs ys h = ap (λ (o : Ordering). isBelow (then o (cmp xs ys))) (compare-lt x y h)
 
-heads-above : (x y : ℕ) (xs ys : List ℕ) → y < x → below (x ∷ xs) (y ∷ ys) ≡ false
+pub heads-above : (x y : ℕ) (xs ys : List ℕ) → y < x → below (x ∷ xs) (y ∷ ys) ≡ false
 heads-above x y xs ys h = ap (λ (o : Ordering). isBelow (then o (cmp xs ys))) (compare-gt x y h)
 
-heads-same : (x y : ℕ) (xs ys : List ℕ) → x ≡ y → below (x ∷ xs) (y ∷ ys) ≡ below xs ys
+pub heads-same : (x y : ℕ) (xs ys : List ℕ) → x ≡ y → below (x ∷ xs) (y ∷ ys) ≡ below xs ys
 heads-same x y xs ys h = ap (λ (o : Ordering). isBelow (then o (cmp xs ys))) (compare-eq x y h)
 
 -- nothing is below the empty string
-none-below : (xs : List ℕ) → below xs [] ≡ false
+pub none-below : (xs : List ℕ) → below xs [] ≡ false
 none-below [] = refl
 none-below (x ∷ xs) = refl
 

@@ -4,6 +4,7 @@ use mathlib.Core.Path.{_≡_, ap, ap₂, sym, subst, _∙_}
 use mathlib.Core.Bool.{not}
 use mathlib.Core.List.{List, [], _++_}
 use native.Mathlib.Nat.{zero-add, add-zero}
+use native.Mathlib.Numerals.{add-one}
 use native.Mathlib.Omega.{arith}
 use lib.Dec.{eqb}
 use lib.ListN.{length, getD, take, drop, length-append, List·getD-append}
@@ -12,7 +13,7 @@ use Rattle.format.specs.declared.Check.the-variants.{Pass}
 use Rattle.format.specs.Limits.{maxTotal}
 use Rattle.format.specs.Lists.{Bytes, endsFrom, joined}
 use Rattle.format.specs.Entries.{offsetRoomFault, fallFault, offsetsFault, rowBytes, cutRows}
-use Rattle.format.specs.Passed.{Cuts}
+use Rattle.format.specs.Passed.{Cuts, Lies, AllLie}
 use Rattle.basics.proofs.Bytes.{bytes-take, bytes-drop}
 use Rattle.basics.proofs.Lists.{Every, every-each, each-is, endAt, length-ends, end-first, end-next, end-last, cut-at}
 use Rattle.basics.proofs.Checks.{failIf-pass, enough, both-pass}
@@ -80,3 +81,11 @@ module _ (n : ℕ) (bytes offsets : List ℕ) (c : Cuts n bytes offsets) where
   pub below-last : (d i : ℕ) → i + d ≡ n → getD offsets i 0 ≤ getD offsets n 0
   below-last zero i e = subst (λ (m : ℕ). getD offsets i 0 ≤ getD offsets m 0) (let q : i ≡ n = omega arith in q) (omega arith)
   below-last (suc d) i e = omega (arith, c .rising i (omega arith), below-last d (suc i) (omega arith))
+
+-- row r lies between its offsets
+pub cuts-lie : {n : ℕ} {bytes offsets : List ℕ} → Cuts n bytes offsets → AllLie n bytes offsets
+cuts-lie {n} {bytes} {offsets} c r h = record {
+  there = omega (arith, c .there);
+  rises = rw (add-one r) (c .rising r h);
+  inside = omega (arith, below-last n bytes offsets c (n - (r + 1)) (r + 1) (omega arith), c .inside);
+}

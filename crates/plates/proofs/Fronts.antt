@@ -11,7 +11,7 @@ use lib.ListN.{length, getD, take, drop, length-take, length-drop}
 use lib.Seq.{take-take, take-all, length-take-le}
 use borrow.Author.Tests.{ltb-true, ltb-false}
 use Rattle.format.specs.Entries.{rowBytes}
-use Rattle.joiner.specs.Rows.{Lies}
+use Rattle.format.specs.Passed.{Lies}
 use Rattle.plates.specs.Prefix.{frontEnd}
 
 -- it ends between where it begins and where it would end

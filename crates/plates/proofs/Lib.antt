@@ -5,3 +5,4 @@ pub mod FirstColumns
 pub mod FirstFields
 pub mod SideBySide
 pub mod Plates
+pub mod FoundRows

@@ -9,7 +9,7 @@ use mathlib.Core.List.{List, []}
 use native.Mathlib.Omega.{arith}
 use lib.Dec.{ltb}
 use lib.IntN.{ℤ}
-use lib.ListN.{length, getD, take, drop}
+use lib.ListN.{length, take, drop}
 use borrow.Author.Tests.{lt-ltb, le-ltb}
 use Rattle.format.specs.declared.Check.{Check}
 use Rattle.format.specs.declared.Check.the-variants.{Pass, Refuse}
@@ -21,7 +21,7 @@ use Rattle.format.specs.Fits.{RowFits, HasValues}
 use Rattle.format.specs.Lists.{Bytes}
 use Rattle.format.specs.Order.{Begins, cmp}
 use Rattle.format.specs.Prefix.{firstFields}
-use Rattle.format.specs.Read.{rowSlots}
+use Rattle.format.specs.Read.{rowSlots, rowsFault}
 use Rattle.format.specs.Row.{row}
 use Rattle.format.specs.Value.{rowOrder}
 use Rattle.format.specs.Entries.{rowBytes, cutRows, decodeCheck, sign, compareAnswer}
@@ -103,6 +103,16 @@ module _ {list short : ColumnList} {b d : Batch} (v : Written list b) (w : Writt
       let p = key-begins k cols (valuesIn list b r) (valuesIn short d q) (values-fit v r lr) key-fits in
       (λ h. rw (key-is, row-is v r lr) (p .0 h), λ h. p .1 (rw (key-is, row-is v r lr) at h))
 
+-- ---- rows that are accepted have values
+pub accepted-values : (cols : List Column) (n : ℕ) (bytes offsets : List ℕ) → Bytes bytes → rowsFault 0 cols (cutRows n bytes offsets) ≡ Pass
+    → (r : ℕ) → r < n → RowFits cols (rowSlots cols (rowBytes bytes offsets r))
+    × (row cols (rowSlots cols (rowBytes bytes offsets r)) ≡ rowBytes bytes offsets r)
+accepted-values cols n bytes offsets h e r l =
+    let rs : List (List ℕ) = cutRows n bytes offsets in
+    let t = rows-passed 0 cols rs (cut-bytes n bytes offsets h) e in
+    subst (λ (b : List ℕ). RowFits cols (rowSlots cols b) × (row cols (rowSlots cols b) ≡ b)) (each-at n (rowBytes bytes offsets) [] r l)
+    (row-valued cols rs (t .0) (t .1) r (omega (arith, length-each 0 n (rowBytes bytes offsets))))
+
 -- ---- rows that decode accepts, whoever sorted them
 pub accepted-together : (list : ColumnList) (n : ℕ) (bytes offsets : List ℕ) (room : ℕ) → Bytes bytes → decodeCheck list n bytes offsets room ≡ Pass
     → Sorted n (rowBytes bytes offsets) → (k : ℕ) → Together n (λ r. firstFields k (columns list) (rowBytes bytes offsets r))
@@ -110,12 +120,8 @@ accepted-together list n bytes offsets room h e s k = side-by-side (columns list
   where
     values : (r : ℕ) → r < n → HasValues (columns list) (rowBytes bytes offsets r)
     values r l =
-        let cols : List Column = columns list in
-        let rs : List (List ℕ) = cutRows n bytes offsets in
-        let t = rows-passed 0 cols rs (cut-bytes n bytes offsets h) (decoded list n bytes offsets room e .1 .passes) in
-        let long : length rs ≡ n = length-each 0 n (rowBytes bytes offsets) in
-        let v = row-valued cols rs (t .0) (t .1) r (omega arith) in
-        subst (HasValues cols) (each-at n (rowBytes bytes offsets) [] r l) (record { values = rowSlots cols (getD rs r []); fit = v .0; spell = v .1 })
+        let v = accepted-values (columns list) n bytes offsets h (decoded list n bytes offsets room e .1 .passes) r l in
+        record { values = rowSlots (columns list) (rowBytes bytes offsets r); fit = v .0; spell = v .1 }
 
 -- ---- what the functions of this crate answer
 

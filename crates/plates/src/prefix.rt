@@ -4,7 +4,7 @@ ghost use Prim.Native.Nat.{_≤_};
 ghost use lib.ListN.{length, take};
 ghost use Rattle.format.specs.Described.{spelled};
 ghost use Rattle.format.specs.Entries.{rowBytes, compareAnswer};
-ghost use Rattle.joiner.specs.Rows.{Lies};
+ghost use Rattle.format.specs.Passed.{Lies};
 ghost use Rattle.demands.specs.Order.{batch};
 ghost use Rattle.plates.specs.Prefix.{FieldsAgree, frontEnd, KeyOrdered};
 use demands::order::Ordered;

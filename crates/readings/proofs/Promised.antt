@@ -8,8 +8,8 @@ use Rattle.format.specs.declared.Answer.{Answer}
 use Rattle.format.specs.Described.{ColumnList}
 use Rattle.format.specs.Numbers.{numbersOf}
 use Rattle.format.specs.Lists.{over}
-use Rattle.format.specs.Lent.{eights, eightBytes, answerBytes, unlessShort, lentMeasure, lentEncode, lentEncodeRows, lentEncodeOffsets, lentDecode, lentDecodeSheet}
-use Rattle.format.specs.Promises.{Measured, Encoded, Decoded, LentMeasured, LentEncoded, LentDecoded}
+use Rattle.format.specs.Lent.{eights, eightBytes, answerBytes, unlessShort, lentMeasure, lentEncode, lentEncodeRows, lentEncodeOffsets, lentDecode, lentDecodeSheet, lentLookup}
+use Rattle.format.specs.Promises.{Measured, Encoded, Decoded, LookedUp, LentMeasured, LentEncoded, LentDecoded, LentLookedUp}
 use Rattle.readings.specs.Readings.{BothWays}
 
 module _ {a b : ColumnList} (w : BothWays a b) where
@@ -31,6 +31,10 @@ module _ {a b : ColumnList} (w : BothWays a b) where
     bytes = h .bytes ∙ w .sheet-bytes n rows offsets sheet;
   }
 
+  pub looked-up-ways : {k : ℕ} {key : List ℕ} {n : ℕ} {rows offsets : List ℕ} {r : Answer} → LookedUp a k key n rows offsets r
+      → LookedUp b k key n rows offsets r
+  looked-up-ways {k} {key} {n} {rows} {offsets} h = record { answers = h .answers ∙ ap numbersOf (w .looks-up k key n rows offsets) }
+
   -- ---- the C entries
   pub lent-measured-ways : {n : ℕ} {sheet lent lent′ : List ℕ} → LentMeasured a n sheet lent lent′ → LentMeasured b n sheet lent lent′
   unfolding lentMeasure
@@ -51,4 +55,11 @@ module _ {a b : ColumnList} (w : BothWays a b) where
   lent-decoded-ways {n} {rows} {offsets} {sheet} {lent} h = record {
     answers = h .answers ∙ ap (λ (x : Answer). answerBytes x lent) (w .decodes n rows (eights offsets) (length sheet));
     bytes = h .bytes ∙ ap (λ (x : List ℕ). unlessShort lent x sheet) (w .sheet-bytes n rows (eights offsets) sheet);
+  }
+
+  pub lent-looked-up-ways : {k : ℕ} {key : List ℕ} {n : ℕ} {rows offsets lent lent′ : List ℕ} → LentLookedUp a k key n rows offsets lent lent′
+      → LentLookedUp b k key n rows offsets lent lent′
+  unfolding lentLookup
+  lent-looked-up-ways {k} {key} {n} {rows} {offsets} {lent} h = record {
+    answers = h .answers ∙ ap (λ (x : Answer). answerBytes x lent) (w .looks-up k key n rows (eights offsets));
   }

@@ -15,6 +15,7 @@ use Rattle.format.specs.Columns.{spelledFault, spelledColumns}
 use Rattle.format.specs.Described.{Description, codes, descriptionsFault, ColumnList}
 use Rattle.format.specs.Numbers.{numbersOf}
 use Rattle.format.specs.Entries.{answer, measureAnswer, encodeAnswer, encodeRows, encodeOffsets, decodeAnswer, decodeSheet}
+use Rattle.format.specs.Lookup.{lookupAnswer}
 
 -- ---- made by a reading
 
@@ -45,6 +46,7 @@ pub record BothWays (a b : ColumnList) : Type 0 where
   pub row-ends : (n : ℕ) (sheet : List ℕ) (rowRoom : ℕ) (offsets : List ℕ) → encodeOffsets a n sheet rowRoom offsets ≡ encodeOffsets b n sheet rowRoom offsets
   pub decodes : (n : ℕ) (rows offsets : List ℕ) (room : ℕ) → decodeAnswer a n rows offsets room ≡ decodeAnswer b n rows offsets room
   pub sheet-bytes : (n : ℕ) (rows offsets sheet : List ℕ) → decodeSheet a n rows offsets sheet ≡ decodeSheet b n rows offsets sheet
+  pub looks-up : (k : ℕ) (key : List ℕ) (n : ℕ) (rows offsets : List ℕ) → lookupAnswer a k key n rows offsets ≡ lookupAnswer b k key n rows offsets
 
 -- ---- the list bytes of a description
 

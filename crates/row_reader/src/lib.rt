@@ -10,6 +10,7 @@ mod walk;
 
 pub use batch::check_rows;
 pub use offsets::check_offsets;
+pub use walk::check_fields;
 
 // What a check of rows answers: the first fault, and the bytes that rows without one decode to. The walk over the fields
 // counts those of the values in variable columns, the check of a batch those of the whole sheet.

@@ -1,12 +1,12 @@
 // The walk over rows and columns.
 ghost use mathlib.Core.Path.{_≡_};
 ghost use Prim.Native.Nat.{_≤_};
-ghost use Rattle.format.specs.declared.Check.the-variants.{Pass};
 ghost use Rattle.format.specs.Kinds.{Slot};
 ghost use Rattle.format.specs.Limits.{maxRows};
 ghost use Rattle.format.specs.Schemas.{Limited, colsOf};
 ghost use Rattle.format.specs.Sheet.{layout};
-ghost use Rattle.format.specs.Entries.{cutRows, offsetsFault};
+ghost use Rattle.format.specs.Passed.{AllLie};
+ghost use Rattle.format.specs.Entries.{cutRows};
 ghost use Rattle.format.specs.Cleared.{slotLength, added};
 ghost use Rattle.row_reader.specs.Walk.{Finds};
 use crate::Checked;
@@ -39,7 +39,7 @@ fn added_bytes(column: Column, value: usize) -> usize
 pub fn check_fields(schema: Schema, n: usize, rows: &[u8], offsets: &[u64]) -> Checked
     requires { ⌜ n ≤ maxRows ⌝ }
     requires { ⌜ Limited schema ⌝ }
-    requires { ⌜ offsetsFault n (now rows) (now offsets) ≡ Pass ⌝ }
+    requires { ⌜ AllLie n (now rows) (now offsets) ⌝ }
     ensures { λ r. ⌜ Finds (colsOf schema) (cutRows n (now (rows .entry)) (now (offsets .entry))) r ⌝ }
 {
     let count = schema.count;

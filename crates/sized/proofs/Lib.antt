@@ -2,4 +2,5 @@
 pub mod Enough
 pub mod Entries
 pub mod Joins
+pub mod LookUps
 pub mod ListRead

@@ -2,4 +2,5 @@
 pub mod codes;
 pub mod decode;
 pub mod encode;
+pub mod look_up;
 pub mod order;

@@ -4,4 +4,5 @@ pub mod decode;
 pub mod encode;
 pub mod join;
 pub mod list;
+pub mod look_up;
 pub mod measure;

@@ -1,7 +1,7 @@
 // The C entries: a slice is a pointer and a length, offsets and answers are lent as bytes, eight a number, low byte first, and
 // descriptions as four bytes a column. Thin over crates `station` and `sized`; include/station.h says how to call them.
 ghost use Rattle.format.specs.Described.{spelled, coded};
-ghost use Rattle.format.specs.Promises.{LentListChecked, LentListRead, LentMeasured, LentEncoded, LentDecoded, LentJoined, Compared};
+ghost use Rattle.format.specs.Promises.{LentListChecked, LentListRead, LentMeasured, LentEncoded, LentDecoded, LentJoined, LentLookedUp, Compared};
 use encoder::measure::measure_listed;
 use format::MAX_OFFSETS;
 use lent_bytes::put_answer;
@@ -11,6 +11,7 @@ use list_reader::read_list;
 use sized::codes::list_codes;
 use sized::decode::decode_sized;
 use sized::encode::encode_sized;
+use sized::look_up::look_up_sized;
 use sized::order::MAX_ORDER;
 use sized::order::join_bytes;
 use sized::order::used_entries;
@@ -182,6 +183,57 @@ pub extern "C" fn station_join(
         &mut list[..k],
     );
     put_answer(answer, r);
+}
+
+// Finds the rows of a sorted batch that begin with a key, the fields of the first k columns.
+#[no_mangle]
+pub extern "C" fn station_look_up(
+    list: &[u8],
+    k: u64,
+    key: &[u8],
+    n: u64,
+    rows: &[u8],
+    offsets: &[u8],
+    answer: &mut [u8],
+)
+    ensures { λ _. ⌜ LentLookedUp (spelled (now (list .entry))) k (now (key .entry)) n (now (rows .entry)) (now (offsets .entry)) (now (answer .entry))
+        (now (answer .exit)) ⌝ }
+{
+    if answer.len() < ANSWER_BYTES {
+        return;
+    }
+    let used = used_offsets(n, offsets.len());
+    look_up_sized(read_list(list), k, key, n, rows, offsets, answer, used);
+}
+
+// The same under descriptions.
+#[no_mangle]
+pub extern "C" fn station_look_up_read(
+    descriptions: &[u8],
+    k: u64,
+    key: &[u8],
+    n: u64,
+    rows: &[u8],
+    offsets: &[u8],
+    answer: &mut [u8],
+)
+    ensures { λ _. ⌜ LentLookedUp (coded (now (descriptions .entry))) k (now (key .entry)) n (now (rows .entry)) (now (offsets .entry)) (now (answer .entry))
+        (now (answer .exit)) ⌝ }
+{
+    if answer.len() < ANSWER_BYTES {
+        return;
+    }
+    let used = used_offsets(n, offsets.len());
+    look_up_sized(
+        read_codes(descriptions),
+        k,
+        key,
+        n,
+        rows,
+        offsets,
+        answer,
+        used,
+    );
 }
 
 // Compares any bytes.

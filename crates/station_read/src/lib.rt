@@ -1,12 +1,13 @@
 // The public entries on lent columns: those of crate station, with exactly the columns handed on in place of list bytes.
 ghost use Rattle.format.specs.Described.{described as described·};
-ghost use Rattle.format.specs.Promises.{Measured, Encoded, Decoded};
+ghost use Rattle.format.specs.Promises.{Measured, Encoded, Decoded, LookedUp};
 use decoder::decode_listed;
 use encoder::encode::encode_listed;
 use encoder::measure::measure_listed;
 use format::Answer;
 use format::Column;
 use lent_columns::described;
+use searcher::look_up_listed;
 
 // Total row bytes and the null total, or the refusal.
 pub fn measure_read(columns: &[Column], n: u64, sheet: &[u8]) -> Answer
@@ -40,4 +41,18 @@ pub fn decode_read(
     ensures { λ r. ⌜ Decoded (described· (now (columns .entry))) n (now (rows .entry)) (now (offsets .entry)) (now (sheet .entry)) r (now (sheet .exit)) ⌝ }
 {
     decode_listed(described(columns), n, rows, offsets, sheet)
+}
+
+// The first row that begins with the key and one past the last, or the refusal.
+pub fn look_up_read(
+    columns: &[Column],
+    k: u64,
+    key: &[u8],
+    n: u64,
+    rows: &[u8],
+    offsets: &[u64],
+) -> Answer
+    ensures { λ r. ⌜ LookedUp (described· (now (columns .entry))) k (now (key .entry)) n (now (rows .entry)) (now (offsets .entry)) r ⌝ }
+{
+    look_up_listed(described(columns), k, key, n, rows, offsets)
 }

@@ -4,7 +4,8 @@ use Prim.Native.Nat.{_-_, _≤_}
 use mathlib.Core.Path.{sym, _∙_}
 use native.Mathlib.Omega.{arith}
 use Rattle.format.specs.Entries.{rowBytes}
-use Rattle.joiner.proofs.Passes.{cuts-lie, Orders, orders-begin, orders-fault, orders-more, orders-end}
+use Rattle.laws.proofs.Cuts.{cuts-lie}
+use Rattle.joiner.proofs.Passes.{Orders, orders-begin, orders-fault, orders-more, orders-end}
 use Rattle.joiner.proofs.check.check_order.Statement.{statement}
 use Rattle.joiner.proofs.check.check_order.Tie as tie
 

@@ -1,7 +1,7 @@
 -- `joiner::merging::second_next` meets its contract: its tests are the definition's. Assumes nothing.
 use borrow.Author.Needs.{needs}
 use borrow.Author.Tests.{le-leb, lt-leb}
-use Rattle.joiner.proofs.Passes.{cuts-lie}
+use Rattle.laws.proofs.Cuts.{cuts-lie}
 use Rattle.joiner.proofs.merging.second_next.Statement.{statement}
 use Rattle.joiner.proofs.merging.second_next.Tie as tie
 

@@ -6,6 +6,7 @@ use Rattle.format.specs.Entries.{offsetsFault}
 use Rattle.format.specs.Lists.{Bytes}
 use Rattle.format.specs.Schemas.{colsOf}
 use Rattle.basics.proofs.Bytes.{bytes-of}
+use Rattle.laws.proofs.Cuts.{offsets-passed, cuts-lie}
 use Rattle.row_reader.proofs.Batches.{refused, walked}
 use Rattle.row_reader.proofs.batch.check_rows.Statement.{statement}
 use Rattle.row_reader.proofs.batch.check_rows.Tie as tie
@@ -34,7 +35,7 @@ row-bytes c =
     bytes-of (start c .args .rows .now) (λ i. known .shared-slice-known .given i .fits)
 
 check-fields-requires : tie.Need-check-fields-requires
-check-fields-requires c κs = (start c .pre .0, (start c .pre .1, passed c))
+check-fields-requires c κs = (start c .pre .0, (start c .pre .1, cuts-lie (offsets-passed _ _ _ (passed c))))
 
 returns-2 : tie.Need-returns-2
 returns-2 c =

@@ -25,9 +25,8 @@ use Rattle.format.specs.Sheet.{layout}
 use Rattle.format.specs.Schemas.{Limited, colsOf, noColumn}
 use Rattle.format.specs.Entries.{rowBytes}
 use Rattle.format.specs.Cleared.{slotLength, added}
-use Rattle.format.specs.Passed.{Cuts}
+use Rattle.format.specs.Passed.{AllLie}
 use Rattle.basics.proofs.Bytes.{bytes-of, bytes-take, bytes-drop}
-use Rattle.laws.proofs.Cuts.{offsets-passed, below-last}
 use Rattle.laws.proofs.FaultPlace.{fault-inside}
 use Rattle.laws.proofs.InUse.{Held, in-use, next-in-use}
 use Rattle.row_reader.proofs.Taken.{Says, says, says-rest, null-added}
@@ -75,9 +74,9 @@ held s = s .good .0
 full : (s : Start) → length (cols s) ≡ s .args .schema .count
 full s = in-use (s .args .schema) (held s) (limited s .few)
 
--- the offsets cut the rows
-cuts : (s : Start) → Cuts (s .args .n) (rows s) (offsets s)
-cuts s = offsets-passed (s .args .n) (rows s) (offsets s) (s .pre .1 .1)
+-- each row lies between its offsets
+lie : (s : Start) → AllLie (s .args .n) (rows s) (offsets s)
+lie s = s .pre .1 .1
 
 -- a place in the rows is a number
 fits : (s : Start) → length (rows s) < 2 ^ 64
@@ -112,13 +111,10 @@ abbrev cut-row : Cut → ℕ
 cut-row c = in-rows c .before .rows .r
 
 rises : (c : Cut) → getD (offsets (cut-start c)) (cut-row c) 0 ≤ getD (offsets (cut-start c)) (cut-row c + 1) 0
-rises c = rw add-one (cuts (cut-start c) .rising _ (in-rows c .rows-test .taken))
+rises c = lie (cut-start c) _ (in-rows c .rows-test .taken) .rises
 
 inside : (c : Cut) → getD (offsets (cut-start c)) (cut-row c + 1) 0 ≤ length (rows (cut-start c))
-inside c =
-    let s = cut-start c in
-    let k = cut-row c + 1 in
-    omega (arith, cuts s .inside, below-last (s .args .n) (rows s) (offsets s) (cuts s) (s .args .n - k) k (omega (arith, in-rows c .rows-test .taken)))
+inside c = lie (cut-start c) _ (in-rows c .rows-test .taken) .inside
 
 -- ---- row r, in which the loop over columns stands
 
@@ -274,7 +270,7 @@ mul-start : tie.Need-mul-start Inv-loop μ-loop Inv-rows μ-rows
 mul-start c = omega arith
 
 shared-slice-read-start : tie.Need-shared-slice-read-start Inv-loop μ-loop Inv-rows μ-rows
-shared-slice-read-start c = omega (arith, cuts (row-start (c .before)) .there)
+shared-slice-read-start c = omega (arith, lie (row-start (c .before)) _ (c .before .rows-test .taken) .there)
 
 add-end : tie.Need-add-end Inv-loop μ-loop Inv-rows μ-rows
 add-end c = omega arith
@@ -283,7 +279,7 @@ mul-end : tie.Need-mul-end Inv-loop μ-loop Inv-rows μ-rows
 mul-end c = omega arith
 
 shared-slice-read-end : tie.Need-shared-slice-read-end Inv-loop μ-loop Inv-rows μ-rows
-shared-slice-read-end c = omega (arith, cuts (row-start (c .before .before)) .there)
+shared-slice-read-end c = lie (row-start (c .before .before)) _ (c .before .before .rows-test .taken) .there
 
 sub-row : tie.Need-sub-row Inv-loop μ-loop Inv-rows μ-rows
 sub-row c = rises c
