@@ -4,7 +4,6 @@ pub mod Run
 pub mod Orders
 pub mod Sep
 pub mod Invert
-pub mod KeyLaws
 pub mod VariableOrder
 pub mod RowOrder
 pub mod OneRow
