@@ -41,6 +41,10 @@ module _ (whole rest : Ordering) {r : ℕ} (f : Found whole rest r) where
   pub found-differs : (r ≡ 1 → ⊥) → r ≡ rank whole
   found-differs ne = f .is ∙ ap rank (sym (f .says ∙ kept (f .order) rest (λ e. ne (f .is ∙ e))))
 
+  -- so that what is left does not count
+  pub found-closed : (r ≡ 1 → ⊥) → (p : Ordering) → Found whole p r
+  found-closed ne p = record { order = f .order; is = f .is; says = f .says ∙ kept (f .order) rest (λ e. ne (f .is ∙ e)) ∙ sym (kept (f .order) p (λ e. ne (f .is ∙ e))) }
+
   -- no part is left
   pub found-last : rest ≡ eq → r ≡ rank whole
   found-last e = f .is ∙ ap rank (sym (f .says ∙ ap (then (f .order)) e ∙ no-more (f .order)))

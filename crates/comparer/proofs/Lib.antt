@@ -7,3 +7,5 @@ pub mod Intervals
 pub mod WordSteps
 pub mod Arms
 pub mod Values
+pub mod Columns
+pub mod Pairs
