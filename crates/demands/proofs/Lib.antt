@@ -21,6 +21,7 @@ pub mod Demand3
 pub mod NullSlots
 pub mod FoldedRows
 pub mod Calls
+pub mod BothWays
 pub mod FieldPlace
 pub mod Place
 pub mod Front

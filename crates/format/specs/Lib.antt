@@ -4,6 +4,7 @@ pub mod Check
 pub mod Lists
 pub mod Kinds
 pub mod Columns
+pub mod Described
 pub mod Schemas
 pub mod Order
 pub mod Key

@@ -7,7 +7,7 @@ use lib.Dec.{eqb}
 use lib.ListN.{getD}
 use Rattle.format.specs.declared.RowFault.the-variants.{Cut, Lead, NullRest, BoolByte, EndByte, Padding, Extra, TooLong, Unfolded}
 use Rattle.format.specs.declared.Refusal.{Refusal}
-use Rattle.format.specs.declared.Refusal.the-variants.{ListCut, UnknownKind, OptionBits, Width, ManyColumns, ManyRows, ColumnCut, SpareBit, Ends, LongSlot, BytesAfter, ManyBytes, RowRoom, OffsetRoom, Offsets, Row, SheetRoom, Input, OutOfOrder, Missing}
+use Rattle.format.specs.declared.Refusal.the-variants.{ListCut, UnknownKind, OptionBits, Width, ManyColumns, ManyRows, ColumnCut, SpareBit, Ends, LongSlot, BytesAfter, ManyBytes, RowRoom, OffsetRoom, Offsets, Row, SheetRoom, Input, OutOfOrder, Missing, ColumnRoom}
 use Rattle.format.specs.declared.Answer.{Answer}
 use Rattle.format.specs.declared.Answer.the-variants.{Done, Refused}
 use Rattle.format.specs.declared.Returned.{Returned}
@@ -21,7 +21,8 @@ refusals =
     ∷ (λ a b p. BytesAfter a) ∷ (λ a b p. ManyBytes a) ∷ (λ a b p. RowRoom a) ∷ (λ a b p. OffsetRoom a) ∷ (λ a b p. Offsets a)
     ∷ (λ a b p. Row Cut a b p) ∷ (λ a b p. Row Lead a b p) ∷ (λ a b p. Row NullRest a b p) ∷ (λ a b p. Row BoolByte a b p)
     ∷ (λ a b p. Row EndByte a b p) ∷ (λ a b p. Row Padding a b p) ∷ (λ a b p. Row Extra a b p) ∷ (λ a b p. Row TooLong a b p)
-    ∷ (λ a b p. SheetRoom a) ∷ (λ a b p. Input) ∷ (λ a b p. OutOfOrder a b) ∷ (λ a b p. Missing a b) ∷ (λ a b p. Row Unfolded a b p) ∷ []
+    ∷ (λ a b p. SheetRoom a) ∷ (λ a b p. Input) ∷ (λ a b p. OutOfOrder a b) ∷ (λ a b p. Missing a b) ∷ (λ a b p. Row Unfolded a b p)
+    ∷ (λ a b p. ColumnRoom a) ∷ []
 
 -- the answer of four numbers
 abbrev answerOf : Returned → Answer
@@ -57,6 +58,7 @@ numbers-back (Refused (SheetRoom bytes)) = refl
 numbers-back (Refused Input) = refl
 numbers-back (Refused (OutOfOrder p r)) = refl
 numbers-back (Refused (Missing c r)) = refl
+numbers-back (Refused (ColumnRoom count)) = refl
 
 pub numbers-injective : (a b : Answer) → numbersOf a ≡ numbersOf b → a ≡ b
 numbers-injective a b e = sym (numbers-back a) ∙ ap answerOf e ∙ numbers-back b
