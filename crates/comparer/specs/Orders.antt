@@ -14,12 +14,6 @@ use Rattle.format.specs.Kinds.{Shape, fixed, variable}
 use Rattle.format.specs.Key.{key}
 use Rattle.format.specs.Fold.{foldedValue}
 
--- 0, 1 or 2 for below, equal or above
-abbrev pub rank : Ordering → ℕ
-rank lt = 0
-rank eq = 1
-rank gt = 2
-
 -- r says how f stands to g
 pub record Ordered (f g : List ℕ) (r : ℕ) : Type 0 where
   pub says : r ≡ rank (cmp f g)
@@ -39,21 +33,7 @@ valueKey variable fold v = v
 abbrev pub pairRows : List ℕ → List ℕ → List ℕ
 pairRows numbers bytes = numbers ++ eights bytes
 
--- the two rows of pair k
-abbrev pub firstRow : List ℕ → ℕ → ℕ
-firstRow rows k = getD rows (2 * k) 0
-
-abbrev pub secondRow : List ℕ → ℕ → ℕ
-secondRow rows k = getD rows (2 * k + 1) 0
-
 -- every pair is of rows that the sheets have
 pub record InSheets (n m : ℕ) (rows : List ℕ) : Type 0 where
   pub first : (k : ℕ) → k < length rows / 2 → firstRow rows k < n
   pub second : (k : ℕ) → k < length rows / 2 → secondRow rows k < m
-
--- the answer to each pair
-abbrev pub pairRank : List Column → ℕ → List ℕ → ℕ → List ℕ → List ℕ → ℕ → ℕ
-pairRank cols n sheet m other rows k = rank (rowOrder cols (rowValues cols n sheet (firstRow rows k)) (rowValues cols m other (secondRow rows k)))
-
-abbrev pub pairRanks : List Column → ℕ → List ℕ → ℕ → List ℕ → List ℕ → List ℕ
-pairRanks cols n sheet m other rows = each 0 (length rows / 2) (pairRank cols n sheet m other rows)

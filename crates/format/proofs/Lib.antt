@@ -5,3 +5,4 @@ pub mod SheetExamples
 pub mod RowExamples
 pub mod EntryExamples
 pub mod JoinExamples
+pub mod CompareExamples

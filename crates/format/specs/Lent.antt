@@ -13,6 +13,7 @@ use Rattle.format.specs.Described.{ColumnList, codes}
 use Rattle.format.specs.Numbers.{numbersOf}
 use Rattle.format.specs.Entries.{written, checkListAnswer, readListCheck, readListAnswer, measureAnswer, encodeAnswer, encodeRows, encodeOffsets, decodeAnswer, decodeSheet}
 use Rattle.format.specs.Join.{joinAnswer, joinList}
+use Rattle.format.specs.CompareSheets.{compareSheetsAnswer, comparePairsAnswer, comparePairsRanks}
 
 -- the numbers of lent bytes; a shorter tail does not count
 abbrev pub eights : List ℕ → List ℕ
@@ -77,3 +78,14 @@ lentJoin n₀ rows₀ offsets₀ n₁ rows₁ offsets₁ list lent =
 unfoldable pub lentJoinList : ℕ → List ℕ → List ℕ → ℕ → List ℕ → List ℕ → List ℕ → List ℕ → List ℕ
 lentJoinList n₀ rows₀ offsets₀ n₁ rows₁ offsets₁ list lent =
     unlessShort lent (over (eightBytes (joinList n₀ rows₀ (eights offsets₀) n₁ rows₁ (eights offsets₁) (eights list))) list) list
+
+unfoldable pub lentCompareSheets : ColumnList → ℕ → List ℕ → ℕ → ℕ → List ℕ → ℕ → List ℕ → List ℕ
+lentCompareSheets list n₀ sheet₀ r₀ n₁ sheet₁ r₁ lent = answerBytes (compareSheetsAnswer list n₀ sheet₀ r₀ n₁ sheet₁ r₁) lent
+
+-- row numbers eight bytes each, answers a byte each
+unfoldable pub lentComparePairs : ColumnList → ℕ → List ℕ → ℕ → List ℕ → List ℕ → ℕ → List ℕ → List ℕ
+lentComparePairs list n₀ sheet₀ n₁ sheet₁ pairs room lent = answerBytes (comparePairsAnswer list n₀ sheet₀ n₁ sheet₁ (eights pairs) room) lent
+
+unfoldable pub lentComparePairsRanks : ColumnList → ℕ → List ℕ → ℕ → List ℕ → List ℕ → List ℕ → List ℕ → List ℕ
+lentComparePairsRanks list n₀ sheet₀ n₁ sheet₁ pairs ranks lent =
+    unlessShort lent (comparePairsRanks list n₀ sheet₀ n₁ sheet₁ (eights pairs) ranks) ranks

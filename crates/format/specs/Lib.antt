@@ -22,6 +22,7 @@ pub mod Numbers
 pub mod Entries
 pub mod Batch
 pub mod Join
+pub mod CompareSheets
 pub mod Promises
 pub mod Program
 pub mod Lent

@@ -102,6 +102,7 @@ pub enum Refusal {
     OutOfOrder(usize, usize),
     Missing(usize, usize),
     ColumnRoom(usize),
+    SheetRow(usize, u64),
 }
 
 // What a check answers that gives nothing else.
@@ -234,6 +235,7 @@ pub fn refusal_numbers(r: Refusal) -> Returned
         Refusal::OutOfOrder(pass, row) => Returned(26, pass as u64, row as u64, 0),
         Refusal::Missing(c, row) => Returned(27, c as u64, row as u64, 0),
         Refusal::ColumnRoom(count) => Returned(29, count as u64, 0, 0),
+        Refusal::SheetRow(sheet, row) => Returned(32, sheet as u64, row, 0),
     }
 }
 
