@@ -18,7 +18,8 @@ use Rattle.basics.proofs.Lists.{each-next, each-same}
 use Rattle.sheet_reader.specs.declared.sheet.Facts.{Facts}
 use Rattle.sheet_reader.specs.Sheets.{noFacts, Known}
 use Rattle.sheet_reader.proofs.Values.{foldedIn, slotOf, slots-known}
-use Rattle.comparer.specs.Orders.{rank, firstRow, secondRow, pairRanks, InSheets}
+use Rattle.format.specs.CompareSheets.{rank, firstRow, secondRow, pairRanks}
+use Rattle.comparer.specs.Orders.{InSheets}
 use Rattle.comparer.proofs.Found.{Found, found-none, found-more, found-closed, found-last}
 
 -- the first that is no tie
@@ -90,13 +91,13 @@ row-known n s facts i m t known j cols k h li lj =
     ap₂ (λ (u v : Column). slotOrder (columnShape u) (u .options) (slotOf n s facts i c) (foldedIn m t j v (getD known c noFacts .base))) (sym e) (g ∙ sym e)))
 
 -- the answer to pair k of the rows
-abbrev pub rowsRank : ℕ → List ℕ → List Facts → ℕ → List ℕ → List Facts → ℕ → List ℕ → ℕ → ℕ
-rowsRank n s facts m t known count rows k = rank (firstOf (each 0 count (columnOrder n s facts (firstRow rows k) m t known (secondRow rows k))))
+abbrev pub factsRank : ℕ → List ℕ → List Facts → ℕ → List ℕ → List Facts → ℕ → List ℕ → ℕ → ℕ
+factsRank n s facts m t known count rows k = rank (firstOf (each 0 count (columnOrder n s facts (firstRow rows k) m t known (secondRow rows k))))
 
 -- the answers to all pairs
 pub rows-known : (n : ℕ) (s : List ℕ) (facts : List Facts) (m : ℕ) (t : List ℕ) (known : List Facts) (cols : List Column) (rows : List ℕ)
     → Known n cols s facts → Known m cols t known → InSheets n m rows
-    → pairRanks cols n s m t rows ≡ each 0 (length rows / 2) (rowsRank n s facts m t known (length cols) rows)
+    → pairRanks cols n s m t rows ≡ each 0 (length rows / 2) (factsRank n s facts m t known (length cols) rows)
 rows-known n s facts m t known cols rows k h l =
     each-same 0 (length rows / 2) _ _ (λ p a b.
     ap rank (row-known n s facts (firstRow rows p) m t known (secondRow rows p) cols k h (l .first p (omega arith)) (l .second p (omega arith))))

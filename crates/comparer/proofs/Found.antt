@@ -3,7 +3,7 @@ use Prim.Native.Nat.{ℕ, _-_, Ordering, Ordering·lt as lt, Ordering·eq as eq,
 use mathlib.Core.Path.{_≡_, refl, sym, ap, _∙_}
 use native.Mathlib.Omega.{arith}
 use Rattle.format.specs.Order.{then, swap}
-use Rattle.comparer.specs.Orders.{rank}
+use Rattle.format.specs.CompareSheets.{rank}
 
 -- r is the answer of the parts before, and `rest` the order of those after
 pub record Found (whole rest : Ordering) (r : ℕ) : Type 0 where

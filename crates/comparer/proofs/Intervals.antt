@@ -7,7 +7,8 @@ use lib.ListN.{length, take, drop, length-take, length-drop}
 use lib.Seq.{drop-drop}
 use Rattle.format.specs.Key.{partsKey, signedKey}
 use Rattle.format.specs.Order.{then, cmp}
-use Rattle.comparer.specs.Orders.{rank, Ordered}
+use Rattle.format.specs.CompareSheets.{rank}
+use Rattle.comparer.specs.Orders.{Ordered}
 use Rattle.comparer.proofs.KeyOrder.{parts-step}
 use Rattle.comparer.proofs.Spelled.{part}
 use Rattle.comparer.proofs.Found.{Found, found-more}

@@ -13,7 +13,8 @@ use Rattle.number.proofs.Folds.{folded-spelled}
 use Rattle.number.proofs.Tops.{drop-take}
 use Rattle.number.proofs.Words.{read-back}
 use Rattle.byte_order.proofs.Alike.{word-order}
-use Rattle.comparer.specs.Orders.{rank, Spells, Ordered}
+use Rattle.format.specs.CompareSheets.{rank}
+use Rattle.comparer.specs.Orders.{Spells, Ordered}
 
 -- x is the number that stands at a place of s, f the same folded, y the word of its key, z what the key spells
 pub spelled : (n : ℕ) (keyOf : List ℕ → List ℕ) (b : Bool) (s : List ℕ) (at : ℕ) → ((i : ℕ) → getD s i 0 < 256) → at + n ≤ length s

@@ -20,7 +20,8 @@ use Rattle.format.specs.Sheet.{ended, layoutFor, bit, valueAt}
 use Rattle.basics.specs.Wide.{WideKind}
 use Rattle.basics.proofs.Sorts.{wide-layout, ShapeSigns}
 use Rattle.laws.proofs.Folding.{folded-bytes, folded-length}
-use Rattle.comparer.specs.Orders.{rank, valueKey, Ordered}
+use Rattle.format.specs.CompareSheets.{rank}
+use Rattle.comparer.specs.Orders.{valueKey, Ordered}
 use Rattle.comparer.proofs.KeyOrder.{key-order}
 use Rattle.comparer.proofs.Found.{no-more, rank-swap}
 

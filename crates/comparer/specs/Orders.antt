@@ -1,18 +1,15 @@
 -- The order of two values, as the code finds it: by their keys.
-use Prim.Native.Nat.{ℕ, _+_, _*_, _/_, _<_, Ordering, Ordering·lt as lt, Ordering·eq as eq, Ordering·gt as gt}
+use Prim.Native.Nat.{ℕ, _<_}
 use mathlib.Core.Bool.{Bool}
 use mathlib.Core.Path.{_≡_}
 use mathlib.Core.List.{List, _++_, reverse}
-use lib.ListN.{length, getD}
-use Rattle.format.specs.declared.Column.{Column}
-use Rattle.format.specs.Lists.{each, lowBytes}
-use Rattle.format.specs.Entries.{rowValues}
+use Rattle.format.specs.Lists.{lowBytes}
 use Rattle.format.specs.Lent.{eights}
 use Rattle.format.specs.Order.{cmp}
-use Rattle.format.specs.Value.{rowOrder}
 use Rattle.format.specs.Kinds.{Shape, fixed, variable}
 use Rattle.format.specs.Key.{key}
 use Rattle.format.specs.Fold.{foldedValue}
+use Rattle.format.specs.CompareSheets.{rank, pairCount, firstRow, secondRow}
 
 -- r says how f stands to g
 pub record Ordered (f g : List ℕ) (r : ℕ) : Type 0 where
@@ -35,5 +32,5 @@ pairRows numbers bytes = numbers ++ eights bytes
 
 -- every pair is of rows that the sheets have
 pub record InSheets (n m : ℕ) (rows : List ℕ) : Type 0 where
-  pub first : (k : ℕ) → k < length rows / 2 → firstRow rows k < n
-  pub second : (k : ℕ) → k < length rows / 2 → secondRow rows k < m
+  pub first : (k : ℕ) → k < pairCount rows → firstRow rows k < n
+  pub second : (k : ℕ) → k < pairCount rows → secondRow rows k < m

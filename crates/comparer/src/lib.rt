@@ -5,6 +5,8 @@ mod rows;
 mod slot;
 mod value;
 
+pub use rows::check_pairs;
+pub use rows::pair_count;
 pub use rows::write_orders;
 
 // Below, equal or above.

@@ -10,7 +10,7 @@ ghost use Rattle.format.specs.Fold.{foldedSlot};
 ghost use Rattle.format.specs.Sheet.{layout, packed as packedFor, valueAt, columnFault, slotAt};
 ghost use Rattle.format.specs.Value.{slotOrder};
 ghost use Rattle.format.specs.Passed.{Passes};
-ghost use Rattle.comparer.specs.Orders.{rank};
+ghost use Rattle.format.specs.CompareSheets.{rank};
 use crate::ABOVE;
 use crate::BELOW;
 use crate::EQUAL;

@@ -7,7 +7,7 @@ use mir.Syntax.{w32}
 use mir.Val.{ofZ}
 use Rattle.format.specs.Order.{cmp}
 use Rattle.format.specs.Entries.{sign, compareAnswer}
-use Rattle.comparer.specs.Orders.{rank}
+use Rattle.format.specs.CompareSheets.{rank}
 use Rattle.comparer.proofs.bytes.order_bytes.Statement.{statement}
 use Rattle.comparer.proofs.bytes.order_bytes.Tie as tie
 

@@ -2,7 +2,7 @@
 use mathlib.Core.Path.{ap, sym}
 use native.Mathlib.Omega.{arith}
 use Rattle.basics.proofs.Compare.{compare-lt, compare-gt, compare-eq}
-use Rattle.comparer.specs.Orders.{rank}
+use Rattle.format.specs.CompareSheets.{rank}
 use Rattle.comparer.proofs.numbers.order.Statement.{statement}
 use Rattle.comparer.proofs.numbers.order.Tie as tie
 

@@ -1,9 +1,10 @@
 -- `comparer::rows::row_at` meets its contract. Assumes nothing.
 use borrow.Author.Needs.{needs}
 use mathlib.Core.Path.{sym, _∙_}
+use native.Mathlib.Omega.{arith}
 use lib.ListN.{List·getD-append}
 use Rattle.format.specs.Lent.{eights}
-use Rattle.comparer.proofs.Pairs.{row-in-bytes}
+use Rattle.comparer.proofs.Pairs.{rows-many, row-in-bytes}
 use Rattle.comparer.proofs.rows.row_at.Statement.{statement}
 use Rattle.comparer.proofs.rows.row_at.Tie as tie
 
@@ -24,6 +25,6 @@ row-at-spec =
     (λ c. search needs)
     (λ c. search needs)
     returns
-    (λ c. search needs)
-    (λ c κs. search needs)
+    (λ c. let A = c .before .before .before .args in omega (arith, rows-many (A .numbers .now) (A .bytes .now), c .before .before .before .good .1 .0))
+    (λ c κs. let A = c .before .before .before .args in omega (arith, rows-many (A .numbers .now) (A .bytes .now)))
     returns-2)

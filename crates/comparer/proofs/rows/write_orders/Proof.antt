@@ -21,9 +21,9 @@ use Rattle.laws.proofs.Parts.{part-rest}
 use Rattle.sheet_reader.specs.declared.sheet.Facts.{Facts}
 use Rattle.sheet_reader.specs.Sheets.{noFacts}
 use Rattle.sheet_reader.proofs.Values.{stands-passes}
-use Rattle.comparer.specs.Orders.{rank, pairRows, pairRanks}
-use Rattle.comparer.proofs.Columns.{Deciding, deciding-begin, deciding-ties, deciding-differs, deciding-end, firstOf, columnOrder, rowsRank, rows-known}
-use Rattle.comparer.proofs.Pairs.{rows-many}
+use Rattle.format.specs.CompareSheets.{rank, pairCount, pairRanks}
+use Rattle.comparer.specs.Orders.{pairRows}
+use Rattle.comparer.proofs.Columns.{Deciding, deciding-begin, deciding-ties, deciding-differs, deciding-end, firstOf, columnOrder, factsRank, rows-known}
 use Rattle.comparer.proofs.rows.write_orders.Statement.{statement}
 use Rattle.comparer.proofs.rows.write_orders.Tie as tie
 
@@ -36,7 +36,7 @@ abbrev μ-loop2 : tie.MeasureT-loop2
 
 abbrev Inv-loop : tie.InvT-loop
 Inv-loop n sheet m other numbers bytes answers₀ facts known count pairs k₀ answers k =
-    let R = rowsRank n sheet facts m other known count (pairRows numbers bytes) in (k ≤ pairs) × Walk (each 0 pairs R) (each k (pairs - k) R) answers₀ 0 answers k
+    let R = factsRank n sheet facts m other known count (pairRows numbers bytes) in (k ≤ pairs) × Walk (each 0 pairs R) (each k (pairs - k) R) answers₀ 0 answers k
 
 abbrev μ-loop : tie.MeasureT-loop
 μ-loop n sheet m other numbers bytes answers₀ facts known count pairs k₀ answers k = pairs - k
@@ -49,13 +49,12 @@ Start = tie.Start Inv-loop2 μ-loop2 Inv-loop μ-loop
 abbrev rows : Start → List ℕ
 rows s = pairRows (s .args .numbers .now) (s .args .bytes .now)
 
--- how many pairs there are
-abbrev pairsOf : Start → ℕ
-pairsOf s = (length (s .args .numbers .now) + length (s .args .bytes .now) / 8) / 2
-
 -- there are as many columns as the schema says
 many : (s : Start) → length (colsOf (s .args .schema)) ≡ s .args .schema .count
 many s = in-use (s .args .schema) (s .good .0) (s .pre .1 .0)
+
+abbrev counted : tie.After-pair-count Inv-loop2 μ-loop2 Inv-loop μ-loop → Start
+counted k = k .before .before .before .before .before .before
 
 -- ---- in a turn of the outer loop
 
@@ -63,11 +62,11 @@ abbrev Pair : Type 0
 Pair = tie.After-row-at2 Inv-loop2 μ-loop2 Inv-loop μ-loop
 
 abbrev pairEntry : Pair → Start
-pairEntry c = c .before .before .before .before .before .before .before .before .before
+pairEntry c = c .before .before .before .before .before .before .before .before .before .before
 
 -- its number is one of the pairs
-pair-below : (c : Pair) → let s = pairEntry c in c .before .before .before .loop .k < length (rows s) / 2
-pair-below c = let s = pairEntry c in omega (arith, rows-many (s .args .numbers .now) (s .args .bytes .now), c .before .before .loop-test .taken)
+pair-below : (c : Pair) → c .before .before .before .loop .k < pairCount (rows (pairEntry c))
+pair-below c = omega (arith, c .before .before .before .before .pair-count .ensures, c .before .before .loop-test .taken)
 
 -- the sheets have its rows
 first-below : (c : Pair) → c .before .row-at .result < pairEntry c .args .n
@@ -148,7 +147,7 @@ loop2-again-2 c =
 
 -- the answer to each pair
 abbrev ranks : Start → ℕ → ℕ
-ranks s = let A = s .args in rowsRank (A .n) (A .sheet .now) (A .t4) (A .m) (A .other .now) (A .t7) (A .schema .count) (rows s)
+ranks s = let A = s .args in factsRank (A .n) (A .sheet .now) (A .t4) (A .m) (A .other .now) (A .t7) (A .schema .count) (rows s)
 
 -- and that to this one
 pair-found : (c : tie.After-loop2 Inv-loop2 μ-loop2 Inv-loop μ-loop) → let p = c .before .before in
@@ -165,11 +164,12 @@ pair-found c =
 -- the pairs that are left begin with this one
 pairs-rest : (c : tie.After-loop2 Inv-loop2 μ-loop2 Inv-loop μ-loop) → let l = c .before .before .before .before .before in
     let s = pairEntry (c .before .before) in
-    each (l .loop .k) (pairsOf s - l .loop .k) (ranks s) ≡ (c .before .loop2 .found ∷ []) ++ each (l .loop .k + 1) (pairsOf s - (l .loop .k + 1)) (ranks s)
+    let n = l .before .pair-count .result in
+    each (l .loop .k) (n - l .loop .k) (ranks s) ≡ (c .before .loop2 .found ∷ []) ++ each (l .loop .k + 1) (n - (l .loop .k + 1)) (ranks s)
 pairs-rest c =
     let l = c .before .before .before .before .before in
     let s = pairEntry (c .before .before) in
-    each-step (ranks s) (pairsOf s) (l .loop .k) (c .before .before .before .before .loop-test .taken)
+    each-step (ranks s) (l .before .pair-count .result) (l .loop .k) (c .before .before .before .before .loop-test .taken)
     ∙ rw (pair-found c, add-one (l .loop .k))
 
 loop-again : tie.Need-loop-again Inv-loop2 μ-loop2 Inv-loop μ-loop
@@ -184,19 +184,22 @@ slice-write-answers c =
     omega (arith, l .loop .inv .1 .same, pair-below (c .before .before), s .pre .1 .1 .1 .1 .1)
 
 -- all of them are those of the sheets' rows
-pairs-known : (s : Start) → let A = s .args in
-    pairRanks (colsOf (A .schema)) (A .n) (A .sheet .now) (A .m) (A .other .now) (rows s) ≡ each 0 (pairsOf s) (ranks s)
-pairs-known s =
+pairs-known : (k : tie.After-pair-count Inv-loop2 μ-loop2 Inv-loop μ-loop) → let s = counted k in
+    let A = s .args in
+    pairRanks (colsOf (A .schema)) (A .n) (A .sheet .now) (A .m) (A .other .now) (rows s) ≡ each 0 (k .pair-count .result) (ranks s)
+pairs-known k =
+    let s = counted k in
     let A = s .args in
     rows-known (A .n) (A .sheet .now) (A .t4) (A .m) (A .other .now) (A .t7) (colsOf (A .schema)) (rows s) (s .pre .1 .1 .0) (s .pre .1 .1 .1 .0) (s .pre .1 .1 .1 .1 .0)
-    ∙ ap₂ (λ (k n : ℕ). each 0 (k / 2) (rowsRank (A .n) (A .sheet .now) (A .t4) (A .m) (A .other .now) (A .t7) n (rows s)))
-    (rows-many (A .numbers .now) (A .bytes .now)) (many s)
+    ∙ ap₂ (λ (k n : ℕ). each 0 k (factsRank (A .n) (A .sheet .now) (A .t4) (A .m) (A .other .now) (A .t7) n (rows s))) (sym (k .pair-count .ensures)) (many s)
 
 returns : tie.Need-returns Inv-loop2 μ-loop2 Inv-loop μ-loop
 returns c =
     let l = c .before in
-    let s = l .before .before .before .before .before .before in
-    walk-end (l .loop .inv .1) (each-none (ranks s) (pairsOf s) (l .loop .k) (c .loop-test .left)) .1 ∙ ap (sets (s .args .answers .now) 0) (sym (pairs-known s))
+    let k = l .before in
+    let s = counted k in
+    walk-end (l .loop .inv .1) (each-none (ranks s) (k .pair-count .result) (l .loop .k) (c .loop-test .left)) .1
+    ∙ ap (sets (s .args .answers .now) 0) (sym (pairs-known k))
 
 pub write-orders-spec : {M : Type 1} → statement M
 write-orders-spec =
@@ -206,17 +209,16 @@ write-orders-spec =
     μ-loop2
     Inv-loop
     μ-loop
+    (λ c κs. search needs)
     (λ c.
-    let s = c .before .before .before .before .before in
-    omega (arith, s .good .1 .1 .1 .1 .1 .1 .1 .0, s .good .1 .1 .1 .1 .1 .1 .1 .1 .0))
-    (λ c.
-    let s = c .before .before .before .before .before in
-    (omega arith, walk-first (each 0 (pairsOf s) (ranks s)) (each 0 (pairsOf s - 0) (ranks s)) _ 0 (ap (λ (k : ℕ). each 0 k (ranks s)) (sub-zero (pairsOf s)))))
+    let n = c .pair-count .result in
+    let R = ranks (counted c) in
+    (omega arith, walk-first (each 0 n R) (each 0 (n - 0) R) _ 0 (ap (λ (k : ℕ). each 0 k R) (sub-zero n))))
     (λ c. omega arith)
-    (λ c κs. omega arith)
+    (λ c κs. omega (arith, c .before .before .pair-count .ensures))
     (λ c. omega arith)
     (λ c. omega arith)
-    (λ c κs. omega arith)
+    (λ c κs. omega (arith, c .before .before .before .pair-count .ensures))
     (λ c. deciding-begin _ _)
     (λ c. omega arith)
     (λ c. omega arith)

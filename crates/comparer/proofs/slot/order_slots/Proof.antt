@@ -11,7 +11,7 @@ use Rattle.format.specs.Kinds.{Slot, columnShape}
 use Rattle.format.specs.Sheet.{layout, packed, valueAt, slotAt}
 use Rattle.laws.proofs.Sheets.{valid-bytes}
 use Rattle.sheet_reader.proofs.Values.{slot-valid, slot-null}
-use Rattle.comparer.specs.Orders.{rank}
+use Rattle.format.specs.CompareSheets.{rank}
 use Rattle.comparer.proofs.Values.{foldedOrder, value-null, null-value, null-null, other-side, rank-most}
 use Rattle.comparer.proofs.slot.order_slots.Statement.{statement}
 use Rattle.comparer.proofs.slot.order_slots.Tie as tie
