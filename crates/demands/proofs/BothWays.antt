@@ -1,64 +1,57 @@
--- A list read once: what its reading and the two calls of encode promise is that these answer the same and leave the same. Assumes nothing.
-use Prim.Native.Nat.{ℕ, _≤_}
-use mathlib.Core.Path.{_≡_, refl, ap, sym, _∙_}
-use mathlib.Core.List.{List, _++_}
-use native.Mathlib.Omega.{arith}
-use lib.ListN.{length, take, drop, length-append}
+-- A list read once: calls under its bytes and calls under the descriptions that reading filled in and counted answer the same and leave the
+-- same in every lent buffer, by what the entries promise. Assumes nothing.
+use Prim.Native.Nat.{ℕ, _*_, _≤_}
+use mathlib.Core.Path.{_≡_}
+use mathlib.Core.List.{List}
+use lib.ListN.{length, take}
 use Rattle.format.specs.declared.Column.{Column}
 use Rattle.format.specs.declared.Answer.{Answer}
-use Rattle.format.specs.declared.Answer.the-variants.{Done, Refused}
-use Rattle.format.specs.declared.Refusal.{Refusal}
-use Rattle.format.specs.declared.Check.the-variants.{Pass}
-use Rattle.format.specs.Columns.{spelledColumns}
-use Rattle.format.specs.Described.{spelled, described}
-use Rattle.format.specs.Numbers.{numbersOf}
-use Rattle.format.specs.Entries.{readListCheck, readListAnswer, readListColumns, encodeAnswer, encodeRows, encodeOffsets}
-use Rattle.format.specs.Promises.{ListRead, Encoded}
-use Rattle.basics.proofs.Checks.{answer-done}
-use Rattle.laws.proofs.Numbers.{numbers-injective}
-use Rattle.readings.proofs.BothWays.{both-ways}
-use Rattle.readings.proofs.Promised.{encoded-ways}
-use Rattle.demands.specs.BothWays.{EncodedOnce}
-use Rattle.demands.proofs.Accept.{answer-refused}
-use Rattle.demands.proofs.Unique.{encode-unique}
+use Rattle.format.specs.declared.Answer.the-variants.{Done}
+use Rattle.format.specs.Described.{spelled, described, coded}
+use Rattle.format.specs.Entries.{readListAnswer}
+use Rattle.format.specs.Lent.{answerRoom, codeRoom}
+use Rattle.format.specs.Promises.{ListRead, Measured, Encoded, Decoded, LentListRead, LentMeasured, LentEncoded, LentDecoded}
+use Rattle.readings.specs.Readings.{BothWays}
+use Rattle.readings.proofs.BothWays.{both-ways, both-ways-codes}
+use Rattle.readings.proofs.Promised.{measured-ways, encoded-ways, decoded-ways, lent-measured-ways, lent-encoded-ways, lent-decoded-ways}
+use Rattle.demands.proofs.Unique.{measure-unique, encode-unique, decode-unique, lent-measure-unique, lent-encode-unique, lent-decode-unique}
 
-module _ {list : List ℕ} {lent : List Column} {r : Answer} {lent′ : List Column} (p : ListRead list lent r lent′) where
-  read-is : r ≡ readListAnswer list (length lent)
-  read-is = numbers-injective r _ (p .answers)
+-- read_list answered k: the first k descriptions are handed on
+module _ {list : List ℕ} {lent : List Column} {r : Answer} {lent′ : List Column} (p : ListRead list lent r lent′) (k z : ℕ) (e : r ≡ Done k z) where
+  ways : BothWays (spelled list) (described (take k lent′))
+  ways = both-ways list lent r lent′ p k z e
 
-  -- reading refused: nothing was called
-  pub once-refused : (n : ℕ) (sheet rows offsets others ends : List ℕ) (x : Refusal) → r ≡ Refused x
-      → EncodedOnce list lent n sheet rows offsets others ends (record { first = Refused x; second = Refused x }) rows offsets others ends
-  unfolding readListAnswer
-  once-refused n sheet rows offsets others ends x e =
-      let refuses = answer-refused (readListCheck list (length lent)) _ _ (sym read-is ∙ e) in
-      record { answers = rw refuses; row-bytes = rw refuses; row-ends = rw refuses; same = λ a b. record { answers = refl; row-bytes = a; row-ends = b } }
+  pub measured-alike : {n : ℕ} {sheet : List ℕ} {f g : Answer} → Measured (spelled list) n sheet f → Measured (described (take k lent′)) n sheet g → f ≡ g
+  measured-alike a b = measure-unique (measured-ways ways a) b
 
-  module _ (k z : ℕ) (e : r ≡ Done k z) where
-    passes : (readListCheck list (length lent) ≡ Pass) × (length (spelledColumns list) ≡ k)
-    unfolding readListAnswer
-    passes = let q = answer-done (readListCheck list (length lent)) _ _ k z (sym read-is ∙ e) in (q .0, q .1)
+  pub encoded-alike : {n : ℕ} {sheet rows offsets : List ℕ} {f g : Answer} {rows₁ rows₂ offsets₁ offsets₂ : List ℕ}
+      → Encoded (spelled list) n sheet rows offsets f rows₁ offsets₁ → Encoded (described (take k lent′)) n sheet rows offsets g rows₂ offsets₂
+      → (f ≡ g) × (rows₁ ≡ rows₂) × (offsets₁ ≡ offsets₂)
+  encoded-alike a b = encode-unique (encoded-ways ways a) b
 
-    -- the descriptions that it counted are there
-    pub handed-there : k ≤ length lent′
-    unfolding readListColumns
-    handed-there =
-        let rest : List Column = drop (length (spelledColumns list)) lent in
-        let is : lent′ ≡ spelledColumns list ++ rest = p .descriptions ∙ rw (passes .0) in
-        omega (arith, ap length is, length-append (spelledColumns list) rest, passes .1)
+  pub decoded-alike : {n : ℕ} {rows offsets sheet : List ℕ} {f g : Answer} {sheet₁ sheet₂ : List ℕ}
+      → Decoded (spelled list) n rows offsets sheet f sheet₁ → Decoded (described (take k lent′)) n rows offsets sheet g sheet₂
+      → (f ≡ g) × (sheet₁ ≡ sheet₂)
+  decoded-alike a b = decode-unique (decoded-ways ways a) b
 
-    -- and both calls were made
-    pub once-done : {n : ℕ} {sheet rows offsets others ends : List ℕ} {f g : Answer} {rows′ offsets′ others′ ends′ : List ℕ}
-        → Encoded (spelled list) n sheet rows offsets f rows′ offsets′ → Encoded (described (take k lent′)) n sheet others ends g others′ ends′
-        → EncodedOnce list lent n sheet rows offsets others ends (record { first = f; second = g }) rows′ offsets′ others′ ends′
-    unfolding encodeAnswer encodeRows encodeOffsets
-    once-done {n} {sheet} {rows} {offsets} {others} {ends} {f} {g} {rows′} {offsets′} {others′} {ends′} a b = record {
-      answers = rw (passes .0) (a .answers);
-      row-bytes = rw (passes .0) (a .row-bytes);
-      row-ends = rw (passes .0) (a .row-ends);
-      same = λ same-rows same-ends.
-          let w = encoded-ways (both-ways list lent r lent′ p k z e) a in
-          let second : Encoded (described (take k lent′)) n sheet rows offsets g others′ ends′ = rw (same-rows, same-ends) b in
-          let u = encode-unique w second in
-          record { answers = ap numbersOf (u .0); row-bytes = u .1; row-ends = u .2 };
-    }
+-- station_read_list answered k, and there was room for the answer: the first 4 k bytes are handed on
+module _ {list descriptions lent descriptions′ lent′ : List ℕ} (p : LentListRead list descriptions lent descriptions′ lent′) (k z : ℕ)
+    (done : readListAnswer list (codeRoom descriptions) ≡ Done k z) (there : answerRoom ≤ length lent) where
+  code-ways : BothWays (spelled list) (coded (take (4 * k) descriptions′))
+  code-ways = both-ways-codes list descriptions lent descriptions′ lent′ p k z done there
+
+  pub lent-measured-alike : {n : ℕ} {sheet answer answer₁ answer₂ : List ℕ}
+      → LentMeasured (spelled list) n sheet answer answer₁ → LentMeasured (coded (take (4 * k) descriptions′)) n sheet answer answer₂ → answer₁ ≡ answer₂
+  lent-measured-alike a b = lent-measure-unique (lent-measured-ways code-ways a) b
+
+  pub lent-encoded-alike : {n : ℕ} {sheet rows offsets answer rows₁ rows₂ offsets₁ offsets₂ answer₁ answer₂ : List ℕ}
+      → LentEncoded (spelled list) n sheet rows offsets answer rows₁ offsets₁ answer₁
+      → LentEncoded (coded (take (4 * k) descriptions′)) n sheet rows offsets answer rows₂ offsets₂ answer₂
+      → (answer₁ ≡ answer₂) × (rows₁ ≡ rows₂) × (offsets₁ ≡ offsets₂)
+  lent-encoded-alike a b = lent-encode-unique (lent-encoded-ways code-ways a) b
+
+  pub lent-decoded-alike : {n : ℕ} {rows offsets sheet answer sheet₁ sheet₂ answer₁ answer₂ : List ℕ}
+      → LentDecoded (spelled list) n rows offsets sheet answer sheet₁ answer₁
+      → LentDecoded (coded (take (4 * k) descriptions′)) n rows offsets sheet answer sheet₂ answer₂
+      → (answer₁ ≡ answer₂) × (sheet₁ ≡ sheet₂)
+  lent-decoded-alike a b = lent-decode-unique (lent-decoded-ways code-ways a) b

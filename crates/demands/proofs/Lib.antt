@@ -21,7 +21,6 @@ pub mod Demand3
 pub mod NullSlots
 pub mod FoldedRows
 pub mod Calls
-pub mod BothWays
 pub mod FieldPlace
 pub mod Place
 pub mod Front
@@ -30,3 +29,4 @@ pub mod Sorted
 pub mod Insertion
 pub mod JoinOrder
 pub mod Unique
+pub mod BothWays

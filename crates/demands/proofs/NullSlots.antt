@@ -130,8 +130,8 @@ pub cleared-kept : (n : ℕ) (cols : List Column) (s : List ℕ) → Bytes s →
 cleared-kept n cols s b e h f = cleared-raw n cols (sheetSlots n cols s) ∙ ap (rawSheet n cols) (clear-raws n cols s h f) ∙ sheet-raw n cols s b e .0
 
 -- so, encoded and decoded, it comes back byte for byte
-pub byte-for-byte : (list : ColumnList) (n : ℕ) (sheet rows offsets back : List ℕ) (r : Answer) (back′ : List ℕ) → CameBack list n sheet rows offsets back r back′
-    → Bytes sheet → encodeCheck list n sheet (length rows) (length offsets) ≡ Pass → IsCleared n (columns list) sheet
+pub byte-for-byte : (list : ColumnList) (n : ℕ) (sheet rows offsets back : List ℕ) (r : Answer) (back′ : List ℕ)
+    → CameBack list n sheet rows offsets back r back′ → Bytes sheet → encodeCheck list n sheet (length rows) (length offsets) ≡ Pass → IsCleared n (columns list) sheet
     → IsFolded n (columns list) sheet → length sheet ≤ length back
     → (numbersOf r ≡ three 0 (length sheet) (nulls (sheetSlots n (columns list) sheet))) × (back′ ≡ over sheet back)
 byte-for-byte list n sheet rows offsets back r back′ h b e clear folded room =

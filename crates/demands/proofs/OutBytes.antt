@@ -91,7 +91,8 @@ rows-bytes : (cols : List Column) (yss : List (List Slot)) → Every (RowFits co
 rows-bytes cols [] h = tt
 rows-bytes cols (ys ∷ yss) h = (bytes-row cols ys (h .0), rows-bytes cols yss (h .1))
 
-pub encode-bytes : (list : ColumnList) (n : ℕ) (sheet rows : List ℕ) (offsetRoom : ℕ) → Bytes sheet → Bytes rows → Bytes (encodeRows list n sheet rows offsetRoom)
+pub encode-bytes : (list : ColumnList) (n : ℕ) (sheet rows : List ℕ) (offsetRoom : ℕ) → Bytes sheet → Bytes rows
+    → Bytes (encodeRows list n sheet rows offsetRoom)
 unfolding encodeRows
 encode-bytes list n sheet rows offsetRoom b old =
     written-bytes (encodeCheck list n sheet (length rows) offsetRoom) (joined (sheetRows n cols sheet)) rows new old

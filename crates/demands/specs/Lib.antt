@@ -4,7 +4,6 @@ pub mod Raw
 pub mod RoundTrip
 pub mod Order
 pub mod Slices
-pub mod BothWays
 pub mod Folded
 pub mod Place
 pub mod JoinOrder

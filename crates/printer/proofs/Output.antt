@@ -40,7 +40,8 @@ use Rattle.laws.proofs.Numbers.{numbers-injective}
 -- ---- a sheet
 
 -- one that passes has few rows, and few bytes in them
-rows-few : (list : ColumnList) (n : ℕ) (sheet : List ℕ) (k m : ℕ) → encodeCheck list n sheet k m ≡ Pass → (n ≤ maxRows) × (sheetTotal n (columns list) sheet ≤ k)
+rows-few : (list : ColumnList) (n : ℕ) (sheet : List ℕ) (k m : ℕ) → encodeCheck list n sheet k m ≡ Pass
+    → (n ≤ maxRows) × (sheetTotal n (columns list) sheet ≤ k)
 unfolding encodeCheck
 rows-few list n sheet k m e = (
   encoded list n sheet k m e .1 .few,
@@ -67,7 +68,8 @@ rows = replicate {A = ℕ} rowRoom 0
 abbrev offsets : List ℕ
 offsets = replicate {A = ℕ} offsetRoom 0
 
-module _ (list : ColumnList) (n : ℕ) (sheet : List ℕ) (given : Answer) (rows′ offsets′ : List ℕ) (h : Encoded list n sheet rows offsets given rows′ offsets′) where
+module _ (list : ColumnList) (n : ℕ) (sheet : List ℕ) (given : Answer) (rows′ offsets′ : List ℕ)
+    (h : Encoded list n sheet rows offsets given rows′ offsets′) where
   rows-long : length rows ≡ rowRoom
   rows-long = length-replicate {A = ℕ} rowRoom 0
 

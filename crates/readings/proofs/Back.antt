@@ -89,7 +89,8 @@ pub held-back : (d : Description) → Fine (d .kind) false (d .options) (d .widt
 held-back d f =
     ap (λ (k : ℕ). numbers k (optionsNumber (optionsOf (d .options))) (heldWidth (kindOf (d .kind) (d .width))))
     (kind-back (d .kind) (d .width) (f .least) (f .most))
-    ∙ ap (λ (o : ℕ). numbers (d .kind) o (heldWidth (kindOf (d .kind) (d .width)))) (options-back (d .options) (few-options (d .kind) (d .options) (f .options)))
+    ∙ ap (λ (o : ℕ). numbers (d .kind) o (heldWidth (kindOf (d .kind) (d .width))))
+    (options-back (d .options) (few-options (d .kind) (d .options) (f .options)))
     ∙ ap (numbers (d .kind) (d .options)) (width-back (d .kind) (d .width) (f .least) (f .most) (f .width))
   where
     numbers : ℕ → ℕ → ℕ → Description

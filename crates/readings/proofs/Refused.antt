@@ -77,7 +77,7 @@ faults-from (suc room) i at s (d ∷ ds) h e =
     = subst (λ (b : ℕ). Faults (suc i) (at + descriptionBytes b) ds (descriptionsFaultFrom room (suc i) ds) (listFaultFrom room s next))
     (kind-at s at d (spellAll ds) e (h .0))
     (faults-from room (suc i) next s ds (h .1) (next-is s at d (spellAll ds) e (h .0))) in
-    subst (λ (t : Bool). Faults i at (d ∷ ds) (both (heldFault i d) (descriptionsFaultFrom room (suc i) ds)) (cond t (both (descriptionFault s at) (listFaultFrom room s next)) Pass))
+    subst (λ (t : Bool). Faults i at (d ∷ ds) (both (heldFault i d) (descriptionsFaultFrom room (suc i) ds)) (cond t bytes Pass))
     (sym (lt-ltb at (length s) (begins s at d (spellAll ds) e (h .0))))
     (both-alike i at (d ∷ ds)
     (subst (Faults i at (d ∷ ds) (heldFault i d)) (sym (fault-is s at d (spellAll ds) e (h .0))) (numbers-alike i at (d ∷ ds) d))
@@ -85,6 +85,9 @@ faults-from (suc room) i at s (d ∷ ds) h e =
   where
     next : ℕ
     next = at + descriptionBytes (getD s at 0)
+
+    bytes : Check
+    bytes = both (descriptionFault s at) (listFaultFrom room s next)
 
 pub same-pass : (i at : ℕ) (ds : List Description) {c e : Check} → Faults i at ds c e → c ≡ Pass → e ≡ Pass
 same-pass i at ds none h = refl
@@ -108,7 +111,8 @@ faults-within : (room : ℕ) (ds : List Description) → Every Spellable ds
     (failIf (eqb (length (spellAll ds)) 0) (ListCut 0) (listFaultFrom room (spellAll ds) 0))
 faults-within room [] h = one 0 1 (ListCut 0) (ListCut 0) refl refl
 faults-within room (d ∷ ds) h =
-    subst (λ (t : Bool). Faults 0 0 (d ∷ ds) (failIf t (ListCut 0) own) (failIf (eqb (length s) 0) (ListCut 0) bytes)) (sym (ne-eqb (length (d ∷ ds)) 0 (λ z. omega arith)))
+    subst (λ (t : Bool). Faults 0 0 (d ∷ ds) (failIf t (ListCut 0) own) (failIf (eqb (length s) 0) (ListCut 0) bytes))
+    (sym (ne-eqb (length (d ∷ ds)) 0 (λ z. omega arith)))
     (subst (λ (t : Bool). Faults 0 0 (d ∷ ds) own (failIf t (ListCut 0) bytes)) (sym (ne-eqb (length s) 0 (λ z. omega arith)))
     (faults-from room 0 0 s (d ∷ ds) h refl))
   where
