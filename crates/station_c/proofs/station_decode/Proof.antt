@@ -1,6 +1,6 @@
 -- `station_c::station_decode` meets its contract. Assumes nothing.
 use borrow.Author.Needs.{needs}
-use Rattle.station_c.proofs.Entries.{decode-short}
+use Rattle.sized.proofs.Entries.{decode-short}
 use Rattle.station_c.proofs.station_decode.Statement.{statement}
 use Rattle.station_c.proofs.station_decode.Tie as tie
 

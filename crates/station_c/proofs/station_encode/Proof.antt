@@ -1,6 +1,6 @@
 -- `station_c::station_encode` meets its contract. Assumes nothing.
 use borrow.Author.Needs.{needs}
-use Rattle.station_c.proofs.Entries.{encode-short}
+use Rattle.sized.proofs.Entries.{encode-short}
 use Rattle.station_c.proofs.station_encode.Statement.{statement}
 use Rattle.station_c.proofs.station_encode.Tie as tie
 
