@@ -20,6 +20,7 @@ pub mod Demand2
 pub mod Demand3
 pub mod NullSlots
 pub mod FoldedRows
+pub mod SheetRows
 pub mod Calls
 pub mod FieldPlace
 pub mod Place
