@@ -3,3 +3,4 @@ pub mod Enough
 pub mod Entries
 pub mod Joins
 pub mod ListRead
+pub mod Comparing
