@@ -10,6 +10,9 @@ use crate::model::{MAX_ROWS, MAX_TOTAL};
 use crate::rng::Rng;
 use crate::table::Table;
 
+/// Places of a slice that are changed.
+const MOST_PLACES: usize = 100;
+
 /// The look-up of a key in the rows of something good.
 pub fn look_up(good: &Good, k: usize, key: &[u8]) -> Call {
     let offsets = eights(&good.offsets);
@@ -168,6 +171,11 @@ fn with_later_faults(judge: &mut Judge, call: &Call) {
     judge.call(wrong);
 }
 
+/// So many places of a long slice, and every place of a short one.
+fn places(len: usize) -> impl Iterator<Item = usize> {
+    (0..len).step_by(len / MOST_PLACES + 1)
+}
+
 /// The key with each byte changed, each cut of it, and a byte after it.
 fn every_change(judge: &mut Judge, call: &Call) {
     let key = call.given[1].clone();
@@ -179,7 +187,7 @@ fn every_change(judge: &mut Judge, call: &Call) {
             false => judge.call(call),
         }
     };
-    for at in 0..key.len() {
+    for at in places(key.len()) {
         with(&key[..at], at < 2);
         for bit in 0..8 {
             let mut changed = key.clone();
@@ -207,7 +215,7 @@ fn batch_faults(judge: &mut Judge, call: &Call) {
         cut.given[3].truncate(at + 7);
         judge.call(cut);
     }
-    for at in 0..call.given[2].len() {
+    for at in places(call.given[2].len()) {
         for bit in [0, 1, 7] {
             let mut changed = call.clone();
             changed.given[2][at] ^= 1 << bit;
