@@ -105,9 +105,12 @@ fn change_number(rng: &mut Rng, number: u64) -> u64 {
     }
 }
 
-/// One change to one of some numbers.
+/// One change to one of some numbers; of one number, no choice is drawn.
 fn change_one(rng: &mut Rng, numbers: &mut [u64]) {
-    let i = rng.below(numbers.len());
+    let i = match numbers.len() {
+        1 => 0,
+        count => rng.below(count),
+    };
     numbers[i] = change_number(rng, numbers[i]);
 }
 
