@@ -81,6 +81,7 @@ lent-join-unique g h = (cc, cc)
 pub lent-look-up-unique : {list : ColumnList} {k : ℕ} {key : List ℕ} {n : ℕ} {rows offsets lent lent₁ lent₂ : List ℕ}
     → LentLookedUp list k key n rows offsets lent lent₁ → LentLookedUp list k key n rows offsets lent lent₂ → lent₁ ≡ lent₂
 lent-look-up-unique g h = cc
+
 pub lent-compare-sheets-unique : {list : ColumnList} {n₀ : ℕ} {sheet₀ : List ℕ} {r₀ n₁ : ℕ} {sheet₁ : List ℕ} {r₁ : ℕ} {lent lent₁ lent₂ : List ℕ}
     → LentSheetsCompared list n₀ sheet₀ r₀ n₁ sheet₁ r₁ lent lent₁ → LentSheetsCompared list n₀ sheet₀ r₀ n₁ sheet₁ r₁ lent lent₂ → lent₁ ≡ lent₂
 lent-compare-sheets-unique g h = cc
