@@ -16,7 +16,8 @@ put-codes-requires c κs =
     let passed = c .before .before in
     let judged = passed .before .before in
     let l = judged .before .read-list .ensures in
-    roomy (judged .before .before .before .before .args .list .now) _ _ l _ (judged .column-room .ensures _ l) (passed .enum-told .given .1)
+    let args = judged .before .before .before .before .args in
+    roomy (args .list .now) (args .codes .now) _ l _ (judged .column-room .ensures _ l) (passed .enum-told .given .1)
 
 returns-2 : tie.Need-returns-2
 returns-2 c =
@@ -36,7 +37,5 @@ list-codes-spec =
     returns
     (λ c. search needs)
     put-codes-requires
-    (λ c. search needs)
-    (λ c. search needs)
     (λ c. search needs)
     returns-2)
