@@ -264,8 +264,22 @@ module _ {M : Type 1} (𝓤 : URA M) (H : Heap 𝓤) (A : Atoms 𝓤) (W : Given
   compare-read-walks C Λ fm reads compares =
       walked 𝓤 H A read.ended stayed (read.clauses 𝓤 H A mem run) (WpFn 𝓤 H C Λ code.function)
       (λ κs. (slice-vals, (uint-vals w64, (slice-vals, (uint-vals w64, (slice-vals, (slice-vals, (slice-vals, tt))))))))
-      (λ κs. (shr-slice-tells (named 0) (κs .0) R, (uint-tells w64, (shr-slice-tells (named 1) (κs .1 .0) u8, (uint-tells w64, (shr-slice-tells (named 2) (κs .1 .1 .0) u8,
-      (shr-slice-tells (named 3) (κs .1 .1 .1 .0) u64, (mut-slice-tells (named 4) (κs .1 .1 .1 .1 .0) u8, tt))))))))
+      (λ κs. (
+        shr-slice-tells (named 0) (κs .0) R,
+        (
+          uint-tells w64,
+          (
+            shr-slice-tells (named 1) (κs .1 .0) u8,
+            (
+              uint-tells w64,
+              (
+                shr-slice-tells (named 2) (κs .1 .1 .0) u8,
+                (shr-slice-tells (named 3) (κs .1 .1 .1 .0) u64, (mut-slice-tells (named 4) (κs .1 .1 .1 .1 .0) u8, tt)),
+              ),
+            ),
+          ),
+        ),
+      ))
       (λ κs qs bounds a g are. via 𝓤 _ (fst∗ 𝓤 _ (emp 𝓤))
       (walk 𝓤 H A W mem run (κs .0) (κs .1 .0) (κs .1 .1 .0) (κs .1 .1 .1 .0) (κs .1 .1 .1 .1 .0) (qs .0) (qs .1 .0) (qs .1 .1 .0) (qs .1 .1 .1 .0) (qs .1 .1 .1 .1 .0)
       (a .0 .ptr .0) (a .0 .ptr .1) (a .0 .name) (a .0 .now) (a .1 .0) (a .1 .1 .0 .ptr .0) (a .1 .1 .0 .ptr .1) (a .1 .1 .0 .name) (a .1 .1 .0 .now)
