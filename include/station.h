@@ -53,6 +53,13 @@
  * offsets  n+1 numbers of eight bytes, low byte first: 0, then each row's end. A length that is no multiple
  *          of eight leaves a tail that does not count and stays.
  *
+ * row0, row1, pairs
+ *          Rows of sheet 0 and of sheet 1. Pairs are two numbers of eight bytes each, low byte first: a row of
+ *          sheet 0 and one of sheet 1. A length that is no multiple of sixteen leaves a tail that does not count.
+ *
+ * answers  A byte for each pair: 0 where the row of sheet 0 is below that of sheet 1, 1 where it is equal, 2 where
+ *          it is above.
+ *
  * k, key   The fields of the first k columns as bytes, as a row of these columns alone has them.
  *
  * order    Entries of eight bytes, low byte first, one for each row of two passes: 4,096 times the pass plus the
@@ -61,7 +68,8 @@
  * answer   Four numbers of eight bytes, low byte first, so 32 bytes; a shorter answer, and no lent byte
  *          changes. The first is 0 for done, and else the number of the refusal:
  *
- *            0   done                                       total, null slots; of look_up two rows
+ *            0   done                                       total, null slots; of look_up two rows, of
+ *                                                           compare_sheets 0, 1 or 2
  *            1   list empty, or a body cut                  place of the kind byte, 0
  *            2   unknown kind                               the same
  *            3   other option bits set, or fold elsewhere   the same
@@ -76,8 +84,8 @@
  *            11  bytes after the last column                place, 0
  *            12  rows over 16,777,216 bytes                 total, 0
  *            13  row buffer too small                       total, 0
- *            14  offset list under n+1, or order under the  n+1, or the rows of both, 0
- *                rows of both passes
+ *            14  offset list under n+1, order under the     n+1, the rows of both, or the pairs, 0
+ *                rows of both passes, answers under pairs
  *            15  first offset not 0, one falls, or the      its index, 0
  *                last passes the row bytes
  *            16  field or block cut                         row, column
@@ -94,6 +102,7 @@
  *            28  float not folded where the column folds    row, column
  *            29  too few descriptions lent                  columns, 0
  *            31  k of 0 or past the columns                 k, 0
+ *            32  no such row in a sheet                     sheet, row
  *
  *          Of descriptions 1 is for none, and the place in 1 to 5 is the index of the column.
  *
@@ -127,6 +136,10 @@ enum {
     STATION_ENCODE_READ_STACK = 58368,
     STATION_DECODE_STACK = 79872,
     STATION_DECODE_READ_STACK = 79872,
+    STATION_COMPARE_SHEETS_STACK = 14336,
+    STATION_COMPARE_SHEETS_READ_STACK = 14336,
+    STATION_COMPARE_PAIRS_STACK = 14336,
+    STATION_COMPARE_PAIRS_READ_STACK = 14336,
     STATION_LOOK_UP_STACK = 48128,
     STATION_LOOK_UP_READ_STACK = 48128,
     STATION_JOIN_STACK = 132096,
@@ -173,6 +186,27 @@ void station_encode_read(const uint8_t *descriptions, size_t descriptions_len, u
 void station_decode_read(const uint8_t *descriptions, size_t descriptions_len, uint64_t n, const uint8_t *rows,
                          size_t rows_len, const uint8_t *offsets, size_t offsets_len, uint8_t *sheet, size_t sheet_len,
                          uint8_t *answer, size_t answer_len);
+
+/* Compares a row of one sheet with a row of another under one list, by their values, as their row bytes would compare;
+ * no row is made. First 0, 1 or 2 for below, equal or above, then 0. */
+void station_compare_sheets(const uint8_t *list, size_t list_len, uint64_t n0, const uint8_t *sheet0, size_t sheet0_len,
+                            uint64_t row0, uint64_t n1, const uint8_t *sheet1, size_t sheet1_len, uint64_t row1,
+                            uint8_t *answer, size_t answer_len);
+
+void station_compare_sheets_read(const uint8_t *descriptions, size_t descriptions_len, uint64_t n0,
+                                 const uint8_t *sheet0, size_t sheet0_len, uint64_t row0, uint64_t n1,
+                                 const uint8_t *sheet1, size_t sheet1_len, uint64_t row1, uint8_t *answer,
+                                 size_t answer_len);
+
+/* The same for many pairs of rows, with one check of the two sheets. Total: pairs. */
+void station_compare_pairs(const uint8_t *list, size_t list_len, uint64_t n0, const uint8_t *sheet0, size_t sheet0_len,
+                           uint64_t n1, const uint8_t *sheet1, size_t sheet1_len, const uint8_t *pairs, size_t pairs_len,
+                           uint8_t *answers, size_t answers_len, uint8_t *answer, size_t answer_len);
+
+void station_compare_pairs_read(const uint8_t *descriptions, size_t descriptions_len, uint64_t n0,
+                                const uint8_t *sheet0, size_t sheet0_len, uint64_t n1, const uint8_t *sheet1,
+                                size_t sheet1_len, const uint8_t *pairs, size_t pairs_len, uint8_t *answers,
+                                size_t answers_len, uint8_t *answer, size_t answer_len);
 
 /* Looks a key up in a batch whose rows are sorted as bytes. First the first row that begins with the key, then one past
  * the last such row; where none does, both are the first row above the key, or n. The key is checked as row 0 of the first

@@ -36,15 +36,15 @@ enum batch { OF_SHEET, PASS0, PASS1, BATCHES };
 /* The words of an example. Those up to INPUT have bytes for a value, which may go on in the next line. Those of a batch stand in the
  * order of the batches. */
 enum word {
-    LIST, COLUMNS, SHEET, CLEARED, KEY, ROW, ROW0, ROW1, INPUT,
-    K, N, N0, N1, OFFSETS, OFFSETS0, OFFSETS1, COLUMN_ROOM, ROW_ROOM, OFFSET_ROOM, SHEET_ROOM, ORDER_ROOM,
-    REFUSED, CHECK, READ, MEASURE, ENCODE, DECODE, FOUND, JOIN, COMPARE, ORDER, PRINTS,
+    LIST, COLUMNS, SHEET, OTHER, CLEARED, KEY, ROW, ROW0, ROW1, INPUT,
+    K, N, OTHER_N, N0, N1, OFFSETS, OFFSETS0, OFFSETS1, COLUMN_ROOM, ROW_ROOM, OFFSET_ROOM, SHEET_ROOM, ORDER_ROOM, RANK_ROOM,
+    PAIRS, RANKS, REFUSED, CHECK, READ, MEASURE, ENCODE, DECODE, COMPARE_SHEETS, COMPARE_PAIRS, FOUND, JOIN, COMPARE, ORDER, PRINTS,
     WORDS,
 };
 static const char *const NAMES[WORDS] = {
-    "list", "columns", "sheet", "cleared", "key", "row", "row0", "row1", "input",
-    "k", "n", "n0", "n1", "offsets", "offsets0", "offsets1", "column-room", "row-room", "offset-room", "sheet-room", "order-room",
-    "refused", "check", "read", "measure", "encode", "decode", "found", "join", "compare", "order", "prints",
+    "list", "columns", "sheet", "other", "cleared", "key", "row", "row0", "row1", "input",
+    "k", "n", "other-n", "n0", "n1", "offsets", "offsets0", "offsets1", "column-room", "row-room", "offset-room", "sheet-room", "order-room", "rank-room",
+    "pairs", "ranks", "refused", "check", "read", "measure", "encode", "decode", "compare-sheets", "compare-pairs", "found", "join", "compare", "order", "prints",
 };
 
 struct bytes {
@@ -218,16 +218,22 @@ struct way {
     void (*measure)(const uint8_t *, size_t, uint64_t, const uint8_t *, size_t, uint8_t *, size_t);
     void (*encode)(const uint8_t *, size_t, uint64_t, const uint8_t *, size_t, uint8_t *, size_t, uint8_t *, size_t, uint8_t *, size_t);
     void (*decode)(const uint8_t *, size_t, uint64_t, const uint8_t *, size_t, const uint8_t *, size_t, uint8_t *, size_t, uint8_t *, size_t);
+    void (*compare_sheets)(const uint8_t *, size_t, uint64_t, const uint8_t *, size_t, uint64_t, uint64_t, const uint8_t *, size_t, uint64_t,
+                           uint8_t *, size_t);
+    void (*compare_pairs)(const uint8_t *, size_t, uint64_t, const uint8_t *, size_t, uint64_t, const uint8_t *, size_t, const uint8_t *, size_t,
+                          uint8_t *, size_t, uint8_t *, size_t);
     void (*look_up)(const uint8_t *, size_t, uint64_t, const uint8_t *, size_t, uint64_t, const uint8_t *, size_t, const uint8_t *, size_t,
                     uint8_t *, size_t);
 };
 
 static struct way by_list(void) {
-    return (struct way){ex.value[LIST], station_measure, station_encode, station_decode, station_look_up};
+    return (struct way){ex.value[LIST], station_measure, station_encode, station_decode, station_compare_sheets, station_compare_pairs,
+                        station_look_up};
 }
 
 static struct way by_descriptions(struct bytes columns) {
-    return (struct way){columns, station_measure_read, station_encode_read, station_decode_read, station_look_up_read};
+    return (struct way){columns, station_measure_read, station_encode_read, station_decode_read, station_compare_sheets_read,
+                        station_compare_pairs_read, station_look_up_read};
 }
 
 static void try_list(void) {
@@ -285,6 +291,38 @@ static void try_decode(struct way way) {
     if (!ex.has[REFUSED] && !same(sheet, right)) fault(ex.line, "decode writes another sheet");
     free(sheet.at);
     free(ends.at);
+}
+
+/* Row i of the sheet and row j of the other: the rank is to be this one, or the refusal that of the example. */
+static void try_pair(struct way way, uint64_t i, uint64_t j, uint64_t rank) {
+    struct bytes list = way.columns, sheet = ex.value[SHEET], other = ex.value[OTHER];
+    uint8_t answer[STATION_ANSWER_BYTES];
+    way.compare_sheets(list.at, list.len, number(N, 0), sheet.at, sheet.len, i, number(OTHER_N, 0), other.at, other.len, j, answer,
+                       sizeof answer);
+    judge(COMPARE_SHEETS, answer, rank);
+}
+
+/* All pairs at once; and each alone, or the one that is refused. */
+static void try_pairs(struct way way) {
+    struct bytes list = way.columns, sheet = ex.value[SHEET], other = ex.value[OTHER], pairs = numbers(PAIRS), ranks = numbers(RANKS);
+    size_t count = pairs.len / 16;
+    struct bytes answers = filled(number(RANK_ROOM, count));
+    uint8_t answer[STATION_ANSWER_BYTES];
+    way.compare_pairs(list.at, list.len, number(N, 0), sheet.at, sheet.len, number(OTHER_N, 0), other.at, other.len, pairs.at, pairs.len,
+                      answers.at, answers.len, answer, sizeof answer);
+    judge(COMPARE_PAIRS, answer, count);
+    if (ex.has[REFUSED] && !untouched(answers)) fault(ex.line, "compare_pairs refuses and writes");
+    if (!ex.has[REFUSED] && ranks.len != 8 * count) fault(ex.line, "a rank for each pair");
+    for (size_t k = 0; k < count && !ex.has[REFUSED]; k++) {
+        uint64_t rank = eight(ranks.at + 8 * k);
+        if (answers.at[k] != rank) fault(ex.line, "pair %zu is ranked %u", k, answers.at[k]);
+        try_pair(way, eight(pairs.at + 16 * k), eight(pairs.at + 16 * k + 8), rank);
+    }
+    if (ex.has[REFUSED] && !ex.has[RANK_ROOM] && count > 0)
+        try_pair(way, eight(pairs.at + 16 * (count - 1)), eight(pairs.at + 16 * (count - 1) + 8), 0);
+    free(pairs.at);
+    free(ranks.at);
+    free(answers.at);
 }
 
 static void try_look_up(struct way way) {
@@ -397,10 +435,10 @@ static void begin(void) {
     }
 }
 
-/* What the example says of a key, or of a sheet and its rows. */
+/* What the example says of a key, of two sheets, or of a sheet and its rows. */
 static void try_way(struct way way) {
-    if (ex.has[KEY]) {
-        try_look_up(way);
+    if (ex.has[KEY] || ex.has[OTHER]) {
+        (ex.has[KEY] ? try_look_up : try_pairs)(way);
         return;
     }
     if (ex.has[SHEET]) try_encode(way);
@@ -434,7 +472,7 @@ static void finish(void) {
     if (ex.has[KEY] && (ex.has[SHEET] || !ex.has[K])) fault(ex.line, "a key with a sheet, or without its count of columns");
     if (!columns && !passes && !ex.has[COMPARE] && !ex.has[INPUT]) fault(ex.line, "nothing to try");
     if (columns) try_columns();
-    if (ex.has[LIST] && ex.has[SHEET] && !room) try_rows();
+    if (ex.has[LIST] && ex.has[SHEET] && !ex.has[OTHER] && !room) try_rows();
     if (passes) try_join();
     if (ex.has[COMPARE]) try_compare();
     if (ex.has[INPUT]) try_program(ex.value[INPUT], ex.value[PRINTS]);

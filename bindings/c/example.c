@@ -1,6 +1,6 @@
 /* Two rows of a catalogue of glyphs: plate (u32), glyph name (variable bytes), contour (u16), position (f64), exposure
- * (months, days, nanoseconds). Encodes them, prints each row in hex, compares the two, decodes them again, and looks their
- * plate up. Then the same with the list read once, as one would for many sheets.
+ * (months, days, nanoseconds). Encodes them, prints each row in hex, compares the two, decodes them again, compares their
+ * values, and looks their plate up. Then the same with the list read once, as one would for many sheets.
  *
  *   cc -I include bindings/c/example.c target/staticlib/libstation_c.a -o example && ./example
  */
@@ -37,6 +37,20 @@ static int done(const char *call, const uint8_t *answer) {
     printf("%s: refused %" PRIu64 " %" PRIu64 " %" PRIu64 " %" PRIu64 "\n", call, number(answer, 0), number(answer, 1),
            number(answer, 2), number(answer, 3));
     return 0;
+}
+
+/* Compares the two rows of the sheet by their values: 0, 1 or 2, of one pair and of two. */
+static int compare_values(void) {
+    uint8_t pairs[2 * 16] = {0, 0, 0, 0, 0, 0, 0, 0, 1, 0, 0, 0, 0, 0, 0, 0, 1}, answers[2], answer[STATION_ANSWER_BYTES];
+
+    station_compare_sheets(LIST, sizeof LIST, 2, SHEET, sizeof SHEET, 0, 2, SHEET, sizeof SHEET, 1, answer, sizeof answer);
+    if (!done("compare_sheets", answer)) return 0;
+    printf("by values: %" PRIu64, number(answer, 1));
+    station_compare_pairs(LIST, sizeof LIST, 2, SHEET, sizeof SHEET, 2, SHEET, sizeof SHEET, pairs, sizeof pairs, answers,
+                          sizeof answers, answer, sizeof answer);
+    if (!done("compare_pairs", answer)) return 0;
+    printf(", and of two pairs: %u %u\n", answers[0], answers[1]);
+    return 1;
 }
 
 /* Looks plate 7 up, whose key is the five bytes that row 0 begins with, in the two rows put in order: row 1, which has no
@@ -97,7 +111,7 @@ int main(void) {
     if (!done("decode", answer)) return 1;
     int same = number(answer, 1) == sizeof SHEET && memcmp(sheet, SHEET, sizeof SHEET) == 0;
     printf("decoded: %s\n", same ? "the same sheet" : "another sheet");
-    if (!look_up(rows, middle, end)) return 1;
+    if (!compare_values() || !look_up(rows, middle, end)) return 1;
     int alike = read_once(rows, end);
     printf("with the list read once: %s\n", alike ? "the same rows and sheet" : "other bytes");
     return same && alike ? 0 : 1;

@@ -86,6 +86,20 @@ int main(void) {
     station_encode_read(NULL, 0, 0, NULL, 0, NULL, 0, NULL, 0, NULL, 0);
     station_decode_read(NULL, 0, 0, NULL, 0, NULL, 0, NULL, 0, NULL, 0);
 
+    station_compare_sheets(NULL, 0, 0, NULL, 0, 0, 0, NULL, 0, 0, answer, sizeof answer);
+    hold("compare_sheets of nothing", 1, 0, 0);
+    station_compare_sheets(LIST, sizeof LIST, 0, NULL, 0, 7, 0, NULL, 0, 0, answer, sizeof answer);
+    hold("compare_sheets of no rows", 32, 0, 7);
+    station_compare_sheets_read(DESCRIPTION, sizeof DESCRIPTION, 0, NULL, 0, 7, 0, NULL, 0, 0, answer, sizeof answer);
+    hold("compare_sheets_read of no rows", 32, 0, 7);
+    station_compare_pairs(LIST, sizeof LIST, 0, NULL, 0, 0, NULL, 0, NULL, 0, NULL, 0, answer, sizeof answer);
+    hold("compare_pairs of no rows", 0, 0, 0);
+    station_compare_pairs_read(DESCRIPTION, sizeof DESCRIPTION, 0, NULL, 0, 0, NULL, 0, NULL, 0, NULL, 0, answer,
+                               sizeof answer);
+    hold("compare_pairs_read of no rows", 0, 0, 0);
+    station_compare_sheets(NULL, 0, 0, NULL, 0, 0, 0, NULL, 0, 0, NULL, 0);
+    station_compare_pairs(NULL, 0, 0, NULL, 0, 0, NULL, 0, NULL, 0, NULL, 0, NULL, 0);
+
     station_look_up(NULL, 0, 1, NULL, 0, 0, NULL, 0, NULL, 0, answer, sizeof answer);
     hold("look_up of nothing", 1, 0, 0);
     station_look_up(LIST, sizeof LIST, 0, NULL, 0, 0, NULL, 0, NULL, 0, answer, sizeof answer);

@@ -1,5 +1,5 @@
 //! Calls of the C entries with any bytes, and what document 01 says that they leave behind; of lists
-//! that are read once, of the join and of the look-up, document 02.
+//! that are read once, of the join, of the look-up and of sheets that are compared, document 02.
 
 use crate::columns::{descriptions_of, Column};
 use crate::hex::hex_start;
@@ -36,11 +36,15 @@ pub enum Entry {
     DecodeRead,
     LookUp,
     LookUpRead,
+    CompareSheets,
+    CompareSheetsRead,
+    ComparePairs,
+    ComparePairsRead,
     Join,
     Compare,
 }
 
-pub const ENTRIES: [Entry; 12] = [
+pub const ENTRIES: [Entry; 16] = [
     Entry::CheckList,
     Entry::ReadList,
     Entry::Measure,
@@ -51,6 +55,10 @@ pub const ENTRIES: [Entry; 12] = [
     Entry::DecodeRead,
     Entry::LookUp,
     Entry::LookUpRead,
+    Entry::CompareSheets,
+    Entry::CompareSheetsRead,
+    Entry::ComparePairs,
+    Entry::ComparePairsRead,
     Entry::Join,
     Entry::Compare,
 ];
@@ -68,6 +76,10 @@ impl Entry {
             Entry::DecodeRead => "decode_read",
             Entry::LookUp => "look_up",
             Entry::LookUpRead => "look_up_read",
+            Entry::CompareSheets => "compare_sheets",
+            Entry::CompareSheetsRead => "compare_sheets_read",
+            Entry::ComparePairs => "compare_pairs",
+            Entry::ComparePairsRead => "compare_pairs_read",
             Entry::Join => "join",
             Entry::Compare => "compare",
         }
@@ -86,6 +98,10 @@ impl Entry {
             Entry::DecodeRead => raw::station_decode_read as *const (),
             Entry::LookUp => raw::station_look_up as *const (),
             Entry::LookUpRead => raw::station_look_up_read as *const (),
+            Entry::CompareSheets => raw::station_compare_sheets as *const (),
+            Entry::CompareSheetsRead => raw::station_compare_sheets_read as *const (),
+            Entry::ComparePairs => raw::station_compare_pairs as *const (),
+            Entry::ComparePairsRead => raw::station_compare_pairs_read as *const (),
             Entry::Join => raw::station_join as *const (),
             Entry::Compare => raw::station_compare as *const (),
         }
@@ -119,6 +135,24 @@ impl Entry {
                     .chain(rows)
                     .collect()
             }
+            Entry::CompareSheets => vec![
+                columns,
+                Number("n0"),
+                Read("sheet0"),
+                Number("row0"),
+                Number("n1"),
+                Read("sheet1"),
+                Number("row1"),
+            ],
+            Entry::ComparePairs => vec![
+                columns,
+                Number("n0"),
+                Read("sheet0"),
+                Number("n1"),
+                Read("sheet1"),
+                Read("pairs"),
+                Written("answers"),
+            ],
             Entry::Join => vec![
                 Number("n0"),
                 Read("rows0"),
@@ -139,6 +173,8 @@ impl Entry {
             Entry::Encode => Some(Entry::EncodeRead),
             Entry::Decode => Some(Entry::DecodeRead),
             Entry::LookUp => Some(Entry::LookUpRead),
+            Entry::CompareSheets => Some(Entry::CompareSheetsRead),
+            Entry::ComparePairs => Some(Entry::ComparePairsRead),
             _ => None,
         }
     }
@@ -245,6 +281,25 @@ impl Call {
         Call::new(Entry::LookUp, &[k, n], &[list, key, rows, offsets], &[])
     }
 
+    /// Each sheet with its count of rows, and a row of each.
+    pub fn compare_sheets(list: &[u8], sheets: [(u64, &[u8]); 2], rows: [u64; 2]) -> Call {
+        let [(n0, sheet0), (n1, sheet1)] = sheets;
+        let numbers = [n0, rows[0], n1, rows[1]];
+        Call::new(Entry::CompareSheets, &numbers, &[list, sheet0, sheet1], &[])
+    }
+
+    /// Each sheet with its count of rows; the pairs and the room are bytes.
+    pub fn compare_pairs(
+        list: &[u8],
+        sheets: [(u64, &[u8]); 2],
+        pairs: &[u8],
+        answers: usize,
+    ) -> Call {
+        let [(n0, sheet0), (n1, sheet1)] = sheets;
+        let given = [list, sheet0, sheet1, pairs];
+        Call::new(Entry::ComparePairs, &[n0, n1], &given, &[answers])
+    }
+
     /// The passes in order, each its rows and their offsets; offsets and room are bytes.
     pub fn join(counts: [u64; 2], passes: [[&[u8]; 2]; 2], order: usize) -> Call {
         Call::new(Entry::Join, &counts, &passes.concat(), &[order])
@@ -334,6 +389,20 @@ impl Call {
                 let batch = (number(1), given(2), &offsets[..]);
                 let found = model::look_up(&columns, number(0), given(1), batch)?;
                 ([0, found.start as u64, found.end as u64, 0], vec![])
+            }
+            Entry::CompareSheets | Entry::CompareSheetsRead => {
+                let columns = self.entry.columns(given(0))?;
+                let sheets = [(number(0), given(1)), (number(2), given(2))];
+                let pairs = [number(1), number(3)];
+                let ranks = model::compare_pairs(&columns, sheets, &pairs, 1)?;
+                ([0, ranks[0] as u64, 0, 0], vec![])
+            }
+            Entry::ComparePairs | Entry::ComparePairsRead => {
+                let columns = self.entry.columns(given(0))?;
+                let sheets = [(number(0), given(1)), (number(1), given(2))];
+                let pairs = numbers(given(3));
+                let ranks = model::compare_pairs(&columns, sheets, &pairs, self.lent[0])?;
+                ([0, ranks.len() as u64, 0, 0], vec![ranks])
             }
             Entry::Join => {
                 let offsets = [numbers(given(1)), numbers(given(3))];

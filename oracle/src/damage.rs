@@ -213,6 +213,24 @@ pub fn look_up(rng: &mut Rng, mut call: Call) -> Call {
     call
 }
 
+/// A call that compares rows of two sheets, wrong in one way or more.
+pub fn compare(rng: &mut Rng, mut call: Call) -> Call {
+    for _ in 0..rng.pick(&[1, 1, 1, 2, 3]) {
+        match rng.below(8) {
+            0 => change(rng, &mut call.given[0]),
+            1 => change_one(rng, &mut call.numbers),
+            2 if !call.lent.is_empty() => call.lent[0] = change_room(rng, call.lent[0]),
+            3 if rng.once_in(4) => call.answer = rng.below(48),
+            4 if call.given.len() > 3 => change_offsets(rng, &mut call.given[3]),
+            _ => {
+                let which = rng.below(2) + 1;
+                change(rng, &mut call.given[which]);
+            }
+        }
+    }
+    call
+}
+
 /// A call of join, wrong in one way or more.
 pub fn join(rng: &mut Rng, mut call: Call) -> Call {
     for _ in 0..rng.pick(&[1, 1, 1, 2, 3]) {

@@ -2,6 +2,7 @@
 
 use crate::call::{Call, Entry, ENTRIES};
 use crate::columns::descriptions_of;
+use crate::comparisons;
 use crate::damage::{self, Good};
 use crate::joins;
 use crate::lookups;
@@ -78,7 +79,20 @@ fn noisy(rng: &mut Rng, entry: Entry) -> Call {
             let offsets = some_offsets(rng, bytes.len());
             Call::look_up(&list, k, &key, n, [&bytes, &offsets])
         }
-        Entry::MeasureRead | Entry::EncodeRead | Entry::DecodeRead | Entry::LookUpRead => {
+        Entry::CompareSheets | Entry::ComparePairs => {
+            let (n1, others, pairs) = (some_count(rng), noise(rng), noise(rng));
+            let sheets = [(n, &bytes[..]), (n1, &others[..])];
+            match entry {
+                Entry::ComparePairs => Call::compare_pairs(&list, sheets, &pairs, room),
+                _ => Call::compare_sheets(&list, sheets, [some_count(rng), some_count(rng)]),
+            }
+        }
+        Entry::MeasureRead
+        | Entry::EncodeRead
+        | Entry::DecodeRead
+        | Entry::LookUpRead
+        | Entry::CompareSheetsRead
+        | Entry::ComparePairsRead => {
             let listed = noisy(rng, entry.listed());
             let descriptions = some_descriptions(rng);
             listed.under(&descriptions).expect("an entry with a list")
@@ -138,6 +152,22 @@ pub fn call_among(rng: &mut Rng, entries: &[Entry]) -> Call {
             match rng.once_in(4) {
                 true => good,
                 false => damage::look_up(rng, good),
+            }
+        }
+        Entry::CompareSheets
+        | Entry::CompareSheetsRead
+        | Entry::ComparePairs
+        | Entry::ComparePairsRead
+            if !rng.once_in(4) =>
+        {
+            let good = comparisons::some_comparison(rng, entry.listed());
+            let good = match entry.listed() == entry {
+                true => good,
+                false => good.read().expect("a list that can be read"),
+            };
+            match rng.once_in(4) {
+                true => good,
+                false => damage::compare(rng, good),
             }
         }
         Entry::Join if !rng.once_in(4) => {

@@ -9,11 +9,10 @@ use crate::shrink::{shrunk_call, shrunk_table};
 use crate::stack::{self, Stacks};
 use crate::table::Table;
 use crate::yard::Yard;
+use std::collections::BTreeMap;
 use std::process::ExitCode;
 use std::time::{Duration, Instant};
 
-/// The numbers that an entry may answer with: 0, and refusals 1 to 24, 26 to 29 and 31.
-const ANSWERS: usize = 32;
 /// Of so many calls under a list that can be read, one is made again under its descriptions.
 const READ_AGAIN: u64 = 4;
 /// Pairs of rows that are compared in each table.
@@ -27,7 +26,8 @@ struct Tally {
     row_bytes: u64,
     pairs: u64,
     calls: [u64; ENTRIES.len()],
-    answers: [u64; ANSWERS],
+    /// How often each number was answered: 0, and refusals.
+    answers: BTreeMap<u64, u64>,
     short_answers: u64,
     null_calls: u64,
     refusals: u64,
@@ -155,7 +155,7 @@ impl Judge {
         self.tally.calls[entry as usize] += 1;
         match numbers(&exit.answer)[..] {
             _ if entry == Entry::Compare => {}
-            [number, _, _, _, ..] => self.tally.answers[number as usize] += 1,
+            [number, _, _, _, ..] => *self.tally.answers.entry(number).or_default() += 1,
             _ => self.tally.short_answers += 1,
         }
     }
@@ -226,9 +226,10 @@ impl Judge {
 
     /// Prints what was done; a failure is made small first, and printed in hex. Refusals in `needed`
     /// must all have been seen.
-    pub fn finish(mut self, needed: impl IntoIterator<Item = usize>) -> ExitCode {
+    pub fn finish(mut self, needed: impl IntoIterator<Item = u64>) -> ExitCode {
+        let answers = &self.tally.answers;
         let needed = needed.into_iter();
-        let unseen: Vec<usize> = needed.filter(|i| self.tally.answers[*i] == 0).collect();
+        let unseen: Vec<u64> = needed.filter(|i| !answers.contains_key(i)).collect();
         self.ensure(unseen.is_empty(), || {
             format!("no call was answered with {unseen:?}")
         });
@@ -285,7 +286,7 @@ impl Judge {
             tally.refusals,
             tally.null_calls
         );
-        let answers = tally.answers.iter().enumerate().filter(|(_, n)| **n > 0);
+        let answers = tally.answers.iter();
         let answers: Vec<String> = answers.map(|(i, n)| format!("{i}: {n}")).collect();
         println!(
             "answers: {}; too short for an answer: {}",

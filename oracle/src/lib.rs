@@ -6,6 +6,7 @@
 
 pub mod call;
 pub mod columns;
+pub mod comparisons;
 pub mod crate_side;
 pub mod damage;
 pub mod document;

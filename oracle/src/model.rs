@@ -1,5 +1,5 @@
 //! Document 01 as a plain program, written from the document: slow, and easy to hold against it. The
-//! descriptions, the look-up and the join are document 02's.
+//! descriptions, the look-up, sheets that are compared and the join are document 02's.
 
 use crate::columns::{
     value_bytes, Column, BOOL, DAY_TIME, FIXED_BINARY, FLOATS, I128, I256, KINDS, MONTH_DAY_NANO,
@@ -338,6 +338,16 @@ fn field(column: Column, slot: Option<&[u8]>) -> Vec<u8> {
     }
 }
 
+/// Row r of slots: their fields, joined.
+fn row_of(columns: &[Column], slots: &[Slots], r: usize) -> Vec<u8> {
+    let mut row = Vec::new();
+    for (column, slots) in columns.iter().zip(slots) {
+        let value = slots[r].map(|value| folded(*column, value));
+        row.extend(field(*column, value.as_deref()));
+    }
+    row
+}
+
 /// Field length, as document 01 gives it.
 fn field_length(column: Column, slot: Option<&[u8]>) -> u64 {
     let length = slot.map_or(0, <[u8]>::len);
@@ -417,10 +427,7 @@ pub fn encode_under(
     refuse_if((offset_room as u64) < n + 1, [14, n + 1, 0])?;
     let (mut rows, mut offsets) = (Vec::new(), vec![0]);
     for r in 0..n as usize {
-        for (column, slots) in measured.columns.iter().zip(&measured.slots) {
-            let value = slots[r].map(|value| folded(*column, value));
-            rows.extend(field(*column, value.as_deref()));
-        }
+        rows.extend(row_of(&measured.columns, &measured.slots, r));
         offsets.push(rows.len() as u64);
     }
     assert_eq!(rows.len() as u64, total, "the lengths of document 01");
@@ -663,6 +670,40 @@ pub fn join(first: Pass, second: Pass, room: usize) -> Checked<Vec<u64>> {
     Ok(order)
 }
 
+// ---- compare sheets
+
+/// The slots of a sheet of n rows: 6, then sheet faults.
+fn read_counted<'a>(columns: &[Column], (n, sheet): (u64, &'a [u8])) -> Checked<Vec<Slots<'a>>> {
+    refuse_if(n > MAX_ROWS, [6, n, 0])?;
+    read_sheet(columns, n as usize, sheet)
+}
+
+/// For each pair of rows, one of each sheet, 0, 1 or 2 for below, equal or above: as the bytes of their
+/// rows compare, however many these are. After the list: sheet 0, then sheet 1; 32 (sheet, row) for the
+/// first pair at fault, sheet 0 first; then the room, 14 (pairs, 0). A single number is no pair.
+pub fn compare_pairs(
+    columns: &[Column],
+    [first, second]: [(u64, &[u8]); 2],
+    pairs: &[u64],
+    room: usize,
+) -> Checked<Vec<u8>> {
+    let slots = [
+        read_counted(columns, first)?,
+        read_counted(columns, second)?,
+    ];
+    let pairs: Vec<&[u64]> = pairs.chunks_exact(2).collect();
+    for pair in &pairs {
+        refuse_if(pair[0] >= first.0, [32, 0, pair[0]])?;
+        refuse_if(pair[1] >= second.0, [32, 1, pair[1]])?;
+    }
+    refuse_if(room < pairs.len(), [14, pairs.len() as u64, 0])?;
+    let row = |sheet: usize, r: u64| row_of(columns, &slots[sheet], r as usize);
+    let ranks = pairs
+        .iter()
+        .map(|pair| row(0, pair[0]).cmp(&row(1, pair[1])));
+    Ok(ranks.map(|order| (order as i8 + 1) as u8).collect())
+}
+
 // ---- look up
 
 /// The rows that begin with a key, the fields of the first k columns, in a sorted batch; where none
@@ -873,6 +914,27 @@ mod tests {
         let swapped: &[u8] = &[1, 7, 1, 1, 5, 9];
         assert_eq!(under((2, swapped, &[0, 3, 6])), [17, 1, 1, 2]);
         assert_eq!(under((2, &[1, 7, 1, 1, 5, 1], &[0, 3, 6])), [26, 0, 1, 0]);
+    }
+
+    #[test]
+    fn rows_of_sheets_are_compared() {
+        // f16 that folds, descending, nulls first: null, NaN, -0; then +0, another NaN.
+        let columns = read_list(&[10, 11]).unwrap();
+        let first: &[u8] = &[0b110, 9, 9, 1, 0x7C, 0, 0x80];
+        let second: &[u8] = &[0b11, 0, 0, 0xFF, 0xFF];
+        let sheets = [(3, first), (2, second)];
+        let ranks = |pairs: &[u64], room| compare_pairs(&columns, sheets, pairs, room);
+        let all = [0, 0, 0, 1, 1, 0, 1, 1, 2, 0, 2, 1];
+        assert_eq!(ranks(&all, 6), Ok(vec![0, 0, 0, 1, 1, 2]));
+        assert_eq!(ranks(&[2, 0, 7], 1), Ok(vec![1]));
+        assert_eq!(refused(ranks(&all, 5)), [14, 6, 0]);
+        assert_eq!(refused(ranks(&[0, 0, 2, 2, 3, 0], 0)), [32, 1, 2]);
+        assert_eq!(refused(ranks(&[3, 2], 0)), [32, 0, 3]);
+        let faults = |first, second| refused(compare_pairs(&columns, [first, second], &[9, 9], 0));
+        assert_eq!(faults((4097, b""), (4098, b"")), [6, 4097, 0]);
+        assert_eq!(faults((1, b""), (4097, b"")), [7, 0, 0]);
+        assert_eq!(faults((2, second), (4097, b"")), [6, 4097, 0]);
+        assert_eq!(faults((2, second), (2, b"\x07")), [8, 0, 0]);
     }
 
     #[test]

@@ -1,7 +1,7 @@
 //! The runs of the oracle on inputs that are refused, or nearly so: the station must answer the
 //! model's four numbers and leave every other byte as it was.
 
-use crate::call::Call;
+use crate::call::{eights, Call};
 use crate::columns::{Column, BOOL, FIXED_BINARY, FLOATS, VARIABLE};
 use crate::damage::{self, Good};
 use crate::document::one_slot_each;
@@ -230,6 +230,8 @@ pub fn empty(judge: &mut Judge) {
         good.decode(),
         Call::read_list(&good.list, 4),
         lookups::look_up(&good, 1, good.row(0)),
+        Call::compare_sheets(&good.list, [(good.n, &good.sheet); 2], [0, 1]),
+        Call::compare_pairs(&good.list, [(good.n, &good.sheet); 2], &eights(&[0, 1]), 1),
         join(&[vec![b"a".to_vec(), b"b".to_vec()], vec![b"a".to_vec()]]),
         Call::compare(good.row(0), good.row(1)),
         // No rows: nothing is refused, though slices are empty.

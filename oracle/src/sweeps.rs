@@ -125,7 +125,7 @@ fn at_ceiling(rng: &mut Rng) -> Table {
 
 /// 16,777,217 row bytes: 4,096 rows of 4,087 bytes and a variable field, of 10 bytes in 3,641 rows
 /// and of 1 byte in the others.
-fn over_ceiling(rng: &mut Rng) -> Table {
+pub fn over_ceiling(rng: &mut Rng) -> Table {
     let mut table = make::table_of(rng, MAX_ROWS as usize, wide_columns(4087));
     let names: Vec<Option<&[u8]>> = (0..4096).map(|r| (r < 3641).then_some(&b"a"[..])).collect();
     let names = one_slot_each(Column::new(VARIABLE, 2), &names);

@@ -18,11 +18,11 @@ except ImportError:
 from .kinds import KINDS, OPTIONS
 from .library import LibraryError, compare, version
 from .refusals import REASONS, Refused
-from .rows import Join, OutOfOrder, Rows, after, decode, encode, key
+from .rows import Join, OutOfOrder, Rows, after, compare_values, decode, encode, key
 from .schema import Column, Schema
 from .values import BadValue, ByteColumn
 
 __all__ = [
     "BadValue", "ByteColumn", "Column", "Join", "KINDS", "LibraryError", "OPTIONS", "OutOfOrder", "REASONS", "Refused", "Rows", "Schema",
-    "after", "compare", "decode", "encode", "key", "version",
+    "after", "compare", "compare_values", "decode", "encode", "key", "version",
 ]

@@ -418,6 +418,42 @@ def decode(schema: Schema, rows: Union[Rows, Iterable[bytes]]) -> Dict[str, Valu
     return taker.columns()
 
 
+def compare_values(schema: Schema, first: Any, second: Any, pairs: Any) -> np.ndarray:
+    """How rows of columns stand to rows of others, by their values: -1, 0 or 1 for each pair of row numbers. No row is encoded.
+
+    Columns are given as to :func:`encode`. A pair is a row of the first and one of the second.
+
+    >>> schema = Schema("plate:u32,position:f64:fold:descending")
+    >>> compare_values(schema, [[7, 7], [0.0, None]], [[7], [-0.0]], [(0, 0), (1, 0)]).tolist()
+    [0, -1]
+    """
+    prepared = [prepare_all(schema, columns) for columns in (first, second)]
+    pairs = np.asarray(pairs, np.int64).reshape(-1, 2)
+    for which, (_, count) in enumerate(prepared):
+        wrong = np.flatnonzero((pairs[:, which] < 0) | (pairs[:, which] >= count))
+        if len(wrong):
+            raise IndexError(f"row {pairs[wrong[0], which]} of {count}, in pair {wrong[0]}")
+    out = np.empty(len(pairs), np.int8)
+    # A sheet has so many rows: the pairs are taken sheet by sheet.
+    blocks, of = np.unique(pairs // library.MAX_ROWS, axis=0, return_inverse=True)
+    for number, block in enumerate(blocks.tolist()):
+        which = np.flatnonzero(of.reshape(-1) == number)
+        out[which] = _compared(schema, prepared, block, pairs[which])
+    return out
+
+
+def _compared(schema: Schema, prepared: Any, block: List[int], pairs: np.ndarray) -> np.ndarray:
+    """The pairs of two sheets: sheet number ``block[0]`` of the first columns, and ``block[1]`` of the second."""
+    starts = [number * library.MAX_ROWS for number in block]
+    ends = [min(start + library.MAX_ROWS, count) for start, (_, count) in zip(starts, prepared)]
+    sheets: List[Any] = []
+    for start, end, (columns, _) in zip(starts, ends, prepared):
+        sheets += (end - start, sheet(schema, columns, start, end))
+    ranks = np.empty(len(pairs), np.uint8)
+    library.answer("station_compare_pairs_read", schema.read, *sheets, (pairs - starts).astype("<u8"), ranks)
+    return ranks.astype(np.int8) - 1
+
+
 def key(schema: Schema, *values: Any) -> bytes:
     """The bytes that a row begins with exactly when its first values are these.
 

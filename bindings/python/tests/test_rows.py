@@ -302,6 +302,42 @@ class Joins(unittest.TestCase):
             rows.sort().look_up(256)
 
 
+class Values(unittest.TestCase):
+    """Rows compared by their values, without rows: as their encoded rows compare."""
+
+    schema = station.Schema("plate:u8:nulls_last,glyph:text:descending,position:f32:fold,contour:i256")
+
+    def columns(self, rnd, count):
+        choices = ([None, 0, 255], [None, "", "a", "ab", "b"], [None, -0.0, 0.0, float("nan"), -1.5], [None, -1, 0, 1 << 200])
+        return [[rnd.choice(values) for _ in range(count)] for values in choices]
+
+    def test_as_rows_compare(self):
+        rnd = random.Random(14)
+        for counts in ((1, 1), (7, 3), (40, 50), (4097, 9), (5000, 8193)):
+            both = [self.columns(rnd, count) for count in counts]
+            pairs = [(rnd.randrange(counts[0]), rnd.randrange(counts[1])) for _ in range(300)]
+            first, second = (list(station.encode(self.schema, columns)) for columns in both)
+            with mock.patch.object(library, "answer", wraps=library.answer) as answer:
+                compared = station.compare_values(self.schema, *both, pairs)
+            self.assertEqual({call.args[0] for call in answer.mock_calls}, {"station_compare_pairs_read"})
+            self.assertEqual(compared.tolist(), [station.compare(first[i], second[j]) for i, j in pairs])
+
+    def test_no_pairs_and_no_rows(self):
+        empty = self.columns(random, 0)
+        self.assertEqual(station.compare_values(self.schema, empty, empty, []).tolist(), [])
+        for pair in ((0, 0), (-1, 0), (3, 2), (2, 3)):
+            if pair != (0, 0):
+                with self.assertRaises(IndexError):
+                    station.compare_values(self.schema, self.columns(random, 3), self.columns(random, 3), [(0, 0), pair])
+        with self.assertRaises(IndexError):
+            station.compare_values(self.schema, empty, empty, [(0, 0)])
+
+    def test_a_required_column(self):
+        with self.assertRaises(station.Refused) as caught:
+            station.compare_values(station.Schema("plate:u8:required"), [[1]], [[1, None]], [(0, 0)])
+        self.assertEqual(caught.exception.numbers, (27, 0, 1, 0))
+
+
 class Items(unittest.TestCase):
     rows = station.encode(station.Schema("a:u8"), [[3, 1, 2, 5]])
 

@@ -1,6 +1,7 @@
 //! Column lists that are read once, for many sheets under one list.
 
-use crate::{answered, decoded, encoded, found, raw, read_list, Answer, Refusal, Rows};
+use crate::{answered, decoded, encoded, found, raw, read_list, Answer, Refusal, Rows, Sheet};
+use std::cmp::Ordering;
 use std::ops::Range;
 
 /// The most columns of a list.
@@ -149,6 +150,65 @@ impl Columns {
                 size_of_val(offsets),
                 sheet.as_mut_ptr(),
                 sheet.len(),
+                a.as_mut_ptr(),
+                a.len(),
+            )
+        })
+    }
+
+    /// As [`compare_sheets`](crate::compare_sheets).
+    pub fn compare_sheets(
+        &self,
+        (n0, sheet0): Sheet,
+        row0: u64,
+        (n1, sheet1): Sheet,
+        row1: u64,
+    ) -> Result<Ordering, Refusal> {
+        let (at, len) = self.lent();
+        // SAFETY: as in `measure`.
+        let done = answered(|a| unsafe {
+            raw::station_compare_sheets_read(
+                at,
+                len,
+                n0,
+                sheet0.as_ptr(),
+                sheet0.len(),
+                row0,
+                n1,
+                sheet1.as_ptr(),
+                sheet1.len(),
+                row1,
+                a.as_mut_ptr(),
+                a.len(),
+            )
+        });
+        Ok(done?.total.cmp(&1))
+    }
+
+    /// As [`compare_pairs`](crate::compare_pairs).
+    pub fn compare_pairs(
+        &self,
+        (n0, sheet0): Sheet,
+        (n1, sheet1): Sheet,
+        pairs: &[[u64; 2]],
+        answers: &mut [u8],
+    ) -> Answer {
+        let (at, len) = self.lent();
+        // SAFETY: as in `encode`.
+        answered(|a| unsafe {
+            raw::station_compare_pairs_read(
+                at,
+                len,
+                n0,
+                sheet0.as_ptr(),
+                sheet0.len(),
+                n1,
+                sheet1.as_ptr(),
+                sheet1.len(),
+                pairs.as_ptr().cast(),
+                size_of_val(pairs),
+                answers.as_mut_ptr(),
+                answers.len(),
                 a.as_mut_ptr(),
                 a.len(),
             )

@@ -134,6 +134,70 @@ pub mod raw {
             answer: *mut u8,
             answer_len: usize,
         );
+        /// Compares a row of one sheet with a row of another.
+        pub fn station_compare_sheets(
+            list: *const u8,
+            list_len: usize,
+            n0: u64,
+            sheet0: *const u8,
+            sheet0_len: usize,
+            row0: u64,
+            n1: u64,
+            sheet1: *const u8,
+            sheet1_len: usize,
+            row1: u64,
+            answer: *mut u8,
+            answer_len: usize,
+        );
+        /// The same under descriptions.
+        pub fn station_compare_sheets_read(
+            descriptions: *const u8,
+            descriptions_len: usize,
+            n0: u64,
+            sheet0: *const u8,
+            sheet0_len: usize,
+            row0: u64,
+            n1: u64,
+            sheet1: *const u8,
+            sheet1_len: usize,
+            row1: u64,
+            answer: *mut u8,
+            answer_len: usize,
+        );
+        /// Compares pairs of rows of two sheets.
+        pub fn station_compare_pairs(
+            list: *const u8,
+            list_len: usize,
+            n0: u64,
+            sheet0: *const u8,
+            sheet0_len: usize,
+            n1: u64,
+            sheet1: *const u8,
+            sheet1_len: usize,
+            pairs: *const u8,
+            pairs_len: usize,
+            answers: *mut u8,
+            answers_len: usize,
+            answer: *mut u8,
+            answer_len: usize,
+        );
+        /// The same under descriptions.
+        pub fn station_compare_pairs_read(
+            descriptions: *const u8,
+            descriptions_len: usize,
+            n0: u64,
+            sheet0: *const u8,
+            sheet0_len: usize,
+            n1: u64,
+            sheet1: *const u8,
+            sheet1_len: usize,
+            pairs: *const u8,
+            pairs_len: usize,
+            answers: *mut u8,
+            answers_len: usize,
+            answer: *mut u8,
+            answer_len: usize,
+        );
         /// Looks a key up in a sorted batch.
         pub fn station_look_up(
             list: *const u8,
@@ -251,9 +315,9 @@ pub const ANSWER_BYTES: usize = 32;
 #[derive(Clone, Copy, Debug, PartialEq, Eq)]
 pub struct Done {
     /// Columns ([`check_list`], [`read_list`]), row bytes ([`measure`], [`encode`]), sheet bytes
-    /// ([`decode`]) or entries ([`join`]).
+    /// ([`decode`]), entries ([`join`]) or pairs ([`compare_pairs`]).
     pub total: u64,
-    /// The null slots of all rows and columns; 0 where the total is columns or entries.
+    /// The null slots of all rows and columns; 0 where the total is columns, entries or pairs.
     pub nulls: u64,
 }
 
@@ -441,6 +505,87 @@ pub fn decode(list: &[u8], n: u64, rows: &[u8], offsets: &[u64], sheet: &mut [u8
             size_of_val(offsets),
             sheet.as_mut_ptr(),
             sheet.len(),
+            a.as_mut_ptr(),
+            a.len(),
+        )
+    })
+}
+
+/// A sheet of so many rows.
+pub type Sheet<'a> = (u64, &'a [u8]);
+
+/// Compares a row of one sheet with a row of another under one list, by their values: as their rows
+/// compare, and no row is made.
+///
+/// ```
+/// use std::cmp::Ordering;
+/// // i8 descending, nulls first: -1, null and 1 against 1.
+/// let (list, first, second) = ([2, 3], (3, &[0b101, 0xFF, 0, 1][..]), (1, &[1, 1][..]));
+/// let compared = |row| station::compare_sheets(&list, first, row, second, 0);
+/// assert_eq!([0, 1, 2].map(|row| compared(row).unwrap()), [Ordering::Greater, Ordering::Less, Ordering::Equal]);
+/// assert_eq!(compared(3).unwrap_err().to_string(), "refused 32 0 3 0: sheet 0 has no row 3");
+/// ```
+pub fn compare_sheets(
+    list: &[u8],
+    (n0, sheet0): Sheet,
+    row0: u64,
+    (n1, sheet1): Sheet,
+    row1: u64,
+) -> Result<Ordering, Refusal> {
+    // SAFETY: as in `check_list`.
+    let done = answered(|a| unsafe {
+        raw::station_compare_sheets(
+            list.as_ptr(),
+            list.len(),
+            n0,
+            sheet0.as_ptr(),
+            sheet0.len(),
+            row0,
+            n1,
+            sheet1.as_ptr(),
+            sheet1.len(),
+            row1,
+            a.as_mut_ptr(),
+            a.len(),
+        )
+    });
+    Ok(done?.total.cmp(&1))
+}
+
+/// [`compare_sheets`] of many pairs of rows, one of each sheet, with one check of the two sheets:
+/// writes 0, 1 or 2 for below, equal or above to the front of `answers`, a byte a pair; `total` is the
+/// count of pairs.
+///
+/// ```
+/// // Bools: true, false against false.
+/// let (list, first, second) = ([1, 0], (2, &[0b11, 0b01][..]), (1, &[1, 0][..]));
+/// let mut answers = [9; 3];
+/// let done = station::compare_pairs(&list, first, second, &[[0, 0], [1, 0]], &mut answers)?;
+/// assert_eq!((done.total, answers), (2, [2, 1, 9]));
+/// # Ok::<(), station::Refusal>(())
+/// ```
+pub fn compare_pairs(
+    list: &[u8],
+    (n0, sheet0): Sheet,
+    (n1, sheet1): Sheet,
+    pairs: &[[u64; 2]],
+    answers: &mut [u8],
+) -> Answer {
+    // SAFETY: as in `encode`; the pairs are lent as the offsets are.
+    answered(|a| unsafe {
+        raw::station_compare_pairs(
+            list.as_ptr(),
+            list.len(),
+            n0,
+            sheet0.as_ptr(),
+            sheet0.len(),
+            n1,
+            sheet1.as_ptr(),
+            sheet1.len(),
+            pairs.as_ptr().cast(),
+            size_of_val(pairs),
+            answers.as_mut_ptr(),
+            answers.len(),
             a.as_mut_ptr(),
             a.len(),
         )

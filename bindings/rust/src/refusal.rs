@@ -9,7 +9,7 @@ use std::fmt;
 /// `Display` gives the four numbers and what they mean.
 #[derive(Clone, Copy, Debug, PartialEq, Eq, Hash)]
 pub struct Refusal {
-    /// The reason, 1 to 24, 26 to 29 or 31.
+    /// The reason, 1 to 24, 26 to 29, 31 or 32.
     pub number: u64,
     /// The first number that goes with it.
     pub second: u64,
@@ -63,7 +63,7 @@ impl fmt::Display for Refusal {
             13 => write!(f, "the row buffer is too small for {a} bytes"),
             14 => write!(
                 f,
-                "the list of offsets or of the order is too short for {a} numbers"
+                "the list of offsets, of the order or of answers is too short for {a}"
             ),
             15 => write!(
                 f,
@@ -77,6 +77,7 @@ impl fmt::Display for Refusal {
             27 => write!(f, "column {a} is required, and null in row {b}"),
             29 => write!(f, "the list of descriptions is too short for {a} columns"),
             31 => write!(f, "a key of {a} columns, of none or of more than there are"),
+            32 => write!(f, "sheet {a} has no row {b}"),
             _ => write!(
                 f,
                 "row {a}, column {b}, byte {place}: {}",

@@ -244,8 +244,70 @@ fn a_look_up_refuses_in_its_order() {
 }
 
 #[test]
+fn sheets_compare_as_their_rows_do() {
+    // i16, and f32 that folds, both descending with nulls last.
+    let list = [kind::I16, 1, kind::F32, 1 | option::FOLD];
+    let numbers: [i16; 4] = [-1, 0, i16::MIN, 7];
+    let floats: [f32; 4] = [-0.0, 0.0, f32::NAN, -1.5];
+    let mut sheet = vec![0b1101];
+    numbers.iter().for_each(|x| sheet.extend(x.to_le_bytes()));
+    sheet.push(0b0111);
+    floats.iter().for_each(|x| sheet.extend(x.to_le_bytes()));
+    let (rows, columns) = (
+        encode_to_vec(&list, 4, &sheet).unwrap(),
+        Columns::read(&list).unwrap(),
+    );
+    let pairs: Vec<[u64; 2]> = (0..16).map(|i| [i / 4, i % 4]).collect();
+    let (mut by_list, mut by_columns) = ([9; 16], [9; 16]);
+    let done = compare_pairs(&list, (4, &sheet), (4, &sheet), &pairs, &mut by_list);
+    assert_eq!(
+        done,
+        Ok(Done {
+            total: 16,
+            nulls: 0
+        })
+    );
+    let again = columns.compare_pairs((4, &sheet), (4, &sheet), &pairs, &mut by_columns);
+    assert_eq!((again, by_columns), (done, by_list));
+    for (&[i, j], answer) in pairs.iter().zip(by_list) {
+        let order = compare(rows.row(i as usize), rows.row(j as usize));
+        assert_eq!(answer.cmp(&1), order);
+        assert_eq!(
+            compare_sheets(&list, (4, &sheet), i, (4, &sheet), j),
+            Ok(order)
+        );
+        assert_eq!(
+            columns.compare_sheets((4, &sheet), i, (4, &sheet), j),
+            Ok(order)
+        );
+    }
+}
+
+#[test]
+fn a_comparison_refuses_in_its_order() {
+    let list = [kind::U8, 2];
+    let (good, over): (Sheet, Sheet) = ((1, &[1, 5]), (4097, &[]));
+    let of = |list: &[u8], first, row0, second, row1| {
+        let compared = compare_sheets(list, first, row0, second, row1);
+        compared.map(|_| Done { total: 0, nulls: 0 })
+    };
+    assert_eq!(of(&[6], over, 9, over, 9), refused(1, 0, 0));
+    assert_eq!(of(&list, over, 9, (4098, &[]), 9), refused(6, 4097, 0));
+    assert_eq!(of(&list, (1, &[1]), 9, over, 9), refused(7, 0, 0));
+    assert_eq!(of(&list, good, 9, over, 9), refused(6, 4097, 0));
+    assert_eq!(of(&list, good, 9, (1, &[3, 5]), 9), refused(8, 0, 0));
+    assert_eq!(of(&list, good, 1, good, 9), refused(32, 0, 1));
+    assert_eq!(of(&list, good, 0, good, 9), refused(32, 1, 9));
+    let mut answers = [7; 2];
+    let short = compare_pairs(&list, good, good, &[[0, 0]; 3], &mut answers);
+    assert_eq!(short, refused(14, 3, 0));
+    let none = compare_pairs(&list, good, good, &[[0, 0], [0, 4], [3, 0]], &mut answers);
+    assert_eq!((none, answers), (refused(32, 1, 4), [7; 2]));
+}
+
+#[test]
 fn every_reason_reads_well() {
-    for number in (1..=24).chain(27..=29).chain([31]) {
+    for number in (1..=24).chain(27..=29).chain([31, 32]) {
         let text = refused_at(number, 5, 6, 7).unwrap_err().to_string();
         assert!(text.starts_with(&format!("refused {number} 5 6 7: ")));
         assert!(!text.contains("unknown reason"), "{text}");

@@ -46,18 +46,30 @@ cmp-front : (p u v : List ℕ) → cmp (p ++ u) (p ++ v) ≡ cmp u v
 cmp-front [] u v = refl
 cmp-front (x ∷ p) u v = ap (λ (o : Ordering). then o (cmp (p ++ u) (p ++ v))) (compare-eq x x refl) ∙ cmp-front p u v
 
-then-grouped : (o p q : Ordering) → then o (then p q) ≡ then (then o p) q
+pub then-grouped : (o p q : Ordering) → then o (then p q) ≡ then (then o p) q
 then-grouped lt p q = refl
 then-grouped eq p q = refl
 then-grouped gt p q = refl
 
 -- two of one length decide, unless they tie
-cmp-even : (u v r s : List ℕ) → length u ≡ length v → cmp (u ++ r) (v ++ s) ≡ then (cmp u v) (cmp r s)
+pub cmp-even : (u v r s : List ℕ) → length u ≡ length v → cmp (u ++ r) (v ++ s) ≡ then (cmp u v) (cmp r s)
 cmp-even [] [] r s e = refl
 cmp-even [] (y ∷ v) r s e = absurd (omega arith)
 cmp-even (x ∷ u) [] r s e = absurd (omega arith)
 cmp-even (x ∷ u) (y ∷ v) r s e =
     ap (then (cmpℕ x y)) (cmp-even u v r s (suc-inj e)) ∙ then-grouped (cmpℕ x y) (cmp u v) (cmp r s)
+
+-- ---- words of w bytes, which spell f and g high byte first
+
+spells : (w x : ℕ) (f : List ℕ) → lowBytes w x ≡ reverse f → f ≡ reverse (lowBytes w x)
+spells w x f e = sym (reverse-reverse f) ∙ ap reverse (sym e)
+
+-- they stand as the bytes do
+pub word-order : (w x y : ℕ) (f g : List ℕ) → x < 256 ^ w → y < 256 ^ w → lowBytes w x ≡ reverse f → lowBytes w y ≡ reverse g → cmp f g ≡ cmpℕ x y
+word-order w x y f g fx fy ex ey =
+    ap₂ cmp (spells w x f ex) (spells w y g ey)
+    ∙ unsigned-order (lowBytes w x) (lowBytes w y) (length-lowBytes w x ∙ sym (length-lowBytes w y)) (bytes-lowBytes w x) (bytes-lowBytes w y)
+    ∙ ap₂ cmpℕ (low-lowBytes w x fx) (low-lowBytes w y fy)
 
 -- ---- alike up to i, and so up to any place before it
 module _ {a b : List ℕ} {i : ℕ} (k : Alike a b i) (j : ℕ) (h : j ≤ i) where
@@ -72,19 +84,6 @@ module _ {a b : List ℕ} {i : ℕ} (k : Alike a b i) (j : ℕ) (h : j ≤ i) wh
   -- ---- x and y are the words of w bytes there, high byte first
   module _ (w x y : ℕ) (fx : x < 256 ^ w) (fy : y < 256 ^ w) (ia : j + w ≤ length a) (ib : j + w ≤ length b)
       (ex : lowBytes w x ≡ reverse (take w (drop j a))) (ey : lowBytes w y ≡ reverse (take w (drop j b))) where
-    spells-x : take w (drop j a) ≡ reverse (lowBytes w x)
-    spells-x = sym (reverse-reverse (take w (drop j a))) ∙ ap reverse (sym ex)
-
-    spells-y : take w (drop j b) ≡ reverse (lowBytes w y)
-    spells-y = sym (reverse-reverse (take w (drop j b))) ∙ ap reverse (sym ey)
-
-    -- the words stand as their bytes do
-    word-order : cmp (take w (drop j a)) (take w (drop j b)) ≡ cmpℕ x y
-    word-order =
-        ap₂ cmp spells-x spells-y
-        ∙ unsigned-order (lowBytes w x) (lowBytes w y) (length-lowBytes w x ∙ sym (length-lowBytes w y)) (bytes-lowBytes w x) (bytes-lowBytes w y)
-        ∙ ap₂ cmpℕ (low-lowBytes w x fx) (low-lowBytes w y fy)
-
     even : length (take w (drop j a)) ≡ length (take w (drop j b))
     even = length-take-le w (drop j a) (omega (arith, length-drop j a)) ∙ sym (length-take-le w (drop j b) (omega (arith, length-drop j b)))
 
@@ -94,7 +93,7 @@ module _ {a b : List ℕ} {i : ℕ} (k : Alike a b i) (j : ℕ) (h : j ≤ i) wh
     decided : cmp a b ≡ then (cmpℕ x y) (cmp (drop (j + w) a) (drop (j + w) b))
     decided =
         so-far ∙ ap₂ cmp (cut a) (cut b) ∙ cmp-even (take w (drop j a)) (take w (drop j b)) (drop (j + w) a) (drop (j + w) b) even
-        ∙ ap (λ (o : Ordering). then o (cmp (drop (j + w) a) (drop (j + w) b))) word-order
+        ∙ ap (λ (o : Ordering). then o (cmp (drop (j + w) a) (drop (j + w) b))) (word-order w x y (take w (drop j a)) (take w (drop j b)) fx fy ex ey)
 
     -- words that differ leave nothing to what follows
     kept : (x ≡ y → ⊥) → (o : Ordering) → Tri x y o → then o (cmp (drop (j + w) a) (drop (j + w) b)) ≡ o
@@ -115,7 +114,7 @@ module _ {a b : List ℕ} {i : ℕ} (k : Alike a b i) (j : ℕ) (h : j ≤ i) wh
             same =
                 take-add j w a
                 ∙ ap₂ (λ (p q : List ℕ). p ++ q) fronts
-                (spells-x ∙ ap (λ (z : ℕ). reverse (lowBytes w z)) e ∙ sym spells-y)
+                (spells w x _ ex ∙ ap (λ (z : ℕ). reverse (lowBytes w z)) e ∙ sym (spells w y _ ey))
                 ∙ sym (take-add j w b);
           };
     }

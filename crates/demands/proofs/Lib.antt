@@ -4,7 +4,6 @@ pub mod Run
 pub mod Orders
 pub mod Sep
 pub mod Invert
-pub mod KeyLaws
 pub mod VariableOrder
 pub mod RowOrder
 pub mod OneRow
@@ -21,6 +20,7 @@ pub mod Demand2
 pub mod Demand3
 pub mod NullSlots
 pub mod FoldedRows
+pub mod SheetRows
 pub mod Calls
 pub mod FieldPlace
 pub mod Place

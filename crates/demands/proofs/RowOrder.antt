@@ -5,66 +5,37 @@ use mathlib.Core.Bool.{Bool, true, false, cond}
 use mathlib.Core.Option.{none, some}
 use mathlib.Core.List.{List, [], _∷_, _++_}
 use native.Mathlib.Omega.{arith}
-use lib.ListN.{length, take, drop, replicate, length-drop, length-reverse}
-use lib.Seq.{length-take-le}
+use lib.ListN.{length, take, replicate}
 use Rattle.format.specs.Field.{directed, field, nullByte, variableBytes}
 use Rattle.format.specs.Fits.{RowFits, SlotFits}
-use Rattle.format.specs.Key.{floatKey, key, partsKey, signedKey, unsignedKey}
-use Rattle.format.specs.Kinds.{Fixed, bool, float, integer, number, parts, plain, Shape, fixed, variable, Slot, columnShape, width}
+use Rattle.format.specs.Key.{key}
+use Rattle.format.specs.Kinds.{Fixed, Shape, fixed, variable, Slot, columnShape, width}
 use Rattle.format.specs.Limits.{maxSlot}
-use Rattle.format.specs.Lists.{Bytes, sum}
+use Rattle.format.specs.Lists.{Bytes}
 use Rattle.format.specs.Order.{Begins, cmp}
 use Rattle.format.specs.Row.{row}
-use Rattle.format.specs.Value.{fixedOrder, partsOrder, rowOrder, signedOrder, slotOrder}
+use Rattle.format.specs.Value.{fixedOrder, rowOrder, slotOrder}
 use Rattle.format.specs.declared.Column.{Column}
 use Rattle.format.specs.declared.SortOptions.{SortOptions}
-use Rattle.basics.proofs.Bytes.{bytes-drop, bytes-key, bytes-take, long-float, long-signed}
+use Rattle.basics.proofs.Bytes.{bytes-key}
 use Rattle.basics.proofs.Compare.{compare-lt, compare-gt}
-use Rattle.basics.proofs.Sorts.{AllPositive, Signs, ShapeSigns, signs}
+use Rattle.basics.proofs.Sorts.{Signs, ShapeSigns, signs}
 use Rattle.laws.proofs.Fields.{bytes-variable, Led, led-variable}
 use Rattle.demands.proofs.Invert.{ranks-directed}
-use Rattle.laws.proofs.HighFirst.{unsigned-order}
-use Rattle.demands.proofs.KeyLaws.{signed-order, float-order}
+use Rattle.laws.proofs.Unkey.{length-key}
+use Rattle.comparer.proofs.KeyOrder.{key-order}
 use Rattle.demands.proofs.Sep.{Ranks, ranks-self, ranks-append, ranks-even, ranks-cmp, ranks-front, ranks-begins, ranks-begun}
 use Rattle.demands.proofs.VariableOrder.{variable-ranks}
 use Rattle.demands.proofs.Orders.{lt≢eq, gt≢eq}
 
 -- ---- the value bytes of the fixed kinds
 
--- keys of one length whose order is o
-even-ranks : {o : Ordering} (f g : List ℕ) → length f ≡ length g → cmp f g ≡ o → Ranks o f g
-even-ranks f g e h = subst (λ (o : Ordering). Ranks o f g) h (ranks-even f g e)
-
--- signed numbers
-signed-ranks : (a b : List ℕ) → Bytes a → Bytes b → length a ≡ length b → 0 < length a → Ranks (signedOrder a b) (signedKey a) (signedKey b)
-signed-ranks a b ha hb e h = even-ranks (signedKey a) (signedKey b) (long-signed a ∙ e ∙ sym (long-signed b)) (signed-order a b e ha hb h)
-
--- intervals, part by part
-parts-ranks : (ns a b : List ℕ) → AllPositive ns → Bytes a → Bytes b → length a ≡ sum ns → length b ≡ sum ns
-    → Ranks (partsOrder ns a b) (partsKey ns a) (partsKey ns b)
-parts-ranks [] a b p ha hb la lb = ranks-self []
-parts-ranks (n ∷ ns) a b p ha hb la lb =
-    ranks-append
-    (signed-ranks (take n a) (take n b) (bytes-take n a ha) (bytes-take n b hb) (fit a la ∙ sym (fit b lb)) (omega (arith, fit a la, p .0)))
-    (parts-ranks ns (drop n a) (drop n b) (p .1) (bytes-drop n a ha) (bytes-drop n b hb) (left a la) (left b lb))
-  where
-    fit : (v : List ℕ) → length v ≡ n + sum ns → length (take n v) ≡ n
-    fit v l = length-take-le n v (omega arith)
-
-    left : (v : List ℕ) → length v ≡ n + sum ns → length (drop n v) ≡ sum ns
-    left v l = omega (arith, length-drop n v)
-
 -- the value bytes stand as the values do, for every width
 key-ranks : (k : Fixed) → Signs k → (a b : List ℕ) → Bytes a → Bytes b → length a ≡ width k → length b ≡ width k
     → Ranks (fixedOrder k a b) (key k a) (key k b)
-key-ranks bool so a b ha hb la lb = ranks-even a b (la ∙ sym lb)
-key-ranks (plain n) so a b ha hb la lb = ranks-even a b (la ∙ sym lb)
-key-ranks (number n) so a b ha hb la lb =
-    even-ranks (unsignedKey a) (unsignedKey b) (length-reverse a ∙ la ∙ sym lb ∙ sym (length-reverse b)) (unsigned-order a b (la ∙ sym lb) ha hb)
-key-ranks (integer n) so a b ha hb la lb = signed-ranks a b ha hb (la ∙ sym lb) (rw la so)
-key-ranks (float n) so a b ha hb la lb =
-    even-ranks (floatKey a) (floatKey b) (long-float a ∙ la ∙ sym lb ∙ sym (long-float b)) (float-order a b (la ∙ sym lb) ha hb (rw la so))
-key-ranks (parts ns) so a b ha hb la lb = parts-ranks ns a b so ha hb la lb
+key-ranks k so a b ha hb la lb =
+    subst (λ (o : Ordering). Ranks o (key k a) (key k b)) (key-order k so a b ha hb la lb)
+    (ranks-even (key k a) (key k b) (length-key k a la ∙ sym (length-key k b lb)))
 
 -- ---- fields
 

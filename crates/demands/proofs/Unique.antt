@@ -7,7 +7,7 @@ use lib.IntN.{ℤ}
 use Rattle.format.specs.declared.Column.{Column}
 use Rattle.format.specs.declared.Answer.{Answer}
 use Rattle.format.specs.Described.{ColumnList}
-use Rattle.format.specs.Promises.{Joined, LookedUp, LentJoined, LentLookedUp}
+use Rattle.format.specs.Promises.{Joined, LookedUp, LentJoined, LentLookedUp, SheetsCompared, PairsCompared, LentSheetsCompared, LentPairsCompared}
 use Rattle.format.specs.Promises.{ListChecked, ListRead, Measured, Encoded, Decoded, Compared, LentListChecked, LentListRead, LentMeasured, LentEncoded, LentDecoded}
 use Rattle.laws.proofs.Numbers.{numbers-injective}
 
@@ -42,6 +42,14 @@ look-up-unique {r} {r′} g h = numbers-injective r r′ (cc)
 pub compare-unique : {a b : List ℕ} {r r′ : ℤ} → Compared a b r → Compared a b r′ → r ≡ r′
 compare-unique g h = cc
 
+pub compare-sheets-unique : {list : ColumnList} {n₀ : ℕ} {sheet₀ : List ℕ} {r₀ n₁ : ℕ} {sheet₁ : List ℕ} {r₁ : ℕ} {r r′ : Answer}
+    → SheetsCompared list n₀ sheet₀ r₀ n₁ sheet₁ r₁ r → SheetsCompared list n₀ sheet₀ r₀ n₁ sheet₁ r₁ r′ → r ≡ r′
+compare-sheets-unique {r} {r′} g h = numbers-injective r r′ (cc)
+
+pub compare-pairs-unique : {list : ColumnList} {n₀ : ℕ} {sheet₀ : List ℕ} {n₁ : ℕ} {sheet₁ rows lent : List ℕ} {r r′ : Answer} {lent₁ lent₂ : List ℕ}
+    → PairsCompared list n₀ sheet₀ n₁ sheet₁ rows lent r lent₁ → PairsCompared list n₀ sheet₀ n₁ sheet₁ rows lent r′ lent₂ → (r ≡ r′) × (lent₁ ≡ lent₂)
+compare-pairs-unique {r} {r′} g h = (numbers-injective r r′ (cc), cc)
+
 -- ---- the C entries
 pub lent-check-list-unique : {list lent lent₁ lent₂ : List ℕ} → LentListChecked list lent lent₁ → LentListChecked list lent lent₂ → lent₁ ≡ lent₂
 lent-check-list-unique g h = cc
@@ -73,3 +81,12 @@ lent-join-unique g h = (cc, cc)
 pub lent-look-up-unique : {list : ColumnList} {k : ℕ} {key : List ℕ} {n : ℕ} {rows offsets lent lent₁ lent₂ : List ℕ}
     → LentLookedUp list k key n rows offsets lent lent₁ → LentLookedUp list k key n rows offsets lent lent₂ → lent₁ ≡ lent₂
 lent-look-up-unique g h = cc
+
+pub lent-compare-sheets-unique : {list : ColumnList} {n₀ : ℕ} {sheet₀ : List ℕ} {r₀ n₁ : ℕ} {sheet₁ : List ℕ} {r₁ : ℕ} {lent lent₁ lent₂ : List ℕ}
+    → LentSheetsCompared list n₀ sheet₀ r₀ n₁ sheet₁ r₁ lent lent₁ → LentSheetsCompared list n₀ sheet₀ r₀ n₁ sheet₁ r₁ lent lent₂ → lent₁ ≡ lent₂
+lent-compare-sheets-unique g h = cc
+
+pub lent-compare-pairs-unique : {list : ColumnList} {n₀ : ℕ} {sheet₀ : List ℕ} {n₁ : ℕ} {sheet₁ pairs found lent found₁ found₂ lent₁ lent₂ : List ℕ}
+    → LentPairsCompared list n₀ sheet₀ n₁ sheet₁ pairs found lent found₁ lent₁ → LentPairsCompared list n₀ sheet₀ n₁ sheet₁ pairs found lent found₂ lent₂
+    → (lent₁ ≡ lent₂) × (found₁ ≡ found₂)
+lent-compare-pairs-unique g h = (cc, cc)

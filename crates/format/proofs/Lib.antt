@@ -6,3 +6,4 @@ pub mod RowExamples
 pub mod EntryExamples
 pub mod JoinExamples
 pub mod LookupExamples
+pub mod CompareExamples

@@ -23,6 +23,7 @@ pub mod Entries
 pub mod Batch
 pub mod Join
 pub mod Lookup
+pub mod CompareSheets
 pub mod Promises
 pub mod Program
 pub mod Lent

@@ -5,7 +5,7 @@ use lib.Dec.{leb, eqb}
 use Rattle.format.specs.declared.RowFault.{RowFault}
 use Rattle.format.specs.declared.RowFault.the-variants.{Cut, Lead, NullRest, BoolByte, EndByte, Padding, Extra, TooLong, Unfolded}
 use Rattle.format.specs.declared.Refusal.{Refusal}
-use Rattle.format.specs.declared.Refusal.the-variants.{ListCut, UnknownKind, OptionBits, Width, ManyColumns, ManyRows, ColumnCut, SpareBit, Ends, LongSlot, BytesAfter, ManyBytes, RowRoom, OffsetRoom, Offsets, Row, SheetRoom, Input, OutOfOrder, Missing, ColumnRoom, KeyColumns}
+use Rattle.format.specs.declared.Refusal.the-variants.{ListCut, UnknownKind, OptionBits, Width, ManyColumns, ManyRows, ColumnCut, SpareBit, Ends, LongSlot, BytesAfter, ManyBytes, RowRoom, OffsetRoom, Offsets, Row, SheetRoom, Input, OutOfOrder, Missing, ColumnRoom, KeyColumns, SheetRow}
 use Rattle.format.specs.declared.Answer.{Answer}
 use Rattle.format.specs.declared.Answer.the-variants.{Done, Refused}
 use Rattle.format.specs.declared.Returned.{Returned}
@@ -52,6 +52,7 @@ refusalNumbers (OutOfOrder p r) = three 26 p r
 refusalNumbers (Missing c r) = three 27 c r
 refusalNumbers (ColumnRoom count) = three 29 count 0
 refusalNumbers (KeyColumns k) = three 31 k 0
+refusalNumbers (SheetRow sheet r) = three 32 sheet r
 
 -- refusals by what a row holds: 16 to 23, and 28
 abbrev pub byContent : Refusal → Bool

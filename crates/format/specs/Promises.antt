@@ -12,7 +12,8 @@ use Rattle.format.specs.Numbers.{numbersOf}
 use Rattle.format.specs.Entries.{checkListAnswer, readListAnswer, readListColumns, measureAnswer, encodeAnswer, encodeRows, encodeOffsets, decodeAnswer, decodeSheet, compareAnswer}
 use Rattle.format.specs.Join.{joinAnswer, joinList}
 use Rattle.format.specs.Lookup.{lookupAnswer}
-use Rattle.format.specs.Lent.{lentJoin, lentJoinList, lentLookup}
+use Rattle.format.specs.Lent.{lentJoin, lentJoinList, lentLookup, lentCompareSheets, lentComparePairs, lentComparePairsRanks}
+use Rattle.format.specs.CompareSheets.{compareSheetsAnswer, comparePairsAnswer, comparePairsRanks}
 use Rattle.format.specs.Lent.{lentCheckList, lentReadList, lentReadListCodes, lentMeasure, lentEncode, lentEncodeRows, lentEncodeOffsets, lentDecode, lentDecodeSheet}
 
 -- check_list
@@ -52,6 +53,15 @@ pub record LookedUp (list : ColumnList) (k : ℕ) (key : List ℕ) (n : ℕ) (ro
 pub record Compared (a b : List ℕ) (r : ℤ) : Type 0 where
   pub answers : r ≡ compareAnswer a b
 
+-- compare_sheets, under a list of any case
+pub record SheetsCompared (list : ColumnList) (n₀ : ℕ) (sheet₀ : List ℕ) (r₀ n₁ : ℕ) (sheet₁ : List ℕ) (r₁ : ℕ) (r : Answer) : Type 0 where
+  pub answers : numbersOf r ≡ numbersOf (compareSheetsAnswer list n₀ sheet₀ r₀ n₁ sheet₁ r₁)
+
+-- compare_pairs likewise: the lent answers at entry, and at exit
+pub record PairsCompared (list : ColumnList) (n₀ : ℕ) (sheet₀ : List ℕ) (n₁ : ℕ) (sheet₁ rows lent : List ℕ) (r : Answer) (lent′ : List ℕ) : Type 0 where
+  pub answers : numbersOf r ≡ numbersOf (comparePairsAnswer list n₀ sheet₀ n₁ sheet₁ rows (length lent))
+  pub ranks : lent′ ≡ comparePairsRanks list n₀ sheet₀ n₁ sheet₁ rows lent
+
 -- ---- the C entries: each lent buffer at entry, and at exit; compare promises the same as above
 
 -- station_check_list
@@ -86,3 +96,12 @@ pub record LentJoined (n₀ : ℕ) (rows₀ offsets₀ : List ℕ) (n₁ : ℕ) 
 -- station_look_up under a list in bytes, station_look_up_read under coded descriptions
 pub record LentLookedUp (list : ColumnList) (k : ℕ) (key : List ℕ) (n : ℕ) (rows offsets lent lent′ : List ℕ) : Type 0 where
   pub answers : lent′ ≡ lentLookup list k key n rows offsets lent
+
+-- station_compare_sheets under a list in bytes, station_compare_sheets_read under coded descriptions
+pub record LentSheetsCompared (list : ColumnList) (n₀ : ℕ) (sheet₀ : List ℕ) (r₀ n₁ : ℕ) (sheet₁ : List ℕ) (r₁ : ℕ) (lent lent′ : List ℕ) : Type 0 where
+  pub answers : lent′ ≡ lentCompareSheets list n₀ sheet₀ r₀ n₁ sheet₁ r₁ lent
+
+-- station_compare_pairs and station_compare_pairs_read likewise
+pub record LentPairsCompared (list : ColumnList) (n₀ : ℕ) (sheet₀ : List ℕ) (n₁ : ℕ) (sheet₁ pairs found lent found′ lent′ : List ℕ) : Type 0 where
+  pub answers : lent′ ≡ lentComparePairs list n₀ sheet₀ n₁ sheet₁ pairs (length found) lent
+  pub ranks : found′ ≡ lentComparePairsRanks list n₀ sheet₀ n₁ sheet₁ pairs found lent

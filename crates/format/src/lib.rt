@@ -103,6 +103,7 @@ pub enum Refusal {
     Missing(usize, usize),
     ColumnRoom(usize),
     KeyColumns(usize),
+    SheetRow(usize, u64),
 }
 
 // What a check answers that gives nothing else.
@@ -236,6 +237,7 @@ pub fn refusal_numbers(r: Refusal) -> Returned
         Refusal::Missing(c, row) => Returned(27, c as u64, row as u64, 0),
         Refusal::ColumnRoom(count) => Returned(29, count as u64, 0, 0),
         Refusal::KeyColumns(k) => Returned(31, k as u64, 0, 0),
+        Refusal::SheetRow(sheet, row) => Returned(32, sheet as u64, row, 0),
     }
 }
 

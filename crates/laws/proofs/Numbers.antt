@@ -7,7 +7,7 @@ use lib.Dec.{eqb}
 use lib.ListN.{getD}
 use Rattle.format.specs.declared.RowFault.the-variants.{Cut, Lead, NullRest, BoolByte, EndByte, Padding, Extra, TooLong, Unfolded}
 use Rattle.format.specs.declared.Refusal.{Refusal}
-use Rattle.format.specs.declared.Refusal.the-variants.{ListCut, UnknownKind, OptionBits, Width, ManyColumns, ManyRows, ColumnCut, SpareBit, Ends, LongSlot, BytesAfter, ManyBytes, RowRoom, OffsetRoom, Offsets, Row, SheetRoom, Input, OutOfOrder, Missing, ColumnRoom, KeyColumns}
+use Rattle.format.specs.declared.Refusal.the-variants.{ListCut, UnknownKind, OptionBits, Width, ManyColumns, ManyRows, ColumnCut, SpareBit, Ends, LongSlot, BytesAfter, ManyBytes, RowRoom, OffsetRoom, Offsets, Row, SheetRoom, Input, OutOfOrder, Missing, ColumnRoom, KeyColumns, SheetRow}
 use Rattle.format.specs.declared.Answer.{Answer}
 use Rattle.format.specs.declared.Answer.the-variants.{Done, Refused}
 use Rattle.format.specs.declared.Returned.{Returned}
@@ -22,7 +22,7 @@ refusals =
     ∷ (λ a b p. Row Cut a b p) ∷ (λ a b p. Row Lead a b p) ∷ (λ a b p. Row NullRest a b p) ∷ (λ a b p. Row BoolByte a b p)
     ∷ (λ a b p. Row EndByte a b p) ∷ (λ a b p. Row Padding a b p) ∷ (λ a b p. Row Extra a b p) ∷ (λ a b p. Row TooLong a b p)
     ∷ (λ a b p. SheetRoom a) ∷ (λ a b p. Input) ∷ (λ a b p. OutOfOrder a b) ∷ (λ a b p. Missing a b) ∷ (λ a b p. Row Unfolded a b p)
-    ∷ (λ a b p. ColumnRoom a) ∷ (λ a b p. Input) ∷ (λ a b p. KeyColumns a) ∷ []
+    ∷ (λ a b p. ColumnRoom a) ∷ (λ a b p. Input) ∷ (λ a b p. KeyColumns a) ∷ (λ a b p. SheetRow a b) ∷ []
 
 -- the answer of four numbers
 abbrev answerOf : Returned → Answer
@@ -60,6 +60,7 @@ numbers-back (Refused (OutOfOrder p r)) = refl
 numbers-back (Refused (Missing c r)) = refl
 numbers-back (Refused (ColumnRoom count)) = refl
 numbers-back (Refused (KeyColumns k)) = refl
+numbers-back (Refused (SheetRow sheet r)) = refl
 
 pub numbers-injective : (a b : Answer) → numbersOf a ≡ numbersOf b → a ≡ b
 numbers-injective a b e = sym (numbers-back a) ∙ ap answerOf e ∙ numbers-back b

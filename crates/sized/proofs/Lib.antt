@@ -4,3 +4,4 @@ pub mod Entries
 pub mod Joins
 pub mod LookUps
 pub mod ListRead
+pub mod Comparing

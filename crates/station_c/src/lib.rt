@@ -1,13 +1,15 @@
 // The C entries: a slice is a pointer and a length, offsets and answers are lent as bytes, eight a number, low byte first, and
 // descriptions as four bytes a column. Thin over crates `station` and `sized`; include/station.h says how to call them.
 ghost use Rattle.format.specs.Described.{spelled, coded};
-ghost use Rattle.format.specs.Promises.{LentListChecked, LentListRead, LentMeasured, LentEncoded, LentDecoded, LentJoined, LentLookedUp, Compared};
+ghost use Rattle.format.specs.Promises.{LentListChecked, LentListRead, LentMeasured, LentEncoded, LentDecoded, LentJoined, LentLookedUp, LentSheetsCompared, LentPairsCompared, Compared};
 use encoder::measure::measure_listed;
 use format::MAX_OFFSETS;
 use lent_bytes::put_answer;
 use lent_bytes::used_offsets;
 use list_reader::codes::read_codes;
 use list_reader::read_list;
+use pairs::compare_pairs_listed;
+use pairs::compare_sheets_listed;
 use sized::codes::list_codes;
 use sized::decode::decode_sized;
 use sized::encode::encode_sized;
@@ -234,6 +236,118 @@ pub extern "C" fn station_look_up_read(
         answer,
         used,
     );
+}
+
+// Compares a row of one sheet with a row of another.
+#[no_mangle]
+pub extern "C" fn station_compare_sheets(
+    list: &[u8],
+    n0: u64,
+    sheet0: &[u8],
+    row0: u64,
+    n1: u64,
+    sheet1: &[u8],
+    row1: u64,
+    answer: &mut [u8],
+)
+    ensures { λ _. ⌜ LentSheetsCompared (spelled (now (list .entry))) n0 (now (sheet0 .entry)) row0 n1 (now (sheet1 .entry)) row1
+        (now (answer .entry)) (now (answer .exit)) ⌝ }
+{
+    if answer.len() < ANSWER_BYTES {
+        return;
+    }
+    put_answer(
+        answer,
+        compare_sheets_listed(read_list(list), n0, sheet0, row0, n1, sheet1, row1),
+    );
+}
+
+// The same under descriptions.
+#[no_mangle]
+pub extern "C" fn station_compare_sheets_read(
+    descriptions: &[u8],
+    n0: u64,
+    sheet0: &[u8],
+    row0: u64,
+    n1: u64,
+    sheet1: &[u8],
+    row1: u64,
+    answer: &mut [u8],
+)
+    ensures { λ _. ⌜ LentSheetsCompared (coded (now (descriptions .entry))) n0 (now (sheet0 .entry)) row0 n1 (now (sheet1 .entry)) row1
+        (now (answer .entry)) (now (answer .exit)) ⌝ }
+{
+    if answer.len() < ANSWER_BYTES {
+        return;
+    }
+    put_answer(
+        answer,
+        compare_sheets_listed(read_codes(descriptions), n0, sheet0, row0, n1, sheet1, row1),
+    );
+}
+
+// Compares many pairs of rows of two sheets, and writes an answer to each.
+#[no_mangle]
+pub extern "C" fn station_compare_pairs(
+    list: &[u8],
+    n0: u64,
+    sheet0: &[u8],
+    n1: u64,
+    sheet1: &[u8],
+    pairs: &[u8],
+    answers: &mut [u8],
+    answer: &mut [u8],
+)
+    ensures { λ _. ⌜ LentPairsCompared (spelled (now (list .entry))) n0 (now (sheet0 .entry)) n1 (now (sheet1 .entry)) (now (pairs .entry)) (now (answers .entry))
+        (now (answer .entry)) (now (answers .exit)) (now (answer .exit)) ⌝ }
+{
+    if answer.len() < ANSWER_BYTES {
+        return;
+    }
+    let numbers = [0u64; 0];
+    let r = compare_pairs_listed(
+        read_list(list),
+        n0,
+        sheet0,
+        n1,
+        sheet1,
+        &numbers,
+        pairs,
+        answers,
+    );
+    put_answer(answer, r);
+}
+
+// The same under descriptions.
+#[no_mangle]
+pub extern "C" fn station_compare_pairs_read(
+    descriptions: &[u8],
+    n0: u64,
+    sheet0: &[u8],
+    n1: u64,
+    sheet1: &[u8],
+    pairs: &[u8],
+    answers: &mut [u8],
+    answer: &mut [u8],
+)
+    ensures { λ _. ⌜ LentPairsCompared (coded (now (descriptions .entry))) n0 (now (sheet0 .entry)) n1 (now (sheet1 .entry)) (now (pairs .entry)) (now (answers .entry))
+        (now (answer .entry)) (now (answers .exit)) (now (answer .exit)) ⌝ }
+{
+    if answer.len() < ANSWER_BYTES {
+        return;
+    }
+    let numbers = [0u64; 0];
+    let r = compare_pairs_listed(
+        read_codes(descriptions),
+        n0,
+        sheet0,
+        n1,
+        sheet1,
+        &numbers,
+        pairs,
+        answers,
+    );
+    put_answer(answer, r);
 }
 
 // Compares any bytes.

@@ -4,7 +4,8 @@
 //! and of three floats, which the station then folds as well, and the crate is given folded. For each
 //! one input, cleared buffers, the four works in turn in one run. Then the station's join of two
 //! passes of 4,096 such rows against a merge of them in Rust, and against sorting. Then small sheets
-//! under one list, with the list's bytes in every call and with the list read once.
+//! under one list, with the list's bytes in every call and with the list read once; and pairs of rows of
+//! two sheets, compared by their values.
 
 use arrow_row::driver::{self, Array, Field};
 use oracle::columns::Column;
@@ -19,7 +20,7 @@ use std::process::{Command, ExitCode};
 use std::time::Instant;
 
 const USAGE: &str = "bench [--rounds N] [--nulls] [--descending] [--callgrind] \
-     [--table catalogue|decimals|floats|folded|passes|sheets] [--only rust-encode|station-encode|rust-decode|station-decode\
+     [--table catalogue|decimals|floats|folded|passes|sheets|pairs] [--only rust-encode|station-encode|rust-decode|station-decode\
      |list-measure|read-measure|list-encode|read-encode|list-decode|read-decode] [--rows N] [--columns N]";
 const ROWS: usize = 4096;
 const NAME_BYTES: usize = 12;
@@ -400,6 +401,57 @@ fn print_small(size: &str, unit: &str, figures: [u64; 6]) {
     println!("{size}  {}  {unit}", pairs.join("  "));
 }
 
+/// The median nanoseconds of a work.
+fn timed(rounds: usize, mut work: impl FnMut()) -> u64 {
+    let times = (0..rounds).map(|_| {
+        let start = Instant::now();
+        work();
+        start.elapsed().as_nanos() as u64
+    });
+    median(times.collect())
+}
+
+/// Pairs of rows of two sheets of the catalogue: the check of both sheets, what a pair costs beside it, one
+/// call for one pair, and the same pairs as rows that were encoded before.
+fn measure_pairs(options: &Options) {
+    let (order, nulls) = columns_said(options);
+    let rounds = options.number("--rounds").unwrap_or(501) as usize;
+    let table = table_of(TABLES[0].1, order, nulls);
+    let (list, sheet) = (table.list(), table.sheet());
+    let (lent, n) = ((ROWS as u64, &sheet[..]), ROWS as u64);
+    let mut rng = Rng::new(11);
+    let pairs: Vec<[u64; 2]> = (0..ROWS)
+        .map(|_| [rng.below(ROWS) as u64, rng.below(ROWS) as u64])
+        .collect();
+    let mut answers = vec![0; pairs.len()];
+    let all = timed(rounds, || {
+        station::compare_pairs(&list, lent, lent, black_box(&pairs), &mut answers)
+            .expect("accepted");
+    });
+    let none = timed(rounds, || {
+        station::compare_pairs(&list, lent, lent, black_box(&[]), &mut []).expect("accepted");
+    });
+    let one = timed(rounds, || {
+        station::compare_sheets(&list, lent, black_box(7), lent, n - 1).expect("accepted");
+    });
+    let rows = station::encode_to_vec(&list, n, &sheet).expect("accepted");
+    let bytes = timed(rounds, || {
+        for [i, j] in black_box(&pairs) {
+            black_box(station::compare(
+                rows.row(*i as usize),
+                rows.row(*j as usize),
+            ));
+        }
+    });
+    println!("pairs: {ROWS} rows in each sheet, {ROWS} pairs, medians of {rounds} rounds");
+    println!(
+        "compare  both sheets checked {none} ns  a pair {:.2} ns  one pair in one call {one} ns  \
+         of encoded rows a pair {:.2} ns",
+        all.saturating_sub(none) as f64 / ROWS as f64,
+        bytes as f64 / ROWS as f64
+    );
+}
+
 /// The instructions of one work, counted by callgrind: many rounds less one round.
 fn instructions(work: &str, words: &[&str]) -> Option<u64> {
     let counted = |rounds: u64| {
@@ -457,6 +509,9 @@ fn main() -> ExitCode {
     }
     if wanted.is_none() && !options.has("--only") {
         measure_small(&options);
+    }
+    if wanted.is_none_or(|wanted| wanted == "pairs") && !options.has("--only") {
+        measure_pairs(&options);
     }
     ExitCode::SUCCESS
 }

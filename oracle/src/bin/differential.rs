@@ -4,7 +4,7 @@ use oracle::judge::Judge;
 use oracle::options::Options;
 use oracle::rng::Rng;
 use oracle::yard::Yard;
-use oracle::{document, joins, lookups, misreads, reads, refusals, sweeps, trap};
+use oracle::{comparisons, document, joins, lookups, misreads, reads, refusals, sweeps, trap};
 use std::process::ExitCode;
 
 fn main() -> ExitCode {
@@ -45,10 +45,13 @@ fn main() -> ExitCode {
     lookups::found(&mut judge, &mut rng, sheets);
     lookups::refused(&mut judge, &mut rng);
     lookups::damaged(&mut judge, &mut rng, sheets);
+    comparisons::compared(&mut judge, &mut rng, sheets);
+    comparisons::refused(&mut judge, &mut rng);
+    comparisons::damaged(&mut judge, &mut rng, sheets);
     joins::joined(&mut judge, &mut rng, sheets / 10);
     joins::refused(&mut judge, &mut rng);
     joins::damaged(&mut judge, &mut rng, sheets);
 
     // Every answer of the entries must have come up.
-    judge.finish((0..25).chain(26..30).chain([31]))
+    judge.finish((0..25).chain(26..30).chain([31, 32]))
 }

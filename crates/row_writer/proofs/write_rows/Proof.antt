@@ -19,7 +19,8 @@ use Rattle.laws.proofs.Parts.{part-rest}
 use Rattle.format.specs.Passed.{Stands}
 use Rattle.sheet_reader.specs.declared.sheet.Facts.{Facts}
 use Rattle.sheet_reader.specs.Sheets.{noFacts}
-use Rattle.row_writer.proofs.Fields.{slotIn, fieldAt, rowAt, rows-known, field-long, stands-passes}
+use Rattle.sheet_reader.proofs.Values.{slotIn, stands-passes}
+use Rattle.row_writer.proofs.Fields.{fieldAt, rowAt, rows-known, field-long}
 use Rattle.row_writer.proofs.Turns.{piece-more, Rows, rows-begin, rows-more, rows-end}
 use Rattle.row_writer.proofs.write_rows.Statement.{statement}
 use Rattle.row_writer.proofs.write_rows.Tie as tie
@@ -127,7 +128,7 @@ put-field-requires c κs =
     let a = entry t .args in
     rw (part-rest (a .sheet .now) (facts t .base)) (
       (entry t .pre .0, t .before .before .loop-test .taken),
-      (stands-passes (a .n) (t .before .loop2 .c) (t .before .before .before .loop .r) (facts t .base) (facts t .column) (a .sheet .now) (stands t), fits t),
+      (stands-passes (a .n) (t .before .loop2 .c) (facts t .base) (facts t .column) (a .sheet .now) (stands t), fits t),
     )
 
 loop2-again : tie.Need-loop2-again Inv-loop2 μ-loop2 Inv-loop μ-loop

@@ -11,7 +11,8 @@ use Rattle.format.specs.Kinds.{Slot, columnShape}
 use Rattle.format.specs.Sheet.{layout, packed, valueAt, slotAt}
 use Rattle.laws.proofs.Parts.{part-rest}
 use Rattle.laws.proofs.Sheets.{valid-bytes}
-use Rattle.row_writer.proofs.Values.{values-pass, value-wrote, slot-valid, slot-null}
+use Rattle.sheet_reader.proofs.Values.{values-pass, slot-valid, slot-null}
+use Rattle.row_writer.proofs.Values.{value-wrote}
 use Rattle.row_writer.proofs.field.put_field.Statement.{statement}
 use Rattle.row_writer.proofs.field.put_field.Tie as tie
 

@@ -6,7 +6,8 @@ use mathlib.Core.Option.{some}
 use Rattle.format.specs.Sheet.{layout, valueAt}
 use Rattle.basics.specs.Wide.{WideKind}
 use Rattle.basics.proofs.Sorts.{wide-left}
-use Rattle.row_writer.proofs.Values.{bool-asked, bool-promised, variable-asked, variable-promised, wide-long, wide-asked, wide-promised}
+use Rattle.sheet_reader.proofs.Values.{bool-asked, variable-asked, wide-asked}
+use Rattle.row_writer.proofs.Values.{bool-promised, variable-promised, wide-long, wide-promised}
 use Rattle.row_writer.proofs.field.put_value.Statement.{statement}
 use Rattle.row_writer.proofs.field.put_value.Tie as tie
 

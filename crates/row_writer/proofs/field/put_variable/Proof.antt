@@ -1,7 +1,7 @@
 -- `row_writer::field::put_variable` meets its contract: the value lies between two ends that do not fall, within the bytes
 -- that the last end says. Assumes nothing.
 use borrow.Author.Needs.{needs}
-use Rattle.row_writer.proofs.Values.{Between, between}
+use Rattle.sheet_reader.proofs.Values.{Between, between}
 use Rattle.row_writer.proofs.field.put_variable.Statement.{statement}
 use Rattle.row_writer.proofs.field.put_variable.Tie as tie
 

@@ -1,4 +1,4 @@
--- the bytes of a row stand as the numbers do, for every count of bytes.
+-- Signed numbers and floats: their keys stand as the numbers do, for every count of bytes. Assumes nothing.
 use Prim.Native.Nat.{ℕ, suc, _+_, _-_, _*_, _^_, _<_, _≤_, compare, Ordering}
 use mathlib.Core.Path.{_≡_, refl, ap, sym, _∙_}
 use mathlib.Core.Logic.{_⊎_, inl, inr}

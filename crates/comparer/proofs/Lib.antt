@@ -1,0 +1,11 @@
+-- The order of keys, which the theorems on the order of rows cite too; and what the proofs of this crate share.
+pub mod KeyLaws
+pub mod KeyOrder
+pub mod Found
+pub mod Spelled
+pub mod Intervals
+pub mod WordSteps
+pub mod Arms
+pub mod Values
+pub mod Columns
+pub mod Pairs
