@@ -4,3 +4,4 @@ pub mod SheetExamples
 pub mod RowExamples
 pub mod EntryExamples
 pub mod JoinExamples
+pub mod CutterExamples

@@ -21,6 +21,10 @@ pub mod Numbers
 pub mod Entries
 pub mod Batch
 pub mod Join
+pub mod CutterRule
+pub mod Cutter
+pub mod Lent
+pub mod Coded
+pub mod CutterBytes
 pub mod Promises
 pub mod Program
-pub mod Lent

@@ -5,7 +5,7 @@ use lib.Dec.{leb, eqb}
 use Rattle.format.specs.declared.RowFault.{RowFault}
 use Rattle.format.specs.declared.RowFault.the-variants.{Cut, Lead, NullRest, BoolByte, EndByte, Padding, Extra, TooLong, Unfolded}
 use Rattle.format.specs.declared.Refusal.{Refusal}
-use Rattle.format.specs.declared.Refusal.the-variants.{ListCut, UnknownKind, OptionBits, Width, ManyColumns, ManyRows, ColumnCut, SpareBit, Ends, LongSlot, BytesAfter, ManyBytes, RowRoom, OffsetRoom, Offsets, Row, SheetRoom, Input, OutOfOrder, Missing}
+use Rattle.format.specs.declared.Refusal.the-variants.{ListCut, UnknownKind, OptionBits, Width, ManyColumns, ManyRows, ColumnCut, SpareBit, Ends, LongSlot, BytesAfter, ManyBytes, RowRoom, OffsetRoom, Offsets, Row, SheetRoom, Input, OutOfOrder, Missing, BrokenState}
 use Rattle.format.specs.declared.Answer.{Answer}
 use Rattle.format.specs.declared.Answer.the-variants.{Done, Refused}
 use Rattle.format.specs.declared.Returned.{Returned}
@@ -41,7 +41,7 @@ refusalNumbers (SpareBit c) = three 8 c 0
 refusalNumbers (Ends c r) = three 9 c r
 refusalNumbers (LongSlot c r) = three 10 c r
 refusalNumbers (BytesAfter place) = three 11 place 0
-refusalNumbers (ManyBytes total) = three 12 total 0
+refusalNumbers (ManyBytes total rows) = three 12 total rows
 refusalNumbers (RowRoom total) = three 13 total 0
 refusalNumbers (OffsetRoom count) = three 14 count 0
 refusalNumbers (Offsets i) = three 15 i 0
@@ -50,6 +50,7 @@ refusalNumbers (SheetRoom bytes) = three 24 bytes 0
 refusalNumbers Input = three 25 0 0
 refusalNumbers (OutOfOrder p r) = three 26 p r
 refusalNumbers (Missing c r) = three 27 c r
+refusalNumbers BrokenState = three 33 0 0
 
 -- refusals by what a row holds: 16 to 23, and 28
 abbrev pub byContent : Refusal → Bool

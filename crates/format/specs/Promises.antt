@@ -6,10 +6,13 @@ use mathlib.Core.List.{List}
 use lib.IntN.{ℤ}
 use lib.ListN.{length}
 use Rattle.format.specs.declared.Answer.{Answer}
+use Rattle.format.specs.declared.Cutter.{Cutter}
 use Rattle.format.specs.Numbers.{numbersOf}
 use Rattle.format.specs.Entries.{checkListAnswer, measureAnswer, encodeAnswer, encodeRows, encodeOffsets, decodeAnswer, decodeSheet, compareAnswer}
 use Rattle.format.specs.Join.{joinAnswer, joinList}
 use Rattle.format.specs.Lent.{lentJoin, lentJoinList}
+use Rattle.format.specs.Cutter.{startAnswer, startState, cutAnswer, cutState, cutEnds, finishAnswer}
+use Rattle.format.specs.CutterBytes.{lentStart, lentStartState, lentCut, lentCutState, lentCutEnds, lentFinish}
 use Rattle.format.specs.Lent.{lentCheckList, lentMeasure, lentEncode, lentEncodeRows, lentEncodeOffsets, lentDecode, lentDecodeSheet}
 
 -- check_list
@@ -35,6 +38,21 @@ pub record Decoded (list : List ℕ) (n : ℕ) (rows offsets sheet : List ℕ) (
 pub record Joined (n₀ : ℕ) (rows₀ offsets₀ : List ℕ) (n₁ : ℕ) (rows₁ offsets₁ list : List ℕ) (r : Answer) (list′ : List ℕ) : Type 0 where
   pub answers : numbersOf r ≡ numbersOf (joinAnswer n₀ rows₀ offsets₀ n₁ rows₁ offsets₁ (length list))
   pub order : list′ ≡ joinList n₀ rows₀ offsets₀ n₁ rows₁ offsets₁ list
+
+-- cutter start: the state that is handed out
+pub record Started (list : List ℕ) (r : Answer) (s : Cutter) : Type 0 where
+  pub answers : numbersOf r ≡ numbersOf (startAnswer list)
+  pub state : s ≡ startState list
+
+-- cutter call: the state at entry and at exit, the lent list of ends at entry and at exit
+pub record PieceCut (s : Cutter) (piece ends : List ℕ) (r : Answer) (s′ : Cutter) (ends′ : List ℕ) : Type 0 where
+  pub answers : numbersOf r ≡ numbersOf (cutAnswer s piece (length ends))
+  pub state : s′ ≡ cutState s piece (length ends)
+  pub row-ends : ends′ ≡ cutEnds s piece ends
+
+-- cutter finish
+pub record Finished (s : Cutter) (r : Answer) : Type 0 where
+  pub answers : numbersOf r ≡ numbersOf (finishAnswer s)
 
 -- compare
 pub record Compared (a b : List ℕ) (r : ℤ) : Type 0 where
@@ -65,3 +83,18 @@ pub record LentDecoded (list : List ℕ) (n : ℕ) (rows offsets sheet lent shee
 pub record LentJoined (n₀ : ℕ) (rows₀ offsets₀ : List ℕ) (n₁ : ℕ) (rows₁ offsets₁ list lent list′ lent′ : List ℕ) : Type 0 where
   pub answers : lent′ ≡ lentJoin n₀ rows₀ offsets₀ n₁ rows₁ offsets₁ list lent
   pub order : list′ ≡ lentJoinList n₀ rows₀ offsets₀ n₁ rows₁ offsets₁ list lent
+
+-- station_cutter_start
+pub record LentStarted (list state lent state′ lent′ : List ℕ) : Type 0 where
+  pub answers : lent′ ≡ lentStart list state lent
+  pub states : state′ ≡ lentStartState list state lent
+
+-- station_cut
+pub record LentPieceCut (state piece ends lent state′ ends′ lent′ : List ℕ) : Type 0 where
+  pub answers : lent′ ≡ lentCut state piece ends lent
+  pub states : state′ ≡ lentCutState state piece ends lent
+  pub row-ends : ends′ ≡ lentCutEnds state piece ends lent
+
+-- station_cutter_finish
+pub record LentFinished (state lent lent′ : List ℕ) : Type 0 where
+  pub answers : lent′ ≡ lentFinish state lent
