@@ -1,0 +1,4 @@
+-- Laws of the row cutter.
+pub mod Cutting
+pub mod RuleMoves
+pub mod RuleKept
