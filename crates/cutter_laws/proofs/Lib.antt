@@ -2,3 +2,6 @@
 pub mod Cutting
 pub mod RuleMoves
 pub mod RuleKept
+pub mod Walk
+pub mod FixedWalk
+pub mod Marks

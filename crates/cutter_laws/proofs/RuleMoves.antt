@@ -185,7 +185,7 @@ null-okay k fold row seen known b l h =
     (λ f. (refl, q .1)))
 
 -- a byte, read either way
-turned : (o : SortOptions) (b : ℕ) → b < 256 → turn o b < 256
+pub turned : (o : SortOptions) (b : ℕ) → b < 256 → turn o b < 256
 turned o b l = go (o .descending)
   where
     go : (t : Bool) → cond t (255 - b) b < 256
