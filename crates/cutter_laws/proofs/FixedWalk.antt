@@ -67,7 +67,7 @@ null-next end m known at b s pos k e = go (ltb (length s) (suc m)) refl
 module _ (k : Fixed) (o : SortOptions) (end : ℕ) where
   null-walk : (m seen known at : ℕ) (s : List ℕ) → seen + suc m ≡ width k → known < at → end ≡ at + length s
       → Alike end (walk (fixed k) o (Nulls seen known) at s) (nullFrom end (suc m) known s)
-  null-walk m seen known at [] w l e = rw (lt-ltb 0 (suc m) (omega arith)) refl
+  null-walk m seen known at [] w l e = rw (lt-ltb 0 (suc m) (omega arith)) (refl, refl)
   null-walk zero seen known at (b ∷ s) w l e =
       rw (le-ltb (suc seen) (width k) (omega arith), le-ltb (suc (length s)) 1 (omega arith)) (go (eqb known 0) (eqb b 0) refl)
     where
@@ -180,7 +180,7 @@ module _ (k : Fixed) (o : SortOptions) (end : ℕ) where
 
   value-walk : (m at : ℕ) (p s : List ℕ) → length p + suc m ≡ width k → Bytes p → Bytes s → length p ≤ at → end ≡ at + length s
       → Alike end (walk (fixed k) o (Value (length p) (spelling k (o .fold) p)) at s) (valueFrom k o (suc m) p s)
-  value-walk m at p [] w bp bs l e = rw (lt-ltb 0 (suc m) (omega arith)) refl
+  value-walk m at p [] w bp bs l e = rw (lt-ltb 0 (suc m) (omega arith)) (refl, refl)
   value-walk zero at p (b ∷ s) w bp bs l e =
       rw (le-ltb (suc (length p)) (width k) (omega arith), le-ltb (suc (length s)) 1 (omega arith), directed-cons (o .descending) b [], directed-none (o .descending), spelt-next k o p b)
       (value-last p at b s (λ next. walk (fixed k) o next (suc at) s) w bp (turned o b (bs .0)) l e)
@@ -221,7 +221,7 @@ empty-bytes k o s e =
     ∙ empty-key k (o .fold) s e
 
 pub fixed-walk : (k : Fixed) (o : SortOptions) (at : ℕ) (xs : List ℕ) → Bytes xs → Alike (at + length xs) (walk (fixed k) o Start at xs) (readFixed k o xs)
-fixed-walk k o at [] bs = refl
+fixed-walk k o at [] bs = (refl, refl)
 fixed-walk k o at (b ∷ s) bs = go (nullLead o b) (eqb b 1) (eqb (width k) 0) refl
   where
     end : ℕ

@@ -5,3 +5,5 @@ pub mod RuleKept
 pub mod Walk
 pub mod FixedWalk
 pub mod Marks
+pub mod VariableWalk
+pub mod FieldFed

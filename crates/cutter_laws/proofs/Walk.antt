@@ -30,10 +30,10 @@ walk sh o spot at [] = still spot
 walk sh o spot at (b ∷ bs) = walkThen (move sh o spot at b) bs (λ next. walk sh o next (suc at) bs)
 
 -- such a walk over bytes that end at place `end`, and what the field reader says of the same bytes: the same rest, or the same fault at the
--- same place, one that shows at a byte; and 16 where the field is not whole yet
+-- same place, one that shows at a byte; and 16 at the end where the field is not whole yet
 abbrev pub Alike : {A : Type 0} → ℕ → Walk → Parsed A → Type 0
 Alike end (still spot) (got v rest) = ⊥
-Alike end (still spot) (fault f l) = f ≡ Cut
+Alike end (still spot) (fault f l) = (f ≡ Cut) × (l ≡ 0)
 Alike end (ended bs) (got v rest) = bs ≡ rest
 Alike end (ended bs) (fault f l) = ⊥
 Alike end (broken f place) (got v rest) = ⊥
