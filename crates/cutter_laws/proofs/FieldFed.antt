@@ -1,15 +1,18 @@
 -- A field, from its first byte on: what its bytes do to the state is what the field reader says of them. Assumes nothing.
-use Prim.Native.Nat.{ℕ, zero, suc, _+_, _-_, _<_, _≤_}
+use Prim.Native.Nat.{ℕ, suc, _+_, _-_, _<_, _≤_}
 use mathlib.Core.Path.{_≡_, refl, ap, ap₂, sym, subst, _∙_}
 use mathlib.Core.Bool.{Bool, true, false, cond}
-use mathlib.Core.List.{List, [], _∷_, _++_}
-use native.Mathlib.Nat.{add-zero, add-suc, add-assoc}
+use mathlib.Core.Logic.{_⊎_, inl, inr}
+use mathlib.Core.List.{List, [], _∷_, _++_, append-nil}
+use native.Mathlib.Nat.{add-zero}
 use native.Mathlib.Numerals.{add-one}
 use native.Mathlib.Omega.{arith}
 use lib.Dec.{ltb}
 use lib.ListN.{length}
 use borrow.Author.Tests.{lt-ltb, le-ltb}
 use Rattle.format.specs.declared.SortOptions.{SortOptions}
+use Rattle.format.specs.declared.RowFault.{RowFault}
+use Rattle.format.specs.declared.RowFault.the-variants.{Cut}
 use Rattle.format.specs.declared.Refusal.the-variants.{Row, ManyBytes}
 use Rattle.format.specs.declared.Check.{Check}
 use Rattle.format.specs.declared.Check.the-variants.{Pass, Refuse}
@@ -18,10 +21,11 @@ use Rattle.format.specs.declared.Spot.the-variants.{Start}
 use Rattle.format.specs.declared.Cutter.{Cutter}
 use Rattle.format.specs.Limits.{maxTotal}
 use Rattle.format.specs.Lists.{Bytes}
-use Rattle.format.specs.Kinds.{Shape, fixed, variable, columnShape}
-use Rattle.format.specs.Read.{readField}
-use Rattle.format.specs.CutterRule.{columnIn}
-use Rattle.format.specs.Cutter.{Move, on, whole, bad, move, moveIn, moved, refused, further, rowEnded, fieldEnded, taken, unless, step, fed, newEnd, endsIn}
+use Rattle.format.specs.Kinds.{Shape, fixed, variable, Slot, columnShape}
+use Rattle.format.specs.Read.{Parsed, got, fault, readField}
+use Rattle.format.specs.Numbers.{faultNumber}
+use Rattle.format.specs.CutterRule.{columnIn, faultKept}
+use Rattle.format.specs.Cutter.{Move, on, whole, bad, moveIn, moved, refused, further, rowEnded, fieldEnded, taken, unless, step, fed, newEnd, endsIn}
 use Rattle.cutter_laws.proofs.Cutting.{fed-refused, ends-refused}
 use Rattle.cutter_laws.proofs.Walk.{Walk, still, ended, broken, walkThen, walk, Alike}
 use Rattle.cutter_laws.proofs.FixedWalk.{fixed-walk}
@@ -96,3 +100,79 @@ module _ (s : Cutter) (b : ℕ) (bs : List ℕ) where
     ap (λ (t : Cutter). fed t bs) e ∙ h .0,
     ap (λ (t : Cutter). newEnd s t ++ endsIn t bs) e ∙ ap₂ {C = List ℕ} (λ x y. x ++ y) (no-end s (further s 1 (s .column) spot) (omega arith)) (h .1),
   )
+
+-- the walk of the field that is being read
+abbrev walkIn : Cutter → List ℕ → Walk
+walkIn s xs = walk (columnShape (columnIn s)) (columnIn s .options) (s .spot) (s .row) xs
+
+walk-fed : (xs : List ℕ) (s : Cutter) → s .refusal ≡ Pass → s .bytes + length xs ≤ maxTotal → After s xs (walkIn s xs)
+walk-fed [] s e l = (sym (further-none s), refl)
+walk-fed (b ∷ bs) s e l = go (moveIn s b) (step-room s b e (omega arith)) (λ spot. walk-fed bs (further s 1 (s .column) spot) e (omega arith))
+  where
+    sh : Shape
+    sh = columnShape (columnIn s)
+
+    o : SortOptions
+    o = columnIn s .options
+
+    go : (m : Move) → step s b ≡ moved s m → ((spot : Spot) → After (further s 1 (s .column) spot) bs (walk sh o spot (s .row + 1) bs))
+        → After s (b ∷ bs) (walkThen m bs (λ next. walk sh o next (suc (s .row)) bs))
+    go (on spot) q ih = on-after s b bs spot q (walk sh o spot (suc (s .row)) bs) (subst (λ (at : ℕ). After (further s 1 (s .column) spot) bs (walk sh o spot at bs)) (add-one (s .row)) (ih spot))
+    go whole q ih = record {
+      part = b ∷ [];
+      splits = refl;
+      state = q;
+      ends = ap (λ (t : Cutter). newEnd s t ++ []) q ∙ append-nil (newEnd s (fieldEnded s 1));
+    }
+    go (bad f place) q ih = (
+      ap (λ (t : Cutter). fed t bs) q ∙ fed-refused (refused (Row f (s .rows) (s .column) place)) (Row f (s .rows) (s .column) place) refl bs,
+      ap (λ (t : Cutter). newEnd s t ++ endsIn t bs) q
+          ∙ ap₂ {C = List ℕ} (λ x y. x ++ y) (no-end s (refused (Row f (s .rows) (s .column) place)) (omega arith))
+          (ends-refused (refused (Row f (s .rows) (s .column) place)) (Row f (s .rows) (s .column) place) refl bs),
+    )
+
+-- ---- what the field reader says, and the state
+
+-- before a field's first byte, with no refusal standing
+pub record Ready (s : Cutter) : Type 0 where
+  pub standing : s .refusal ≡ Pass
+  pub start : s .spot ≡ Start
+
+-- what is read of the field that begins here
+abbrev pub fieldIn : Cutter → List ℕ → Parsed Slot
+fieldIn s xs = readField (columnShape (columnIn s)) (columnIn s .options) xs
+
+-- the field goes on past these bytes
+pub record Open (s : Cutter) (xs : List ℕ) : Type 0 where
+  pub spot : Spot
+  pub state : fed s xs ≡ further s (length xs) (s .column) spot
+  pub ends : endsIn s xs ≡ []
+
+-- a fault shows in them, with l bytes left from the bad one on
+pub record Broken (s : Cutter) (xs : List ℕ) (f : RowFault) (l : ℕ) : Type 0 where
+  pub shows : faultKept (faultNumber f) ≡ true
+  pub state : fed s xs ≡ refused (Row f (s .rows) (s .column) (s .row + length xs - l))
+  pub ends : endsIn s xs ≡ []
+
+-- the field is whole and the reader leaves what comes after it; or it is cut off; or its fault shows
+abbrev pub FieldFed : Cutter → List ℕ → Parsed Slot → Type 0
+FieldFed s xs (got v rest) = Ended s xs rest
+FieldFed s xs (fault f l) = ((f ≡ Cut) × (l ≡ 0) × Open s xs) ⊎ Broken s xs f l
+
+pub field-fed : (s : Cutter) (xs : List ℕ) → Ready s → Bytes xs → s .bytes + length xs ≤ maxTotal → FieldFed s xs (fieldIn s xs)
+field-fed s xs r bs l =
+    go (walkIn s xs) (fieldIn s xs) (walk-fed xs s (r .standing) l)
+    (subst (λ (spot : Spot). Alike (s .row + length xs) (walk (columnShape (columnIn s)) (columnIn s .options) spot (s .row) xs) (fieldIn s xs)) (sym (r .start))
+    (field-walk (columnShape (columnIn s)) (columnIn s .options) (s .row) xs bs))
+  where
+    go : (w : Walk) (p : Parsed Slot) → After s xs w → Alike (s .row + length xs) w p → FieldFed s xs p
+    go (still spot) (got v rest) h a = absurd a
+    go (still spot) (fault f l) h a = inl (a .0, a .1, record { spot = spot; state = h .0; ends = h .1 })
+    go (ended left) (got v rest) h a = subst (Ended s xs) a h
+    go (ended left) (fault f l) h a = absurd a
+    go (broken f place) (got v rest) h a = absurd a
+    go (broken f place) (fault g l) h a = inr (record {
+      shows = subst (λ (x : RowFault). faultKept (faultNumber x) ≡ true) (a .0) (a .2);
+      state = h .0 ∙ ap₂ (λ (x : RowFault) (n : ℕ). refused (Row x (s .rows) (s .column) n)) (a .0) (a .1);
+      ends = h .1;
+    })
