@@ -7,3 +7,4 @@ pub mod FixedWalk
 pub mod Marks
 pub mod VariableWalk
 pub mod FieldFed
+pub mod Piece
