@@ -8,3 +8,4 @@ pub mod Marks
 pub mod VariableWalk
 pub mod FieldFed
 pub mod Piece
+pub mod RowFed
