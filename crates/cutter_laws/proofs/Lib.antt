@@ -9,3 +9,4 @@ pub mod VariableWalk
 pub mod FieldFed
 pub mod Piece
 pub mod RowFed
+pub mod StreamCut

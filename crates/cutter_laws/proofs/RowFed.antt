@@ -47,7 +47,7 @@ pub record RowDone (s : Cutter) (xs rest : List ℕ) : Type 0 where
   pub ends : endsIn s part ≡ (s .bytes + length part) ∷ []
 
 -- what decode says of the rest of the row that is being read, if these are its bytes
-abbrev judged : Cutter → List Column → List ℕ → Check
+abbrev pub judged : Cutter → List Column → List ℕ → Check
 judged s cols xs = rowFault (s .rows) (s .row + length xs) (s .column) cols xs
 
 -- the row ends, and decode has read all its fields there
@@ -203,14 +203,14 @@ module _ (s : Cutter) (col next : Column) (cols : List Column) (xs rest : List �
   }
 
 -- ---- a row from column to column
-abbrev RowFed : Cutter → List Column → List ℕ → Type 0
+abbrev pub RowFed : Cutter → List Column → List ℕ → Type 0
 RowFed s cols xs = Reads s cols xs ⊎ Refuses s cols xs
 
 either : {A B C D : Type 0} → (A → C) → (B → D) → A ⊎ B → C ⊎ D
 either f g (inl a) = inl (f a)
 either f g (inr b) = inr (g b)
 
-row-from : (col : Column) (cols : List Column) (s : Cutter) (xs : List ℕ) → Before s (col ∷ cols) → Bytes xs → s .bytes + length xs ≤ maxTotal
+pub row-from : (col : Column) (cols : List Column) (s : Cutter) (xs : List ℕ) → Before s (col ∷ cols) → Bytes xs → s .bytes + length xs ≤ maxTotal
     → 0 < s .row + length xs → RowFed s (col ∷ cols) xs
 row-from col [] s xs a bs l pos = go (fieldIn s xs) refl (field-fed s xs (a .ready) bs l)
   where
