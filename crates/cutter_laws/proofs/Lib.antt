@@ -10,3 +10,4 @@ pub mod FieldFed
 pub mod Piece
 pub mod RowFed
 pub mod StreamCut
+pub mod StartKept
