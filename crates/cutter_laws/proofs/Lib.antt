@@ -11,3 +11,4 @@ pub mod Piece
 pub mod RowFed
 pub mod StreamCut
 pub mod StartKept
+pub mod Coding
