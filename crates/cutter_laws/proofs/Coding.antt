@@ -159,7 +159,7 @@ module _ (cols : List Column) (t : List ℕ) where
 
 -- ---- the refusal that stands, by its four numbers
 
-abbrev numberList : Returned → List ℕ
+abbrev pub numberList : Returned → List ℕ
 numberList a = a .0 ∷ a .1 ∷ a .2 ∷ a .3 ∷ []
 
 -- it is read back, and eight bytes hold each number
@@ -191,7 +191,7 @@ row-small n r c place l h =
     let b = ltb-true c maxColumns (p .1) in
     (omega arith, (omega arith, (omega arith, (omega arith, tt))))
 
-refusal-written : (r : Refusal) → numbersKept (refusalNumbers r) ≡ true → Written (Refuse r)
+pub refusal-written : (r : Refusal) → numbersKept (refusalNumbers r) ≡ true → Written (Refuse r)
 refusal-written (ListCut p) h = record { back = refl; small = list-small 1 p (omega arith) h }
 refusal-written (UnknownKind p) h = record { back = refl; small = list-small 2 p (omega arith) h }
 refusal-written (OptionBits p) h = record { back = refl; small = list-small 3 p (omega arith) h }

@@ -12,3 +12,4 @@ pub mod RowFed
 pub mod StreamCut
 pub mod StartKept
 pub mod Coding
+pub mod StateBack

@@ -13,7 +13,7 @@ use Rattle.format.specs.Schemas.{schemaOf}
 use Rattle.format.specs.Numbers.{three, four, numbersOf}
 use Rattle.format.specs.CutterRule.{keeps}
 use Rattle.format.specs.Cutter.{startAnswer, startState, cutAnswer, cutState, cutEnds, finishAnswer}
-use Rattle.format.specs.CutterBytes.{stateBytes, stateSize, lentKeeps}
+use Rattle.format.specs.CutterBytes.{stateBytes, stateSize, stateOf, lentKeeps}
 
 -- ---- an i8 and a name, nulls first
 abbrev list : List ℕ
@@ -40,7 +40,7 @@ cuts = (refl, refl, refl, refl, refl, refl, refl)
 -- where it stands after five bytes: row byte 5, column 1, in block 0 with two bytes seen, of which the first is not zero
 pub stands : (first .row ≡ 5) × (first .column ≡ 1) × (first .spot ≡ Block 0 2 1) × (keeps first ≡ true) × (lentKeeps (stateBytes first) ≡ true)
     × (length (stateBytes first) ≡ stateSize)
-unfolding startState cutState keeps lentKeeps listFault columns
+unfolding startState cutState keeps stateBytes stateOf lentKeeps listFault columns
 stands = (refl, refl, refl, refl, refl, refl)
 
 -- 14; faults at the byte that completes a field or block, with the place of the bad byte; ends before them are kept; the refusal stands

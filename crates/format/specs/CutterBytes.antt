@@ -49,7 +49,7 @@ abbrev pub numbersSize : ℕ
 numbersSize = 8 * 13
 
 -- then the columns, four bytes each, and zeros for those that are not there
-abbrev pub stateBytes : Cutter → List ℕ
+unfoldable pub stateBytes : Cutter → List ℕ
 stateBytes s =
     eightBytes (stateNumbers (checkNumbers (s .refusal)) s)
     ++ codes (colsOf (s .schema))
@@ -101,7 +101,7 @@ stateFrom ns s = record {
   spot = spotOf (getD ns 8 0) (getD ns 9 0) (getD ns 10 0) (getD ns 11 0);
 }
 
-abbrev pub stateOf : List ℕ → Cutter
+unfoldable pub stateOf : List ℕ → Cutter
 stateOf s = stateFrom (eights (take numbersSize s)) s
 
 -- ---- the rule on lent bytes: those of a state that keeps the rule, in front; bytes after them mean nothing
