@@ -59,7 +59,7 @@ module _ (s : Cutter) (spot : Spot) where
       (ap (λ (b : ℕ). record { schema = s .schema; refusal = s .refusal; rows = suc (s .rows); bytes = b; row = 0; column = 0; spot = Start }) (one-more (s .bytes) n))
 
 -- no row ends where the count of rows stays, or falls
-no-end : (s t : Cutter) → t .rows ≤ s .rows → newEnd s t ≡ []
+pub no-end : (s t : Cutter) → t .rows ≤ s .rows → newEnd s t ≡ []
 no-end s t l = ap (λ (u : Bool). cond u (t .bytes ∷ []) []) (le-ltb (s .rows) (t .rows) l)
 
 -- the bytes of xs before bs complete the field that is being read

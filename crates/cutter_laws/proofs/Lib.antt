@@ -13,3 +13,4 @@ pub mod StreamCut
 pub mod StartKept
 pub mod Coding
 pub mod StateBack
+pub mod Streams

@@ -1,16 +1,15 @@
 -- A piece, read up to byte i: a byte more, a whole field more, a fault. What a loop over a piece cites. Assumes nothing.
 use Prim.Native.Nat.{ℕ, suc, _+_, _-_, _<_, _≤_}
 use mathlib.Core.Path.{_≡_, refl, ap, ap₂, sym, subst, _∙_}
-use mathlib.Core.Bool.{Bool, true, false, cond, true≢false}
+use mathlib.Core.Bool.{Bool, true, false, cond}
 use mathlib.Core.Logic.{_⊎_, inl, inr}
 use mathlib.Core.Option.{none, some}
 use mathlib.Core.List.{List, [], _∷_, _++_, append-nil}
-use native.Mathlib.Numerals.{add-one}
 use native.Mathlib.Omega.{arith}
 use lib.Dec.{ltb}
 use lib.ListN.{length, getD, take, drop, length-append, length-take, take-append-drop}
 use lib.Seq.{drop-cons, take-add, take-all, take-take, take-at}
-use borrow.Author.Tests.{lt-ltb, le-ltb, ltb-false}
+use borrow.Author.Tests.{lt-ltb, le-ltb}
 use Rattle.format.specs.declared.RowFault.{RowFault}
 use Rattle.format.specs.declared.RowFault.the-variants.{Cut}
 use Rattle.format.specs.declared.FieldRead.the-variants.{Null, Value, Fault}
@@ -18,18 +17,17 @@ use Rattle.format.specs.declared.Refusal.{Refusal}
 use Rattle.format.specs.declared.Refusal.the-variants.{Row, ManyBytes}
 use Rattle.format.specs.declared.Check.{Check}
 use Rattle.format.specs.declared.Check.the-variants.{Pass, Refuse}
+use Rattle.format.specs.declared.Spot.{Spot}
 use Rattle.format.specs.declared.Spot.the-variants.{Start}
 use Rattle.format.specs.declared.Cutter.{Cutter}
 use Rattle.format.specs.Limits.{maxTotal}
 use Rattle.format.specs.Lists.{Bytes}
 use Rattle.format.specs.Kinds.{Slot}
-use Rattle.format.specs.Numbers.{faultNumber}
 use Rattle.format.specs.Read.{Parsed, got, fault, fieldRead}
-use Rattle.format.specs.CutterRule.{faultKept}
-use Rattle.format.specs.Cutter.{refused, further, rowEnded, fieldEnded, step, fed, newEnd, endsIn}
+use Rattle.format.specs.Cutter.{on, whole, bad, moveIn, moved, refused, further, rowEnded, fieldEnded, step, fed, newEnd, endsIn}
 use Rattle.basics.proofs.Bytes.{bytes-take, bytes-drop}
-use Rattle.cutter_laws.proofs.Cutting.{fed-append, ends-append, fed-refused, ends-refused}
-use Rattle.cutter_laws.proofs.FieldFed.{Ended, Ready, Broken, FieldFed, fieldIn, field-fed}
+use Rattle.cutter_laws.proofs.Cutting.{fed-append, ends-append, fed-refused, ends-refused, step-full}
+use Rattle.cutter_laws.proofs.FieldFed.{no-end, step-room, Ended, Ready, FieldFed, fieldIn, field-fed}
 
 -- the end that the last byte of a field completes: one, if the column is the last
 pub new-end : (s : Cutter) (n : ℕ) → newEnd s (fieldEnded s n) ≡ cond (ltb (suc (s .column)) (s .schema .count)) [] ((s .bytes + n) ∷ [])
@@ -85,6 +83,39 @@ module _ {s₀ : Cutter} {piece : List ℕ} {i : ℕ} {s : Cutter} {found : List
   upto-byte l =
       subst (λ (x : List ℕ). Upto s₀ piece (i + 1) (step s (getD piece i 0)) (found ++ x)) (append-nil (newEnd s (step s (getD piece i 0))))
       (subst (λ (x : List ℕ). Upto s₀ piece (i + 1) (fed s x) (found ++ endsIn s x)) (ap (take 1) (drop-cons piece i 0 l)) (upto-more u 1))
+
+  -- a byte that is refused
+  refused-byte : i < length piece → (q : Refusal) → step s (getD piece i 0) ≡ refused q → (fed s₀ piece ≡ refused q) × (endsIn s₀ piece ≡ found)
+  refused-byte l q a =
+      let v : Upto s₀ piece (i + 1) (refused q) (found ++ newEnd s (refused q)) = subst (λ (t : Cutter). Upto s₀ piece (i + 1) t (found ++ newEnd s t)) a (upto-byte l) in
+      let w = upto-refused v q refl in
+      (w .0, w .1 ∙ ap (λ (x : List ℕ). found ++ x) (no-end s (refused q) (omega arith)) ∙ append-nil found)
+
+  -- ---- a byte, by what it does to the field
+  module _ (l : i < length piece) (e : s .refusal ≡ Pass) where
+    abbrev b : ℕ
+    b = getD piece i 0
+
+    -- the 16,777,217th: 12
+    pub upto-many : s .bytes ≡ maxTotal → (fed s₀ piece ≡ refused (ManyBytes (suc maxTotal) (s .rows))) × (endsIn s₀ piece ≡ found)
+    upto-many full = refused-byte l (ManyBytes (suc maxTotal) (s .rows)) (step-full s b e full)
+
+    module _ (room : s .bytes < maxTotal) where
+      -- the field goes on
+      pub upto-on : (spot : Spot) → moveIn s b ≡ on spot → Upto s₀ piece (i + 1) (further s 1 (s .column) spot) found
+      upto-on spot q =
+          subst (λ (x : List ℕ). Upto s₀ piece (i + 1) (further s 1 (s .column) spot) x)
+          (ap (λ (x : List ℕ). found ++ x) (no-end s (further s 1 (s .column) spot) (omega arith)) ∙ append-nil found)
+          (subst (λ (t : Cutter). Upto s₀ piece (i + 1) t (found ++ newEnd s t)) (step-room s b e room ∙ ap (moved s) q) (upto-byte l))
+
+      -- it is whole
+      pub upto-whole : moveIn s b ≡ whole → Upto s₀ piece (i + 1) (fieldEnded s 1) (found ++ newEnd s (fieldEnded s 1))
+      upto-whole q = subst (λ (t : Cutter). Upto s₀ piece (i + 1) t (found ++ newEnd s t)) (step-room s b e room ∙ ap (moved s) q) (upto-byte l)
+
+      -- a fault shows
+      pub upto-bad : (f : RowFault) (place : ℕ) → moveIn s b ≡ bad f place
+          → (fed s₀ piece ≡ refused (Row f (s .rows) (s .column) place)) × (endsIn s₀ piece ≡ found)
+      upto-bad f place q = refused-byte l (Row f (s .rows) (s .column) place) (step-room s b e room ∙ ap (moved s) q)
 
   -- one of m bytes more is refused
   broke-off : (q : Refusal) (m : ℕ) → fed s (take m (drop i piece)) ≡ refused q → endsIn s (take m (drop i piece)) ≡ []
