@@ -14,3 +14,5 @@ pub mod StartKept
 pub mod Coding
 pub mod StateBack
 pub mod Streams
+pub mod LentStates
+pub mod Unique
