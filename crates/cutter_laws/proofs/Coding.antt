@@ -1,13 +1,13 @@
 -- What is written of a row cutter's state is read back: numbers of eight bytes, columns of four, and a refusal of four numbers. Assumes
 -- nothing.
-use Prim.Native.Nat.{ℕ, suc, _+_, _*_, _/_, _^_, _<_, _≤_}
-use mathlib.Core.Path.{_≡_, refl, ap, ap₂, sym, subst, _∙_}
+use Prim.Native.Nat.{ℕ, suc, _+_, _*_, _/_, _^_, _<_}
+use mathlib.Core.Path.{_≡_, refl, ap, ap₂, sym, _∙_}
 use mathlib.Core.Bool.{Bool, true, false, cond, _&&_, _||_, false≢true}
 use mathlib.Core.List.{List, [], _∷_, _++_, map, append-nil}
 use native.Mathlib.Nat.{mul-comm, add-zero, mul-div-cancel-left}
 use native.Mathlib.Omega.{arith}
 use lib.Dec.{ltb, leb, eqb, lit<}
-use lib.ListN.{length, getD, take, drop, length-append, length-map, List·getD-map}
+use lib.ListN.{length, getD, take, drop, length-map, List·getD-map}
 use lib.Seq.{getD-drop, getD-take}
 use borrow.Author.Tests.{ltb-true, leb-true, eqb-true}
 use Rattle.format.specs.declared.Kind.{Kind}
@@ -18,15 +18,15 @@ use Rattle.format.specs.declared.RowFault.the-variants.{Cut, Lead, NullRest, Bo
 use Rattle.format.specs.declared.Refusal.{Refusal}
 use Rattle.format.specs.declared.Refusal.the-variants.{ListCut, UnknownKind, OptionBits, Width, ManyColumns, ManyRows, ColumnCut, SpareBit, Ends, LongSlot, BytesAfter, ManyBytes, RowRoom, OffsetRoom, Offsets, Row, SheetRoom, Input, OutOfOrder, Missing, BrokenState}
 use Rattle.format.specs.declared.Check.{Check}
-use Rattle.format.specs.declared.Check.the-variants.{Pass, Refuse}
+use Rattle.format.specs.declared.Check.the-variants.{Refuse}
 use Rattle.format.specs.declared.Returned.{Returned}
 use Rattle.format.specs.Limits.{maxColumns, maxTotal}
-use Rattle.format.specs.Lists.{each, joined, low, lowBytes}
+use Rattle.format.specs.Lists.{each, low, lowBytes}
 use Rattle.format.specs.Kinds.{valueBytes}
 use Rattle.format.specs.Columns.{kindOf, optionsOf}
 use Rattle.format.specs.Coded.{kindNumber, optionsNumber, heldWidth, code, codes, codeAt, columnOf}
 use Rattle.format.specs.Schemas.{noColumn}
-use Rattle.format.specs.Numbers.{four, refusalNumbers}
+use Rattle.format.specs.Numbers.{refusalNumbers}
 use Rattle.format.specs.Lent.{eights, eightBytes}
 use Rattle.format.specs.CutterRule.{numbersKept}
 use Rattle.format.specs.CutterBytes.{checkNumbers, checkOf}

@@ -1,7 +1,7 @@
 -- A field, from its first byte on: what its bytes do to the state is what the field reader says of them. Assumes nothing.
 use Prim.Native.Nat.{ℕ, suc, _+_, _-_, _<_, _≤_}
 use mathlib.Core.Path.{_≡_, refl, ap, ap₂, sym, subst, _∙_}
-use mathlib.Core.Bool.{Bool, true, false, cond}
+use mathlib.Core.Bool.{Bool, true, cond}
 use mathlib.Core.Logic.{_⊎_, inl, inr}
 use mathlib.Core.List.{List, [], _∷_, _++_, append-nil}
 use native.Mathlib.Nat.{add-zero}
@@ -15,7 +15,7 @@ use Rattle.format.specs.declared.RowFault.{RowFault}
 use Rattle.format.specs.declared.RowFault.the-variants.{Cut}
 use Rattle.format.specs.declared.Refusal.the-variants.{Row, ManyBytes}
 use Rattle.format.specs.declared.Check.{Check}
-use Rattle.format.specs.declared.Check.the-variants.{Pass, Refuse}
+use Rattle.format.specs.declared.Check.the-variants.{Pass}
 use Rattle.format.specs.declared.Spot.{Spot}
 use Rattle.format.specs.declared.Spot.the-variants.{Start}
 use Rattle.format.specs.declared.Cutter.{Cutter}
@@ -25,7 +25,7 @@ use Rattle.format.specs.Kinds.{Shape, fixed, variable, Slot, columnShape}
 use Rattle.format.specs.Read.{Parsed, got, fault, readField}
 use Rattle.format.specs.Numbers.{faultNumber}
 use Rattle.format.specs.CutterRule.{columnIn, faultKept}
-use Rattle.format.specs.Cutter.{Move, on, whole, bad, moveIn, moved, refused, further, rowEnded, fieldEnded, taken, unless, step, fed, newEnd, endsIn}
+use Rattle.format.specs.Cutter.{Move, on, whole, bad, moveIn, moved, refused, further, fieldEnded, taken, unless, step, fed, newEnd, endsIn}
 use Rattle.cutter_laws.proofs.Cutting.{fed-refused, ends-refused}
 use Rattle.cutter_laws.proofs.Walk.{Walk, still, ended, broken, walkThen, walk, Alike}
 use Rattle.cutter_laws.proofs.FixedWalk.{fixed-walk}

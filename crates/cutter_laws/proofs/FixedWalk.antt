@@ -7,7 +7,7 @@ use mathlib.Core.List.{List, [], _∷_, _++_, reverse, reverse-append, reverse-r
 use native.Mathlib.Omega.{arith}
 use lib.Dec.{ltb, eqb}
 use lib.ListN.{length, take, drop, length-append, length-reverse, take-append-drop}
-use borrow.Author.Tests.{lt-ltb, le-ltb, ltb-true, ltb-false, eqb-true, eqb-false, eq-eqb, ne-eqb}
+use borrow.Author.Tests.{lt-ltb, le-ltb, ltb-true, ltb-false, eqb-true, eqb-false, ne-eqb}
 use Rattle.format.specs.declared.SortOptions.{SortOptions}
 use Rattle.format.specs.declared.RowFault.the-variants.{Cut, Lead, NullRest, BoolByte, Unfolded}
 use Rattle.format.specs.declared.Spot.{Spot}
@@ -18,12 +18,12 @@ use Rattle.format.specs.Key.{unkey, allowed}
 use Rattle.format.specs.Fold.{folds, isFolded}
 use Rattle.format.specs.Field.{directed}
 use Rattle.format.specs.Read.{Parsed, got, fault, allZero, fromBad, nullLead, readNull, readKey, readBytes, readFixed}
-use Rattle.format.specs.Cutter.{Move, on, whole, bad, turn, led, leadMove, firstBad, nullMove, speltWith, lastMove, valueMove}
+use Rattle.format.specs.Cutter.{on, whole, bad, turn, firstBad, speltWith, lastMove}
 use Rattle.basics.proofs.Bytes.{bytes-append, bytes-reverse}
 use Rattle.basics.proofs.LowBytes.{lowBytes-low}
-use Rattle.laws.proofs.Directed.{directed-none, directed-cons, length-directed}
+use Rattle.laws.proofs.Directed.{directed-none, directed-cons}
 use Rattle.cutter_laws.proofs.RuleMoves.{turned}
-use Rattle.cutter_laws.proofs.Walk.{Walk, still, ended, broken, walkThen, walk, Alike}
+use Rattle.cutter_laws.proofs.Walk.{Walk, ended, walkThen, walk, Alike}
 
 -- two parts of a list are all of it
 parts-length : (m : ℕ) (s : List ℕ) → length (take m s) + length (drop m s) ≡ length s

@@ -2,7 +2,7 @@
 use Prim.Native.Nat.{ℕ, _-_, _/_, _≤_}
 use mathlib.Core.Path.{_≡_, refl, ap, _∙_}
 use mathlib.Core.Bool.{Bool, true, false, cond, _&&_}
-use mathlib.Core.List.{List, [], _++_}
+use mathlib.Core.List.{List, []}
 use native.Mathlib.Omega.{arith}
 use lib.Dec.{leb}
 use lib.ListN.{length, drop, take, getD, length-append, length-replicate, replicate}
@@ -19,11 +19,12 @@ use Rattle.format.specs.CutterRule.{keeps}
 use Rattle.format.specs.Cutter.{begun, startState, cutState}
 use Rattle.format.specs.CutterBytes.{numbersSize, stateBytes, stateSize, columnsOf, stateOf, same, lentKeeps, lentState, lentStartState, lentCutState}
 use Rattle.basics.proofs.Lists.{length-each}
-use Rattle.cutter_laws.proofs.Cutting.{Whole}
+use Rattle.cutter_laws.specs.Calls.{Whole}
 use Rattle.cutter_laws.proofs.RuleMoves.{and-true}
 use Rattle.cutter_laws.proofs.StartKept.{start-keeps}
 use Rattle.cutter_laws.proofs.StateBack.{state-back}
-use Rattle.cutter_laws.proofs.Streams.{Listed, cut-keeps, cut-listed, start-listed}
+use Rattle.cutter_laws.proofs.Streams.{Listed, cut-listed, start-listed}
+use Rattle.cutter_laws.proofs.Calls.{cut-keeps}
 
 -- these bytes are those of state s
 pub record Reads (bytes : List ℕ) (s : Cutter) : Type 0 where

@@ -4,11 +4,11 @@ use mathlib.Core.Path.{_≡_, refl, ap, ap₂, sym, subst, _∙_}
 use mathlib.Core.Bool.{Bool, true, false, cond}
 use mathlib.Core.Logic.{_⊎_, inl, inr}
 use mathlib.Core.List.{List, [], _∷_, _++_, append-assoc}
-use native.Mathlib.Nat.{add-zero, add-suc, suc-add, sub-zero}
+use native.Mathlib.Nat.{add-zero, sub-zero}
 use native.Mathlib.Numerals.{add-one}
 use native.Mathlib.Omega.{arith}
 use lib.Dec.{ltb}
-use lib.ListN.{length, getD, take, drop, length-append, length-drop}
+use lib.ListN.{length, getD, drop, length-append, length-drop}
 use lib.Seq.{drop-drop, getD-drop, getD-take}
 use borrow.Author.Tests.{lt-ltb, le-ltb}
 use Rattle.format.specs.declared.Column.{Column}
@@ -27,7 +27,7 @@ use Rattle.format.specs.Kinds.{Slot, columnShape}
 use Rattle.format.specs.Schemas.{noColumn, colsOf}
 use Rattle.format.specs.Read.{Parsed, got, fault, readField, fieldCheck, rowFault}
 use Rattle.format.specs.CutterRule.{columnIn}
-use Rattle.format.specs.Cutter.{refused, further, rowEnded, fieldEnded, fed, newEnd, endsIn, finishFault}
+use Rattle.format.specs.Cutter.{further, rowEnded, fed, endsIn, finishFault}
 use Rattle.basics.proofs.Bytes.{bytes-right}
 use Rattle.cutter_laws.proofs.Cutting.{fed-append, ends-append}
 use Rattle.cutter_laws.proofs.FieldFed.{Ended, Ready, Open, Broken, FieldFed, fieldIn, field-fed}

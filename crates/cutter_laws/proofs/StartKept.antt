@@ -25,7 +25,7 @@ use Rattle.format.specs.Cutter.{begun, startedWith, startState}
 use Rattle.basics.proofs.Lists.{Every}
 use Rattle.basics.proofs.Checks.{failIf-pass, enough, both-pass}
 use Rattle.laws.proofs.Columns.{Narrow, columns-narrow, columns-few, bytes-least}
-use Rattle.cutter_laws.proofs.Cutting.{Kept}
+use Rattle.cutter_laws.specs.Calls.{Kept}
 use Rattle.cutter_laws.proofs.RuleMoves.{and-true, true-and, or-true, true-within}
 
 -- ---- the columns of a list that passes: only floats fold

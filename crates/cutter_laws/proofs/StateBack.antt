@@ -1,5 +1,5 @@
 -- A row cutter's state that keeps the rule is read back from its bytes, whatever stands after them. Assumes nothing.
-use Prim.Native.Nat.{ℕ, zero, suc, _+_, _-_, _*_, _^_, _<_, _≤_}
+use Prim.Native.Nat.{ℕ, _+_, _-_, _*_, _^_, _<_, _≤_}
 use mathlib.Core.Path.{_≡_, refl, ap, ap₂, sym, subst, _∙_}
 use mathlib.Core.Bool.{Bool, true, false, cond, _&&_, _||_, false≢true}
 use mathlib.Core.List.{List, [], _∷_, _++_, append-assoc}
@@ -16,7 +16,6 @@ use Rattle.format.specs.declared.Schema.{Schema}
 use Rattle.format.specs.declared.Refusal.{Refusal}
 use Rattle.format.specs.declared.Check.{Check}
 use Rattle.format.specs.declared.Check.the-variants.{Pass, Refuse}
-use Rattle.format.specs.declared.Returned.{Returned}
 use Rattle.format.specs.declared.Spot.{Spot}
 use Rattle.format.specs.declared.Spot.the-variants.{Start, Nulls, Value, Block}
 use Rattle.format.specs.declared.Cutter.{Cutter}
@@ -33,7 +32,7 @@ use Rattle.format.specs.CutterRule.{within, before, columnsKept, spotKept, colu
 use Rattle.format.specs.Cutter.{begun}
 use Rattle.format.specs.CutterBytes.{checkNumbers, spotNumbers, stateNumbers, numbersSize, stateBytes, stateSize, spotOf, columnsOf, stateFrom, stateOf, same, lentKeeps, lentState}
 use Rattle.basics.proofs.Lists.{Every, every-at}
-use Rattle.cutter_laws.proofs.Cutting.{Whole}
+use Rattle.cutter_laws.specs.Calls.{Whole}
 use Rattle.cutter_laws.proofs.RuleMoves.{and-true, true-and, within-true, size-most}
 use Rattle.cutter_laws.proofs.RuleKept.{Stands, stands-of, many, rows-most}
 use Rattle.cutter_laws.proofs.Coding.{Small, numberList, length-eights, eights-back, length-codes, columns-back, Written, refusal-written}

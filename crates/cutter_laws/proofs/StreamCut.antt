@@ -1,25 +1,21 @@
 -- A stream: its ends cut it into exactly the rows that decode accepts, and what is left is refused as decode refuses it. Assumes nothing.
-use Prim.Native.Nat.{ℕ, zero, suc, _+_, _-_, _<_, _≤_}
+use Prim.Native.Nat.{ℕ, zero, suc, _+_, _<_, _≤_}
 use mathlib.Core.Path.{_≡_, refl, ap, ap₂, sym, subst, _∙_}
-use mathlib.Core.Bool.{Bool, true, false, cond}
 use mathlib.Core.Logic.{_⊎_, inl, inr}
 use mathlib.Core.List.{List, [], _∷_, _++_, append-assoc, append-nil}
 use native.Mathlib.Nat.{add-zero, zero-add}
 use native.Mathlib.Omega.{arith}
 use lib.Dec.{ltb}
-use lib.ListN.{length, getD, take, drop, length-append}
+use lib.ListN.{length, getD, drop, length-append}
 use lib.Seq.{take-append-seam, drop-at}
 use borrow.Author.Tests.{lt-ltb, le-ltb}
 use Rattle.format.specs.declared.Column.{Column}
 use Rattle.format.specs.declared.SortOptions.{SortOptions}
 use Rattle.format.specs.declared.RowFault.the-variants.{Cut, Extra}
-use Rattle.format.specs.declared.Refusal.{Refusal}
 use Rattle.format.specs.declared.Refusal.the-variants.{Row}
-use Rattle.format.specs.declared.Check.{Check}
 use Rattle.format.specs.declared.Check.the-variants.{Pass, Refuse}
-use Rattle.format.specs.declared.Spot.the-variants.{Start}
 use Rattle.format.specs.declared.Cutter.{Cutter}
-use Rattle.format.specs.Limits.{maxColumns, maxTotal}
+use Rattle.format.specs.Limits.{maxTotal}
 use Rattle.format.specs.Check.{failIf}
 use Rattle.format.specs.Lists.{Bytes, joined, endsFrom}
 use Rattle.format.specs.Schemas.{schemaOf, colsOf}
@@ -28,12 +24,12 @@ use Rattle.format.specs.Read.{Parsed, fault, readField, fieldCheck, rowFault, r
 use Rattle.format.specs.Entries.{cutRows}
 use Rattle.format.specs.Cutter.{fed, endsIn, begun, finishFault}
 use Rattle.basics.proofs.Bytes.{bytes-right, bytes-take}
-use Rattle.basics.proofs.Lists.{Every, endAt, length-ends, end-last}
+use Rattle.basics.proofs.Lists.{Every, length-ends, end-last}
 use Rattle.basics.proofs.Checks.{refuse-pass, both-pass, pass-both}
 use Rattle.laws.proofs.Cuts.{written-rows}
 use Rattle.cutter_laws.specs.Streams.{atRow, rowJudged, streamEnds, openRow, CutAsRead}
 use Rattle.cutter_laws.proofs.Cutting.{fed-append, ends-append}
-use Rattle.cutter_laws.proofs.RowFed.{Before, RowDone, Reads, Refuses, RowFed, row-from}
+use Rattle.cutter_laws.proofs.RowFed.{Before, RowDone, Refuses, RowFed, row-from}
 
 -- the bytes before others are bytes
 bytes-left : (x y : List ℕ) → Bytes (x ++ y) → Bytes x

@@ -1,15 +1,14 @@
--- What a state comes to: a stream past the limit; every state from a call keeps the rule, and holds its columns as a list has them. Assumes
+-- What a state comes to: a stream past the limit is 12; every state from a start or a call holds its columns as a list has them. Assumes
 -- nothing.
 use Prim.Native.Nat.{ℕ, suc, _+_, _<_, _≤_}
-use mathlib.Core.Path.{_≡_, refl, ap, ap₂, sym, subst, _∙_}
+use mathlib.Core.Path.{_≡_, refl, ap, ap₂, sym, _∙_}
 use mathlib.Core.Bool.{Bool, true, false, cond}
 use mathlib.Core.List.{List, [], _∷_, _++_, append-nil}
 use native.Mathlib.Nat.{add-zero}
 use native.Mathlib.Omega.{arith}
 use lib.Dec.{ltb}
-use lib.ListN.{length, take, drop, take-append-drop, length-drop}
-use lib.Seq.{length-take-le}
-use borrow.Author.Tests.{lt-ltb, le-ltb, ltb-true, ltb-false}
+use lib.ListN.{length}
+use borrow.Author.Tests.{ltb-true}
 use Rattle.format.specs.declared.Column.{Column}
 use Rattle.format.specs.declared.Refusal.{Refusal}
 use Rattle.format.specs.declared.Refusal.the-variants.{ManyBytes, Row}
@@ -18,14 +17,12 @@ use Rattle.format.specs.declared.Check.the-variants.{Pass, Refuse}
 use Rattle.format.specs.declared.Spot.the-variants.{Start}
 use Rattle.format.specs.declared.Cutter.{Cutter}
 use Rattle.format.specs.Limits.{maxColumns, maxTotal}
-use Rattle.format.specs.Lists.{Bytes}
 use Rattle.format.specs.Columns.{listFault, columns}
 use Rattle.format.specs.Schemas.{schemaOf}
-use Rattle.format.specs.Cutter.{Move, on, whole, bad, moveIn, moved, refused, further, rowEnded, fieldEnded, taken, unless, step, fed, endsIn, newEnd, begun, startedWith, startState, cutFault, cutState}
+use Rattle.format.specs.Cutter.{Move, on, whole, bad, moveIn, moved, refused, further, rowEnded, fieldEnded, taken, unless, step, fed, endsIn, newEnd, startedWith, startState, cutFault, cutState}
 use Rattle.basics.proofs.Checks.{refuse-pass}
 use Rattle.laws.proofs.Columns.{columns-few}
-use Rattle.cutter_laws.proofs.Cutting.{fed-append, ends-append, fed-refused, ends-refused, step-refused, step-full, Kept, fed-keeps}
-use Rattle.cutter_laws.proofs.RuleKept.{step-keeps}
+use Rattle.cutter_laws.proofs.Cutting.{fed-append, ends-append, fed-refused, ends-refused, step-full}
 use Rattle.cutter_laws.proofs.FieldFed.{no-end, step-room}
 
 -- ---- how a byte changes a state, where none refused it
@@ -91,15 +88,6 @@ module _ (s : Cutter) (xs ys : List ℕ) (full : s .bytes + length xs ≡ maxTot
   past-limit =
       let h = rest (t .refusal) refl ys more in
       (fed-append s xs ys ∙ h .0, ends-append s xs ys ∙ ap (λ (z : List ℕ). endsIn s xs ++ z) (h .1) ∙ append-nil (endsIn s xs))
-
--- ---- every state from a call keeps the rule
-pub cut-keeps : (s : Cutter) (piece : List ℕ) (room : ℕ) → Bytes piece → Kept s → Kept (cutState s piece room)
-unfolding cutState
-cut-keeps s piece room bs h = go (cutFault s (length piece) room)
-  where
-    go : (c : Check) → Kept (unless c s (fed s piece))
-    go Pass = fed-keeps step-keeps s piece bs h
-    go (Refuse r) = h
 
 -- ---- the array of columns is as a list has it, also after a start and a call
 pub record Listed (s : Cutter) : Type 0 where

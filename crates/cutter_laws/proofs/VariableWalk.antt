@@ -1,13 +1,13 @@
 -- A field of variable bytes, byte by byte, is read as the field reader reads it. Assumes nothing.
-use Prim.Native.Nat.{ℕ, zero, suc, _+_, _-_, _/_, _^_, _<_, _≤_}
+use Prim.Native.Nat.{ℕ, zero, suc, _+_, _-_, _^_, _≤_}
 use mathlib.Core.Path.{_≡_, refl, ap, ap₂, sym, subst, _∙_}
 use mathlib.Core.Bool.{Bool, true, false, cond, _||_}
-use mathlib.Core.Option.{none, some}
+use mathlib.Core.Option.{none}
 use mathlib.Core.List.{List, [], _∷_, _++_, append-assoc, append-nil}
 use native.Mathlib.Omega.{arith}
 use lib.Dec.{ltb, eqb}
 use lib.ListN.{length, take, drop, length-append, length-drop}
-use borrow.Author.Tests.{lt-ltb, le-ltb, le-leb, ltb-true, ltb-false, eqb-true, eqb-false}
+use borrow.Author.Tests.{le-leb, ltb-true, ltb-false}
 use Rattle.format.specs.declared.SortOptions.{SortOptions}
 use Rattle.format.specs.declared.RowFault.the-variants.{Cut, Lead, EndByte, Padding, TooLong}
 use Rattle.format.specs.declared.Spot.{Spot}
@@ -16,9 +16,9 @@ use Rattle.format.specs.Limits.{maxSlot}
 use Rattle.format.specs.Lists.{Bytes}
 use Rattle.format.specs.Kinds.{Slot, variable}
 use Rattle.format.specs.Field.{directed, blockSize}
-use Rattle.format.specs.Read.{Parsed, got, fault, after, allZero, fromBad, nullLead, readBlock, readBlocks, readValue, valueSlot, readVariable}
+use Rattle.format.specs.Read.{Parsed, got, fault, after, allZero, fromBad, nullLead, readBlock, readBlocks, valueSlot, readVariable}
 use Rattle.format.specs.CutterRule.{before}
-use Rattle.format.specs.Cutter.{Move, on, whole, bad, turn, lowest, endMove, blockMove}
+use Rattle.format.specs.Cutter.{on, whole, bad, turn, lowest, endMove}
 use Rattle.laws.proofs.Directed.{directed-none, directed-cons, directed-twice, length-directed}
 use Rattle.laws.proofs.Parsed.{or-false}
 use Rattle.laws.proofs.ReadBlocks.{cut}
