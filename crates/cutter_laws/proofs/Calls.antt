@@ -105,7 +105,8 @@ pipe-cut list cs e l = record {
   cut-as-read = stream-cut (columns list) (columns-few list e .0) (stream cs) (stream-bytes cs) l;
   finish =
       ap finishAnswer after
-      ∙ finish-kept (fed (begun (columns list)) (stream cs)) (ap keeps (sym (ap (λ (t : Cutter). fed t (stream cs)) begins)) ∙ fed-keeps (startState list) (stream cs) (stream-bytes cs) k .1);
+      ∙ finish-kept (fed (begun (columns list)) (stream cs))
+      (ap (λ (t : Cutter). keeps (fed t (stream cs))) (sym begins) ∙ fed-keeps (startState list) (stream cs) (stream-bytes cs) k .1);
 }
   where
     k : Kept (startState list)

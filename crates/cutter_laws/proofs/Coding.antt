@@ -47,7 +47,9 @@ all-long f w h (x ∷ xs) = (h x, all-long f w h xs)
 
 pub length-eights : (ns : List ℕ) → length (eightBytes ns) ≡ 8 * length ns
 length-eights ns =
-    length-joined 8 (map (lowBytes 8) ns) (all-long (lowBytes 8) 8 (length-lowBytes 8) ns) ∙ ap (λ (n : ℕ). n * 8) (length-map ns (lowBytes 8)) ∙ mul-comm (length ns) 8
+    length-joined 8 (map (lowBytes 8) ns) (all-long (lowBytes 8) 8 (length-lowBytes 8) ns)
+    ∙ ap (λ (n : ℕ). n * 8) (length-map ns (lowBytes 8))
+    ∙ mul-comm (length ns) 8
 
 pub eights-back : (ns : List ℕ) → Small ns → eights (eightBytes ns) ≡ ns
 eights-back ns h =
@@ -58,8 +60,9 @@ eights-back ns h =
     one : (i : ℕ) → i < length ns → low (take 8 (drop (8 * i) (eightBytes ns))) ≡ getD ns i 0
     one i l =
         ap₂ (λ (k : ℕ) (z : List ℕ). low (take 8 (drop k z))) (mul-comm 8 i) (sym (append-nil (eightBytes ns)))
-        ∙ ap low (long-at 8 (map (lowBytes 8) ns) [] i (lowBytes 8 0) (all-long (lowBytes 8) 8 (length-lowBytes 8) ns) (omega (arith, length-map ns (lowBytes 8))))
-        ∙ ap low (List·getD-map (lowBytes 8) ns i 0)
+        ∙ ap low
+        (long-at 8 (map (lowBytes 8) ns) [] i (lowBytes 8 0) (all-long (lowBytes 8) 8 (length-lowBytes 8) ns) (omega (arith, length-map ns (lowBytes 8)))
+        ∙ List·getD-map (lowBytes 8) ns i 0)
         ∙ low-lowBytes 8 (getD ns i 0) (every-at (λ n. n < 256 ^ 8) ns 0 i h l)
 
 -- ---- columns of four bytes
@@ -109,13 +112,17 @@ options-again o = go (o .descending) (o .«nulls_first») (o .required) (o .fold
     go false false false true = refl
     go false false false false = refl
 
--- no width is over two bytes
+-- a width that is not over two bytes is held in them
 held-small : (col : Column) → valueBytes (col .kind) < 65536 → heldWidth (col .kind) < 256 ^ 2
 held-small col l = go (eqb (kindNumber (col .kind)) 15)
   where
     go : (t : Bool) → cond t (valueBytes (col .kind)) 0 < 65536
     go true = l
     go false = omega arith
+
+-- no width of these is
+abbrev pub TwoBytes : List Column → Type 0
+TwoBytes cols = Every (λ (col : Column). valueBytes (col .kind) < 65536) cols
 
 -- the column of its four bytes
 column-back : (col : Column) → valueBytes (col .kind) < 65536 → columnOf (codeAt (code col) 0) ≡ col
@@ -138,7 +145,8 @@ module _ (cols : List Column) (t : List ℕ) where
       ∙ sym (getD-take 4 (drop (4 * i) (codes cols ++ t)) j 0 m)
       ∙ ap (λ (k : ℕ). getD (take 4 (drop k (codes cols ++ t))) j 0) (mul-comm 4 i)
       ∙ ap (λ (z : List ℕ). getD z j 0)
-      (long-at 4 (map code cols) t i (code noColumn) (all-long code 4 (λ col. refl) cols) (omega (arith, length-map cols code)) ∙ List·getD-map code cols i noColumn)
+      (long-at 4 (map code cols) t i (code noColumn) (all-long code 4 (λ col. refl) cols) (omega (arith, length-map cols code))
+      ∙ List·getD-map code cols i noColumn)
 
   code-at : (i : ℕ) → i < length cols → codeAt (codes cols ++ t) i ≡ codeAt (code (getD cols i noColumn)) 0
   code-at i l =
@@ -152,10 +160,10 @@ module _ (cols : List Column) (t : List ℕ) where
       c : List ℕ
       c = code (getD cols i noColumn)
 
-  pub columns-back : Every (λ (col : Column). valueBytes (col .kind) < 65536) cols → each 0 (length cols) (λ i. columnOf (codeAt (codes cols ++ t) i)) ≡ cols
+  pub columns-back : TwoBytes cols → each 0 (length cols) (λ i. columnOf (codeAt (codes cols ++ t) i)) ≡ cols
   columns-back h =
       each-is cols noColumn (length cols) (λ i. columnOf (codeAt (codes cols ++ t) i)) refl
-      (λ i l. ap columnOf (code-at i l) ∙ column-back (getD cols i noColumn) (every-at (λ (col : Column). valueBytes (col .kind) < 65536) cols noColumn i h l))
+      (λ i l. ap columnOf (code-at i l) ∙ column-back (getD cols i noColumn) (every-at (λ (c : Column). valueBytes (c .kind) < 65536) cols noColumn i h l))
 
 -- ---- the refusal that stands, by its four numbers
 

@@ -182,14 +182,16 @@ module _ (k : Fixed) (o : SortOptions) (end : ℕ) where
       → Alike end (walk (fixed k) o (Value (length p) (spelling k (o .fold) p)) at s) (valueFrom k o (suc m) p s)
   value-walk m at p [] w bp bs l e = rw (lt-ltb 0 (suc m) (omega arith)) (refl, refl)
   value-walk zero at p (b ∷ s) w bp bs l e =
-      rw (le-ltb (suc (length p)) (width k) (omega arith), le-ltb (suc (length s)) 1 (omega arith), directed-cons (o .descending) b [], directed-none (o .descending), spelt-next k o p b)
-      (value-last p at b s (λ next. walk (fixed k) o next (suc at) s) w bp (turned o b (bs .0)) l e)
+      rw (le-ltb (suc (length p)) (width k) (omega arith), le-ltb (suc (length s)) 1 (omega arith))
+      (rw (directed-cons (o .descending) b [], directed-none (o .descending), spelt-next k o p b)
+      (value-last p at b s (λ next. walk (fixed k) o next (suc at) s) w bp (turned o b (bs .0)) l e))
   value-walk (suc m) at p (b ∷ s) w bp bs l e =
       rw (lt-ltb (suc (length p)) (width k) (omega arith))
       (subst (λ (spot : Spot). Alike end (walk (fixed k) o spot (suc at) s) (valueFrom k o (suc (suc m)) p (b ∷ s)))
       (ap₂ Value (long ∙ omega arith) (sym (spelt-next k o p b)))
       (subst (Alike end (walk (fixed k) o (Value (length f) (spelling k (o .fold) f)) (suc at) s)) (value-next k o (suc m) p b s)
-      (value-walk m (suc at) f s (omega (arith, long)) (bytes-append p (turn o b ∷ []) bp (turned o b (bs .0), tt)) (bs .1) (omega (arith, long)) (omega arith))))
+      (value-walk m (suc at) f s (omega (arith, long)) (bytes-append p (turn o b ∷ []) bp (turned o b (bs .0), tt)) (bs .1) (omega (arith, long))
+      (omega arith))))
     where
       f : List ℕ
       f = p ++ turn o b ∷ []

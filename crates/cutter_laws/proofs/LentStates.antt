@@ -38,7 +38,8 @@ over-reads s old c k =
     record { keeps-rule = h .0; state = h .1 }
 
 -- after a start
-pub lent-start-reads : (list state lent : List ℕ) → answerRoom ≤ length lent → stateSize ≤ length state → Reads (lentStartState list state lent) (startState list)
+pub lent-start-reads : (list state lent : List ℕ) → answerRoom ≤ length lent → stateSize ≤ length state
+    → Reads (lentStartState list state lent) (startState list)
 unfolding lentStartState
 lent-start-reads list state lent a b =
     rw (le-ltb (length lent) answerRoom a, le-ltb (length state) stateSize b) (over-reads (startState list) state (start-listed list) (start-keeps list .1))
@@ -67,7 +68,11 @@ module _ (state : List ℕ) (h : lentKeeps state ≡ true) where
   -- no more columns than there may be
   read-listed : Listed read
   unfolding stateOf
-  read-listed = record { cols = columnsOf x count; few = omega (arith, length-each 0 (cond (leb count maxColumns) count 0) (λ i. columnOf (codeAt (drop numbersSize x) i)), most (leb count maxColumns) refl); schema = refl }
+  read-listed = record {
+    cols = columnsOf x count;
+    few = omega (arith, length-each 0 (cond (leb count maxColumns) count 0) (λ i. columnOf (codeAt (drop numbersSize x) i)), most (leb count maxColumns) refl);
+    schema = refl;
+  }
     where
       x : List ℕ
       x = take stateSize state

@@ -86,7 +86,8 @@ module _ {s₀ : Cutter} {piece : List ℕ} {i : ℕ} {s : Cutter} {found : List
   -- a byte that is refused
   refused-byte : i < length piece → (q : Refusal) → step s (getD piece i 0) ≡ refused q → (fed s₀ piece ≡ refused q) × (endsIn s₀ piece ≡ found)
   refused-byte l q a =
-      let v : Upto s₀ piece (i + 1) (refused q) (found ++ newEnd s (refused q)) = subst (λ (t : Cutter). Upto s₀ piece (i + 1) t (found ++ newEnd s t)) a (upto-byte l) in
+      let v : Upto s₀ piece (i + 1) (refused q) (found ++ newEnd s (refused q))
+      = subst (λ (t : Cutter). Upto s₀ piece (i + 1) t (found ++ newEnd s t)) a (upto-byte l) in
       let w = upto-refused v q refl in
       (w .0, w .1 ∙ ap (λ (x : List ℕ). found ++ x) (no-end s (refused q) (omega arith)) ∙ append-nil found)
 

@@ -29,12 +29,14 @@ use Rattle.cutter_laws.proofs.RuleMoves.{and-true, true-and, or-true, w
 
 -- ---- over columns
 
-over-next : (f : Shape → ℕ) (cols : List Column) (c : ℕ) → c < length cols → overAll f (take (suc c) cols) ≡ overAll f (take c cols) + f (columnShape (getD cols c noColumn))
+over-next : (f : Shape → ℕ) (cols : List Column) (c : ℕ) → c < length cols
+    → overAll f (take (suc c) cols) ≡ overAll f (take c cols) + f (columnShape (getD cols c noColumn))
 over-next f [] c l = absurd (omega arith)
 over-next f (col ∷ cols) zero l = let q : f (columnShape col) + 0 ≡ 0 + f (columnShape col) = omega arith in q
 over-next f (col ∷ cols) (suc c) l =
     let ih = over-next f cols c (omega arith) in
-    let q : f (columnShape col) + overAll f (take (suc c) cols) ≡ f (columnShape col) + overAll f (take c cols) + f (columnShape (getD cols c noColumn)) = omega (arith, ih) in
+    let q : f (columnShape col) + overAll f (take (suc c) cols) ≡ f (columnShape col) + overAll f (take c cols) + f (columnShape (getD cols c noColumn))
+    = omega (arith, ih) in
     q
 
 -- every field has a byte
@@ -114,7 +116,8 @@ module _ (s : Cutter) (w : Whole s) (t : Stands s) where
   over-here : (f : Shape → ℕ) → overAll f (take (suc (s .column)) cols) ≡ overAll f (take (s .column) cols) + f sh
   over-here f =
       over-next f cols (s .column) (omega (arith, many, t .column))
-      ∙ ap (λ (col : Column). overAll f (take (s .column) cols) + f (columnShape col)) (getD-take (s .schema .count) (s .schema .columns) (s .column) noColumn (t .column))
+      ∙ ap (λ (col : Column). overAll f (take (s .column) cols) + f (columnShape col))
+      (getD-take (s .schema .count) (s .schema .columns) (s .column) noColumn (t .column))
 
   -- no fewer bytes than rows
   pub rows-most : s .rows ≤ s .bytes - s .row
@@ -124,8 +127,8 @@ module _ (s : Cutter) (w : Whole s) (t : Stands s) where
       omega (arith, mul-one (s .rows), t .rows-low)
 
   -- a byte more of the same field
-  on-stands : (spot : Spot) → s .bytes < maxTotal → fieldSeen spot ≡ suc (fieldSeen (s .spot)) → spotKept sh (columnIn s .options .fold) (s .row + 1) spot ≡ true
-      → Stands (further s 1 (s .column) spot)
+  on-stands : (spot : Spot) → s .bytes < maxTotal → fieldSeen spot ≡ suc (fieldSeen (s .spot))
+      → spotKept sh (columnIn s .options .fold) (s .row + 1) spot ≡ true → Stands (further s 1 (s .column) spot)
   on-stands spot room seen kept = record {
     schema = t .schema;
     count = t .count;

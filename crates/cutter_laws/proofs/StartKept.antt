@@ -164,5 +164,7 @@ pub start-keeps : (list : List ℕ) → Kept (startState list)
 unfolding startState
 start-keeps list =
     started-keeps (listFault list) (columns list)
-    (λ e. let few = columns-few list e in begun-keeps (columns list) (few .0) (few .1) (columns-kept (columns list) (columns-narrow list e) (columns-fold list e)))
+    (λ e.
+    let few = columns-few list e in
+    begun-keeps (columns list) (few .0) (few .1) (columns-kept (columns list) (columns-narrow list e) (columns-fold list e)))
     (list-allows list)

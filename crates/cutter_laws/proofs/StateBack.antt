@@ -31,11 +31,12 @@ use Rattle.format.specs.Lent.{eights, eightBytes}
 use Rattle.format.specs.CutterRule.{within, before, columnsKept, spotKept, columnIn, numbersKept, atStart, emptied, keepsWith, keeps}
 use Rattle.format.specs.Cutter.{begun}
 use Rattle.format.specs.CutterBytes.{checkNumbers, spotNumbers, stateNumbers, numbersSize, stateBytes, stateSize, spotOf, columnsOf, stateFrom, stateOf, same, lentKeeps, lentState}
-use Rattle.basics.proofs.Lists.{Every, every-at}
+use Rattle.basics.proofs.Lists.{every-at}
+use Rattle.laws.proofs.Columns.{Narrow}
 use Rattle.cutter_laws.specs.Calls.{Whole}
 use Rattle.cutter_laws.proofs.RuleMoves.{and-true, true-and, within-true, size-most}
 use Rattle.cutter_laws.proofs.RuleKept.{Stands, stands-of, many, rows-most}
-use Rattle.cutter_laws.proofs.Coding.{Small, numberList, length-eights, eights-back, length-codes, columns-back, Written, refusal-written}
+use Rattle.cutter_laws.proofs.Coding.{Small, TwoBytes, numberList, length-eights, eights-back, length-codes, columns-back, Written, refusal-written}
 
 -- ---- eight bytes hold each number of a state that keeps the rule
 
@@ -109,24 +110,24 @@ spot-small variable fold row (Block k seen marks) f w l h =
     (omega arith, (omega arith, (omega (arith, size-most k), (omega arith, tt))))
 
 -- columns as narrow as the rule has them
-kept-narrow : (cols : List Column) → columnsKept cols ≡ true → Every (λ (col : Column). valueBytes (col .kind) ≤ maxWidth) cols
+kept-narrow : (cols : List Column) → columnsKept cols ≡ true → Narrow cols
 kept-narrow [] h = tt
 kept-narrow (col ∷ cols) h = let p = and-true h in (leb-true (valueBytes (col .kind)) maxWidth (and-true (p .0) .0), kept-narrow cols (p .1))
 
-two-bytes : (cols : List Column) → Every (λ (col : Column). valueBytes (col .kind) ≤ maxWidth) cols → Every (λ (col : Column). valueBytes (col .kind) < 65536) cols
+two-bytes : (cols : List Column) → Narrow cols → TwoBytes cols
 two-bytes [] h = tt
 two-bytes (col ∷ cols) h = (omega (arith, h .0), two-bytes cols (h .1))
 
 -- what is written of a state can be read back
 record Held (s : Cutter) : Type 0 where
   pub few : s .schema .count ≤ maxColumns
-  pub narrow : Every (λ (col : Column). valueBytes (col .kind) < 65536) (colsOf (s .schema))
+  pub narrow : TwoBytes (colsOf (s .schema))
   pub refusal : Written (s .refusal)
   pub small : Small (stateNumbers (checkNumbers (s .refusal)) s)
 
 -- by parts
-small-state : (s : Cutter) → Small (numberList (checkNumbers (s .refusal))) → Small (s .rows ∷ s .bytes ∷ s .row ∷ s .column ∷ []) → Small (spotNumbers (s .spot))
-    → s .schema .count < 256 ^ 8 → Small (stateNumbers (checkNumbers (s .refusal)) s)
+small-state : (s : Cutter) → Small (numberList (checkNumbers (s .refusal))) → Small (s .rows ∷ s .bytes ∷ s .row ∷ s .column ∷ [])
+    → Small (spotNumbers (s .spot)) → s .schema .count < 256 ^ 8 → Small (stateNumbers (checkNumbers (s .refusal)) s)
 small-state s a b c d =
     small-append (numberList (checkNumbers (s .refusal))) (counts ++ last) a
     (small-append counts last b (small-append (spotNumbers (s .spot)) (s .schema .count ∷ []) c (d, tt)))
@@ -149,7 +150,7 @@ standing-held s w e t = record {
     written : Written (s .refusal)
     written = subst Written (sym e) (record { back = refl; small = (omega arith, (omega arith, (omega arith, (omega arith, tt)))) })
 
-    narrow : Every (λ (col : Column). valueBytes (col .kind) ≤ maxWidth) (colsOf (s .schema))
+    narrow : Narrow (colsOf (s .schema))
     narrow = kept-narrow (colsOf (s .schema)) (and-true {s = leb (s .schema .count) maxColumns} {t = columnsKept (colsOf (s .schema))} (t .schema) .1)
 
     column-narrow : valueBytes (columnIn s .kind) ≤ maxWidth
@@ -183,9 +184,9 @@ at-start (Block k seen marks) h = absurd (false≢true h)
 refused-held : (s : Cutter) (r : Refusal) → s .refusal ≡ Refuse r → (emptied s && numbersKept (refusalNumbers r)) ≡ true → Held s
 refused-held s r e h = record {
   few = omega (arith, empty);
-  narrow = subst (λ (n : ℕ). Every (λ (col : Column). valueBytes (col .kind) < 65536) (take n (s .schema .columns))) (let z : 0 ≡ s .schema .count = omega (arith, empty) in z) tt;
+  narrow = subst (λ (n : ℕ). TwoBytes (take n (s .schema .columns))) {x = 0} {y = s .schema .count} (omega (arith, empty)) tt;
   refusal = written;
-  small = small-state s (written .small) (omega (arith, empty), (omega (arith, empty), (omega (arith, empty), (omega (arith, empty), tt)))) spot (omega (arith, empty));
+  small = small-state s (written .small) counts spot (omega (arith, empty));
 }
   where
     parts : (emptied s ≡ true) × (numbersKept (refusalNumbers r) ≡ true)
@@ -196,6 +197,9 @@ refused-held s r e h = record {
 
     empty : s .schema .count + s .rows + s .bytes + s .row + s .column ≡ 0
     empty = eqb-true (s .schema .count + s .rows + s .bytes + s .row + s .column) 0 (both-empty .0)
+
+    counts : Small (s .rows ∷ s .bytes ∷ s .row ∷ s .column ∷ [])
+    counts = (omega (arith, empty), (omega (arith, empty), (omega (arith, empty), (omega (arith, empty), tt))))
 
     written : Written (s .refusal)
     written = subst Written (sym e) (refusal-written r (parts .1))
@@ -213,8 +217,11 @@ held s w h = go (s .refusal) refl
 
 -- ---- read back
 
-spot-back : (spot : Spot) (count : ℕ) → spotOf (getD (spotNumbers spot ++ count ∷ []) 0 0) (getD (spotNumbers spot ++ count ∷ []) 1 0) (getD (spotNumbers spot ++ count ∷ []) 2 0)
-    (getD (spotNumbers spot ++ count ∷ []) 3 0) ≡ spot
+-- the spot of the numbers from number 8 on
+abbrev spotIn : List ℕ → Spot
+spotIn ns = spotOf (getD ns 0 0) (getD ns 1 0) (getD ns 2 0) (getD ns 3 0)
+
+spot-back : (spot : Spot) (count : ℕ) → spotIn (spotNumbers spot ++ count ∷ []) ≡ spot
 spot-back Start count = refl
 spot-back (Nulls seen known) count = refl
 spot-back (Value seen spelt) count = refl
@@ -280,8 +287,10 @@ module _ (cols : List Column) (s : Cutter) (canon : s .schema ≡ schemaOf cols)
   columns-again : columnsOf (stateBytes s) (getD ns 12 0) ≡ cols
   columns-again =
       ap (columnsOf (stateBytes s)) (count-back (s .spot) (s .schema .count))
-      ∙ ap (λ (t : Bool). each 0 (cond t (s .schema .count) 0) (λ i. columnOf (codeAt (drop numbersSize (stateBytes s)) i))) (le-leb (s .schema .count) maxColumns (h .few))
-      ∙ ap₂ (λ (n : ℕ) (z : List ℕ). each 0 n (λ i. columnOf (codeAt z i))) (sym counted) (ap (drop numbersSize) parted ∙ drop-at (eightBytes ns) coded numbersSize long)
+      ∙ ap (λ (t : Bool). each 0 (cond t (s .schema .count) 0) (λ i. columnOf (codeAt (drop numbersSize (stateBytes s)) i)))
+      (le-leb (s .schema .count) maxColumns (h .few))
+      ∙ ap₂ (λ (n : ℕ) (z : List ℕ). each 0 n (λ i. columnOf (codeAt z i))) (sym counted)
+      (ap (drop numbersSize) parted ∙ drop-at (eightBytes ns) coded numbersSize long)
       ∙ columns-back (colsOf (s .schema)) (replicate (4 * (maxColumns - s .schema .count)) 0) (h .narrow)
       ∙ in-use
 
@@ -294,11 +303,8 @@ module _ (cols : List Column) (s : Cutter) (canon : s .schema ≡ schemaOf cols)
       ∙ ap (λ (x : Spot). record { schema = s .schema; refusal = s .refusal; rows = s .rows; bytes = s .bytes; row = s .row; column = s .column; spot = x })
       (spot-back (s .spot) (s .schema .count))
     where
-      last : List ℕ
-      last = spotNumbers (s .spot) ++ s .schema .count ∷ []
-
       read : Spot
-      read = spotOf (getD last 0 0) (getD last 1 0) (getD last 2 0) (getD last 3 0)
+      read = spotIn (spotNumbers (s .spot) ++ s .schema .count ∷ [])
 
 -- bytes in front of others that are those of a state
 module _ (x t : List ℕ) (s : Cutter) (size : length x ≡ stateSize) (e : stateOf x ≡ s) (b : stateBytes s ≡ x) (k : keeps s ≡ true) where

@@ -76,7 +76,8 @@ module _ (o : SortOptions) (end : ℕ) where
           → Alike end
           (walkThen (cond t (cond u (bad TooLong at) (on (Block (suc k) 0 0)))
           (cond (ltb e 1 || ltb size e) (bad EndByte at)
-          (cond (allZero (drop e p)) (cond (ltb maxSlot (before k + e)) (bad TooLong at) whole) (bad Padding (at - size + e + lowest 32 (marksOf (drop e p))))))) s next)
+          (cond (allZero (drop e p)) (cond (ltb maxSlot (before k + e)) (bad TooLong at) whole)
+          (bad Padding (at - size + e + lowest 32 (marksOf (drop e p))))))) s next)
           (valueSlot d (cond t (cond u (fault TooLong (suc (length ds))) (after p more))
           (cond (ltb e 1 || ltb size e) (fault EndByte (suc (length ds)))
           (cond (allZero (drop e p)) (cond (ltb maxSlot (before k + e)) (fault TooLong (suc (length ds))) (got (take e p) ds))
@@ -157,5 +158,6 @@ variable-walk o at (b ∷ s) bs = rw (directed-cons (o .descending) b s) (go (nu
         (cond v (readBlocks blockSize maxSlot (length (directed d s)) 0 0 (directed d s)) (fault Lead (suc (length (directed d s))))))))
     go true u v = refl
     go false true v = sym (directed-twice d s (bs .1))
-    go false false true = block-walk o end s (bs .1) (length (directed d s)) 0 (suc at) [] (omega arith) (omega arith) (omega arith) (omega (arith, length-directed d s))
+    go false false true =
+        block-walk o end s (bs .1) (length (directed d s)) 0 (suc at) [] (omega arith) (omega arith) (omega arith) (omega (arith, length-directed d s))
     go false false false = (refl, omega (arith, length-directed d s), refl)
