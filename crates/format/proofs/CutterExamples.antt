@@ -54,6 +54,21 @@ pub cut-refuses : (numbersOf (cutAnswer (startState list) stream 14) ≡ three 1
 unfolding startAnswer startState cutAnswer cutState cutEnds finishAnswer keeps listFault columns
 cut-refuses = (refl, refl, refl, refl, refl, refl, refl)
 
+-- 18 shows at the last byte of the rest, 19 at a bool's only byte, 28 at a float's last, each with the place of the bad byte; 20 at the end byte
+pub late-faults : (numbersOf (cutAnswer (startState (3 ∷ 2 ∷ [])) (0 ∷ 7 ∷ []) 2) ≡ three 0 0 0)
+    × (numbersOf (cutAnswer (startState (3 ∷ 2 ∷ [])) (0 ∷ 7 ∷ 0 ∷ []) 3) ≡ four 18 0 0 1)
+    × (numbersOf (cutAnswer (startState (1 ∷ 2 ∷ [])) (1 ∷ 2 ∷ []) 2) ≡ four 19 0 0 1)
+    × (numbersOf (cutAnswer (startState (10 ∷ 10 ∷ [])) (1 ∷ 254 ∷ []) 2) ≡ three 0 0 0)
+    × (numbersOf (cutAnswer (startState (10 ∷ 10 ∷ [])) (1 ∷ 254 ∷ 1 ∷ []) 3) ≡ four 28 0 0 1)
+    × (numbersOf (cutAnswer first (replicate 6 0 ++ 9 ∷ []) 7) ≡ four 20 0 1 11)
+unfolding startState cutAnswer cutState keeps listFault columns
+late-faults = (refl, refl, refl, refl, refl, refl)
+
+-- one call or two: the state of a refused stream is the same
+pub refused-alike : cutState (startState list) (0 ∷ 7 ∷ 9 ∷ []) 3 ≡ cutState (cutState (startState list) (0 ∷ 7 ∷ []) 2) (9 ∷ []) 1
+unfolding startState cutState keeps listFault columns
+refused-alike = refl
+
 -- ---- a state of one i8 column, after so many rows and bytes
 abbrev after : ℕ → ℕ → ℕ → Spot → Cutter
 after rows bytes row spot = record { schema = schemaOf (columns (2 ∷ 2 ∷ [])); refusal = Pass; rows = rows; bytes = bytes; row = row; column = 0; spot = spot }
