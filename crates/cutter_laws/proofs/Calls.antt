@@ -1,12 +1,14 @@
 -- Calls on states that keep the rule: a run of them, each list long enough, is one call with all the bytes, so that any two runs with one
 -- stream leave one state and write the same ends; and a run from a start cuts its stream as decode reads it. Assumes nothing.
 use Prim.Native.Nat.{ℕ, _≤_}
-use mathlib.Core.Path.{_≡_, refl, ap, sym, _∙_}
+use mathlib.Core.Path.{_≡_, refl, ap, ap₂, sym, _∙_}
 use mathlib.Core.Bool.{Bool, true, not}
 use mathlib.Core.List.{List, [], _∷_, _++_}
 use lib.ListN.{length}
 use borrow.Author.Tests.{le-ltb}
+use Rattle.format.specs.declared.Refusal.{Refusal}
 use Rattle.format.specs.declared.Refusal.the-variants.{BrokenState}
+use Rattle.format.specs.declared.Answer.the-variants.{Refused}
 use Rattle.format.specs.declared.Check.{Check}
 use Rattle.format.specs.declared.Check.the-variants.{Pass, Refuse}
 use Rattle.format.specs.declared.Cutter.{Cutter}
@@ -16,7 +18,7 @@ use Rattle.format.specs.Lists.{Bytes, over}
 use Rattle.format.specs.Columns.{listFault, columns}
 use Rattle.format.specs.Entries.{answer, written}
 use Rattle.format.specs.CutterRule.{keeps}
-use Rattle.format.specs.Cutter.{unless, fed, endsIn, begun, startedWith, startState, cutFault, cutState, cutEnds, finishFault, finishAnswer}
+use Rattle.format.specs.Cutter.{unless, fed, endsIn, begun, startedWith, startState, cutFault, cutAnswer, cutState, cutEnds, finishFault, finishAnswer}
 use Rattle.basics.proofs.Bytes.{bytes-append}
 use Rattle.laws.proofs.Columns.{columns-few}
 use Rattle.cutter_laws.specs.Calls.{Kept, Lending, stream, calls, callsEnds}
@@ -57,6 +59,25 @@ module _ (s : Cutter) (h : keeps s ≡ true) where
   pub finish-kept : finishAnswer s ≡ answer (finishFault s) (s .rows) 0
   unfolding finishAnswer
   finish-kept = ap (λ (t : Bool). answer (failIf (not t) BrokenState (finishFault s)) (s .rows) 0) h
+
+-- what a call comes to: refused before the piece is read, nothing changes; and else what its bytes leave
+module _ (s : Cutter) (piece ends : List ℕ) where
+  pub cut-refused : (r : Refusal) → cutFault s (length piece) (length ends) ≡ Refuse r
+      → (cutAnswer s piece (length ends) ≡ Refused r) × (cutState s piece (length ends) ≡ s) × (cutEnds s piece ends ≡ ends)
+  unfolding cutAnswer cutState cutEnds
+  cut-refused r e = (rw e, rw e, rw e)
+
+  pub cut-passed : (s′ : Cutter) (found : List ℕ) → cutFault s (length piece) (length ends) ≡ Pass → fed s piece ≡ s′ → endsIn s piece ≡ found
+      → (cutAnswer s piece (length ends) ≡ answer (s′ .refusal) (length found) 0)
+      × (cutState s piece (length ends) ≡ s′)
+      × (cutEnds s piece ends ≡ over found ends)
+  unfolding cutAnswer cutState cutEnds
+  cut-passed s′ found e a b = (
+    ap (λ (c : Check). answer (both c (fed s piece .refusal)) (length (endsIn s piece)) 0) e
+        ∙ ap₂ (λ (t : Cutter) (z : List ℕ). answer (t .refusal) (length z) 0) a b,
+    ap (λ (c : Check). unless c s (fed s piece)) e ∙ a,
+    ap (λ (c : Check). written c (endsIn s piece) ends) e ∙ ap (λ (z : List ℕ). over z ends) b,
+  )
 
 -- every state from a call keeps the rule
 pub cut-keeps : (s : Cutter) (piece : List ℕ) (room : ℕ) → Bytes piece → Kept s → Kept (cutState s piece room)

@@ -8,7 +8,7 @@ use mathlib.Core.List.{List, [], _∷_, _++_, append-nil}
 use native.Mathlib.Omega.{arith}
 use lib.Dec.{ltb}
 use lib.ListN.{length, getD, take, drop, length-append, length-take, take-append-drop}
-use lib.Seq.{drop-cons, take-add, take-all, take-take, take-at}
+use lib.Seq.{drop-cons, take-add, take-all, take-take, take-at, length-take-le}
 use borrow.Author.Tests.{lt-ltb, le-ltb}
 use Rattle.format.specs.declared.RowFault.{RowFault}
 use Rattle.format.specs.declared.RowFault.the-variants.{Cut}
@@ -36,6 +36,24 @@ new-end s n = go (ltb (suc (s .column)) (s .schema .count))
     go true = rw (le-ltb (s .rows) (s .rows) (omega arith))
     go false = rw (lt-ltb (s .rows) (suc (s .rows)) (omega arith))
 
+-- after a field that is whole the next begins
+pub ended-ready : (s : Cutter) (n : ℕ) → s .refusal ≡ Pass → Ready (fieldEnded s n)
+ended-ready s n e = go (ltb (suc (s .column)) (s .schema .count))
+  where
+    go : (t : Bool) → Ready (cond t (further s n (suc (s .column)) Start) (rowEnded s n))
+    go true = record { standing = e; start = refl }
+    go false = record { standing = e; start = refl }
+
+-- no byte completes more than one row
+pub ends-few : (s : Cutter) (xs : List ℕ) → length (endsIn s xs) ≤ length xs
+ends-few s [] = omega arith
+ends-few s (b ∷ xs) =
+    omega (arith, length-append (newEnd s (step s b)) (endsIn (step s b) xs), one (ltb (s .rows) (step s b .rows)), ends-few (step s b) xs)
+  where
+    one : (t : Bool) → length (cond t (step s b .bytes ∷ []) []) ≤ 1
+    one true = omega arith
+    one false = omega arith
+
 -- ---- up to byte i of a piece the state is s, and these ends were found
 pub record Upto (s₀ : Cutter) (piece : List ℕ) (i : ℕ) (s : Cutter) (found : List ℕ) : Type 0 where
   pub state : fed s₀ (take i piece) ≡ s
@@ -57,6 +75,10 @@ module _ {s₀ : Cutter} {piece : List ℕ} {i : ℕ} {s : Cutter} {found : List
     where
       more : List ℕ
       more = take n (drop i piece)
+
+  -- no more ends than bytes
+  pub upto-few : i ≤ length piece → length found ≤ i
+  upto-few l = omega (arith, ap length (u .ends), ends-few s₀ (take i piece), length-take-le i piece l)
 
   -- all bytes
   pub upto-end : length piece ≤ i → (fed s₀ piece ≡ s) × (endsIn s₀ piece ≡ found)
