@@ -15,12 +15,12 @@ use Rattle.format.specs.declared.Cutter.{Cutter}
 use Rattle.format.specs.Limits.{maxTotal}
 use Rattle.format.specs.Check.{both, failIf}
 use Rattle.format.specs.Lists.{Bytes, over}
-use Rattle.format.specs.Columns.{listFault, columns}
+use Rattle.format.specs.Described.{ColumnList, listFault, columns}
 use Rattle.format.specs.Entries.{answer, written}
 use Rattle.format.specs.CutterRule.{keeps}
 use Rattle.format.specs.Cutter.{unless, fed, endsIn, begun, startedWith, startState, cutFault, cutAnswer, cutState, cutEnds, finishFault, finishAnswer}
 use Rattle.basics.proofs.Bytes.{bytes-append}
-use Rattle.laws.proofs.Columns.{columns-few}
+use Rattle.laws.proofs.Described.{columns-few}
 use Rattle.cutter_laws.specs.Calls.{Kept, Lending, stream, calls, callsEnds}
 use Rattle.cutter_laws.specs.Streams.{streamEnds, CutAsRead}
 use Rattle.cutter_laws.proofs.Cutting.{fed-append, ends-append, fed-refused, ends-refused}
@@ -113,13 +113,13 @@ stream-bytes [] = tt
 stream-bytes (c ∷ cs) = bytes-append (c .piece) (stream cs) (c .bytes) (stream-bytes cs)
 
 -- a run of calls from a start writes the ends of its stream, which cut it as decode reads it, and the finish says what is left
-pub record PipeCut (list : List ℕ) (cs : List Lending) : Type 0 where
+pub record PipeCut (list : ColumnList) (cs : List Lending) : Type 0 where
   pub ends : callsEnds (startState list) cs ≡ streamEnds (columns list) (stream cs)
   pub cut-as-read : CutAsRead (columns list) (stream cs)
   pub finish : finishAnswer (calls (startState list) cs)
       ≡ answer (finishFault (fed (begun (columns list)) (stream cs))) (fed (begun (columns list)) (stream cs) .rows) 0
 
-pub pipe-cut : (list : List ℕ) (cs : List Lending) → listFault list ≡ Pass → length (stream cs) ≤ maxTotal → PipeCut list cs
+pub pipe-cut : (list : ColumnList) (cs : List Lending) → listFault list ≡ Pass → length (stream cs) ≤ maxTotal → PipeCut list cs
 unfolding startState
 pipe-cut list cs e l = record {
   ends = c .1 ∙ ap (λ (t : Cutter). endsIn t (stream cs)) begins;

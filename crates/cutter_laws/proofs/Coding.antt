@@ -10,26 +10,23 @@ use lib.Dec.{ltb, leb, eqb, lit<}
 use lib.ListN.{length, getD, take, drop, length-map, List·getD-map}
 use lib.Seq.{getD-drop, getD-take}
 use borrow.Author.Tests.{ltb-true, leb-true, eqb-true}
-use Rattle.format.specs.declared.Kind.{Kind}
-use Rattle.format.specs.declared.Kind.the-variants.{Bool as KindBool, I8, I16, I32, I64, U8, U16, U32, U64, F16, F32, F64, DayTime, MonthDayNano, FixedBinary, Variable, I128, I256}
-use Rattle.format.specs.declared.SortOptions.{SortOptions}
 use Rattle.format.specs.declared.Column.{Column}
 use Rattle.format.specs.declared.RowFault.the-variants.{Cut, Lead, NullRest, BoolByte, EndByte, Padding, Extra, TooLong, Unfolded}
 use Rattle.format.specs.declared.Refusal.{Refusal}
-use Rattle.format.specs.declared.Refusal.the-variants.{ListCut, UnknownKind, OptionBits, Width, ManyColumns, ManyRows, ColumnCut, SpareBit, Ends, LongSlot, BytesAfter, ManyBytes, RowRoom, OffsetRoom, Offsets, Row, SheetRoom, Input, OutOfOrder, Missing, BrokenState}
+use Rattle.format.specs.declared.Refusal.the-variants.{ListCut, UnknownKind, OptionBits, Width, ManyColumns, ManyRows, ColumnCut, SpareBit, Ends, LongSlot, BytesAfter, ManyBytes, RowRoom, OffsetRoom, Offsets, Row, SheetRoom, Input, OutOfOrder, Missing, ColumnRoom, BrokenState}
 use Rattle.format.specs.declared.Check.{Check}
 use Rattle.format.specs.declared.Check.the-variants.{Refuse}
 use Rattle.format.specs.declared.Returned.{Returned}
 use Rattle.format.specs.Limits.{maxColumns, maxTotal}
 use Rattle.format.specs.Lists.{each, low, lowBytes}
 use Rattle.format.specs.Kinds.{valueBytes}
-use Rattle.format.specs.Columns.{kindOf, optionsOf}
-use Rattle.format.specs.Coded.{kindNumber, optionsNumber, heldWidth, code, codes, codeAt, columnOf}
+use Rattle.format.specs.Described.{kindNumber, optionsNumber, heldWidth, code, codes, codeAt, columnOf}
 use Rattle.format.specs.Schemas.{noColumn}
 use Rattle.format.specs.Numbers.{refusalNumbers}
 use Rattle.format.specs.Lent.{eights, eightBytes}
 use Rattle.format.specs.CutterRule.{numbersKept}
 use Rattle.format.specs.CutterBytes.{checkNumbers, checkOf}
+use Rattle.laws.proofs.Described.{column-again}
 use Rattle.basics.proofs.LowBytes.{length-lowBytes, low-lowBytes}
 use Rattle.basics.proofs.Lists.{Every, every-at, each-is, length-joined, long-at}
 use Rattle.cutter_laws.proofs.RuleMoves.{and-true}
@@ -71,47 +68,6 @@ pub length-codes : (cols : List Column) → length (codes cols) ≡ 4 * length c
 length-codes cols =
     length-joined 4 (map code cols) (all-long code 4 (λ col. refl) cols) ∙ ap (λ (n : ℕ). n * 4) (length-map cols code) ∙ mul-comm (length cols) 4
 
-kind-again : (k : Kind) → kindOf (kindNumber k) (heldWidth k) ≡ k
-kind-again KindBool = refl
-kind-again I8 = refl
-kind-again I16 = refl
-kind-again I32 = refl
-kind-again I64 = refl
-kind-again U8 = refl
-kind-again U16 = refl
-kind-again U32 = refl
-kind-again U64 = refl
-kind-again F16 = refl
-kind-again F32 = refl
-kind-again F64 = refl
-kind-again DayTime = refl
-kind-again MonthDayNano = refl
-kind-again (FixedBinary w) = refl
-kind-again Variable = refl
-kind-again I128 = refl
-kind-again I256 = refl
-
-options-again : (o : SortOptions) → optionsOf (optionsNumber o) ≡ o
-options-again o = go (o .descending) (o .«nulls_first») (o .required) (o .fold)
-  where
-    go : (d n r f : Bool) → optionsOf (cond d 1 0 + cond n 2 0 + cond r 4 0 + cond f 8 0) ≡ record { descending = d; «nulls_first» = n; required = r; fold = f }
-    go true true true true = refl
-    go true true true false = refl
-    go true true false true = refl
-    go true true false false = refl
-    go true false true true = refl
-    go true false true false = refl
-    go true false false true = refl
-    go true false false false = refl
-    go false true true true = refl
-    go false true true false = refl
-    go false true false true = refl
-    go false true false false = refl
-    go false false true true = refl
-    go false false true false = refl
-    go false false false true = refl
-    go false false false false = refl
-
 -- a width that is not over two bytes is held in them
 held-small : (col : Column) → valueBytes (col .kind) < 65536 → heldWidth (col .kind) < 256 ^ 2
 held-small col l = go (eqb (kindNumber (col .kind)) 15)
@@ -127,14 +83,11 @@ TwoBytes cols = Every (λ (col : Column). valueBytes (col .kind) < 65536) cols
 -- the column of its four bytes
 column-back : (col : Column) → valueBytes (col .kind) < 65536 → columnOf (codeAt (code col) 0) ≡ col
 column-back col l =
-    ap₂ (λ (k : Kind) (o : SortOptions). record { kind = k; options = o })
-    (ap (kindOf (kindNumber (col .kind))) (two ∙ low-lowBytes 2 (heldWidth (col .kind)) (held-small col l)) ∙ kind-again (col .kind))
-    (options-again (col .options))
+    ap (λ (w : ℕ). columnOf (record { kind = kindNumber (col .kind); options = optionsNumber (col .options); width = w }))
+    (two ∙ low-lowBytes 2 (heldWidth (col .kind)) (held-small col l))
+    ∙ column-again col
   where
-    w : ℕ
-    w = heldWidth (col .kind)
-
-    two : getD (code col) 2 0 + 256 * getD (code col) 3 0 ≡ low (lowBytes 2 w)
+    two : getD (code col) 2 0 + 256 * getD (code col) 3 0 ≡ low (lowBytes 2 (heldWidth (col .kind)))
     two = omega arith
 
 module _ (cols : List Column) (t : List ℕ) where
@@ -228,4 +181,5 @@ refusal-written (SheetRoom bytes) h = absurd (false≢true h)
 refusal-written Input h = absurd (false≢true h)
 refusal-written (OutOfOrder p r) h = absurd (false≢true h)
 refusal-written (Missing c r) h = absurd (false≢true h)
+refusal-written (ColumnRoom count) h = absurd (false≢true h)
 refusal-written BrokenState h = absurd (false≢true h)

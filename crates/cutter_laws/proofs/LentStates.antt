@@ -13,7 +13,7 @@ use Rattle.format.specs.declared.Cutter.{Cutter}
 use Rattle.format.specs.Limits.{maxColumns}
 use Rattle.format.specs.Lists.{Bytes, over}
 use Rattle.format.specs.Schemas.{noColumn}
-use Rattle.format.specs.Coded.{codeAt, columnOf}
+use Rattle.format.specs.Described.{ColumnList, codeAt, columnOf}
 use Rattle.format.specs.Lent.{eights, answerRoom}
 use Rattle.format.specs.CutterRule.{keeps}
 use Rattle.format.specs.Cutter.{begun, startState, cutState}
@@ -38,7 +38,7 @@ over-reads s old c k =
     record { keeps-rule = h .0; state = h .1 }
 
 -- after a start
-pub lent-start-reads : (list state lent : List ℕ) → answerRoom ≤ length lent → stateSize ≤ length state
+pub lent-start-reads : (list : ColumnList) (state lent : List ℕ) → answerRoom ≤ length lent → stateSize ≤ length state
     → Reads (lentStartState list state lent) (startState list)
 unfolding lentStartState
 lent-start-reads list state lent a b =

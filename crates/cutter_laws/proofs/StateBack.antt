@@ -25,7 +25,7 @@ use Rattle.format.specs.Kinds.{Shape, fixed, variable, shape, shapeBytes, width
 use Rattle.format.specs.Fold.{folds}
 use Rattle.format.specs.Field.{blockSize}
 use Rattle.format.specs.Schemas.{noColumn, schemaOf, colsOf}
-use Rattle.format.specs.Coded.{codes, codeAt, columnOf}
+use Rattle.format.specs.Described.{codes, codeAt, columnOf}
 use Rattle.format.specs.Numbers.{refusalNumbers}
 use Rattle.format.specs.Lent.{eights, eightBytes}
 use Rattle.format.specs.CutterRule.{within, before, columnsKept, spotKept, columnIn, numbersKept, atStart, emptied, keepsWith, keeps}

@@ -17,11 +17,11 @@ use Rattle.format.specs.declared.Check.the-variants.{Pass, Refuse}
 use Rattle.format.specs.declared.Spot.the-variants.{Start}
 use Rattle.format.specs.declared.Cutter.{Cutter}
 use Rattle.format.specs.Limits.{maxColumns, maxTotal}
-use Rattle.format.specs.Columns.{listFault, columns}
+use Rattle.format.specs.Described.{ColumnList, listFault, columns}
 use Rattle.format.specs.Schemas.{schemaOf}
 use Rattle.format.specs.Cutter.{Move, on, whole, bad, moveIn, moved, refused, further, rowEnded, fieldEnded, taken, unless, step, fed, endsIn, newEnd, startedWith, startState, cutFault, cutState}
 use Rattle.basics.proofs.Checks.{refuse-pass}
-use Rattle.laws.proofs.Columns.{columns-few}
+use Rattle.laws.proofs.Described.{columns-few}
 use Rattle.cutter_laws.proofs.Cutting.{fed-append, ends-append, fed-refused, ends-refused, step-full}
 use Rattle.cutter_laws.proofs.FieldFed.{no-end, step-room}
 
@@ -127,7 +127,7 @@ cut-listed s piece room h = go (cutFault s (length piece) room)
     go Pass = fed-listed s piece h
     go (Refuse r) = h
 
-pub start-listed : (list : List ℕ) → Listed (startState list)
+pub start-listed : (list : ColumnList) → Listed (startState list)
 unfolding startState
 start-listed list = go (listFault list) refl
   where

@@ -5,10 +5,11 @@ use mathlib.Core.Path.{_≡_}
 use mathlib.Core.List.{List}
 use Rattle.format.specs.declared.Answer.{Answer}
 use Rattle.format.specs.declared.Cutter.{Cutter}
+use Rattle.format.specs.Described.{ColumnList}
 use Rattle.format.specs.Promises.{Started, PieceCut, Finished, LentStarted, LentPieceCut, LentFinished}
 use Rattle.laws.proofs.Numbers.{numbers-injective}
 
-pub start-unique : {list : List ℕ} {r r′ : Answer} {s s′ : Cutter} → Started list r s → Started list r′ s′ → (r ≡ r′) × (s ≡ s′)
+pub start-unique : {list : ColumnList} {r r′ : Answer} {s s′ : Cutter} → Started list r s → Started list r′ s′ → (r ≡ r′) × (s ≡ s′)
 start-unique {list} {r} {r′} g h = (numbers-injective r r′ (cc), cc)
 
 pub cut-unique : {s : Cutter} {piece ends : List ℕ} {r r′ : Answer} {s₁ s₂ : Cutter} {ends₁ ends₂ : List ℕ}
@@ -19,7 +20,7 @@ pub finish-unique : {s : Cutter} {r r′ : Answer} → Finished s r → Finished
 finish-unique {s} {r} {r′} g h = numbers-injective r r′ (cc)
 
 -- ---- the C entries
-pub lent-start-unique : {list state lent state₁ state₂ lent₁ lent₂ : List ℕ} → LentStarted list state lent state₁ lent₁
+pub lent-start-unique : {list : ColumnList} {state lent state₁ state₂ lent₁ lent₂ : List ℕ} → LentStarted list state lent state₁ lent₁
     → LentStarted list state lent state₂ lent₂ → (lent₁ ≡ lent₂) × (state₁ ≡ state₂)
 lent-start-unique g h = (cc, cc)
 
