@@ -160,7 +160,8 @@ descriptions-allow-from : (room i : ℕ) (ds : List Description) → i + room �
 descriptions-allow-from room i [] l = refl
 descriptions-allow-from zero i (d ∷ ds) l = many-columns i (omega arith)
 descriptions-allow-from (suc room) i (d ∷ ds) l =
-    allows-both (heldFault i d) _ (numbers-allow i (d .kind) false (d .options) (d .width) (omega arith)) (descriptions-allow-from room (suc i) ds (omega arith))
+    allows-both (heldFault i d) _ (numbers-allow i (d .kind) false (d .options) (d .width) (omega arith))
+    (descriptions-allow-from room (suc i) ds (omega arith))
 
 descriptions-allow : (ds : List Description) → allows (descriptionsFault ds) ≡ true
 unfolding descriptionsFault

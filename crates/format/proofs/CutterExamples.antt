@@ -72,7 +72,15 @@ refused-alike = refl
 
 -- ---- a state of one i8 column, after so many rows and bytes
 abbrev after : ℕ → ℕ → ℕ → Spot → Cutter
-after rows bytes row spot = record { schema = schemaOf (spelledColumns (2 ∷ 2 ∷ [])); refusal = Pass; rows = rows; bytes = bytes; row = row; column = 0; spot = spot }
+after rows bytes row spot = record {
+  schema = schemaOf (spelledColumns (2 ∷ 2 ∷ []));
+  refusal = Pass;
+  rows = rows;
+  bytes = bytes;
+  row = row;
+  column = 0;
+  spot = spot;
+}
 
 -- 12 at the 16,777,217th byte, before a fault there, with the end found before it
 pub twelve : (numbersOf (cutAnswer (after 8388607 16777214 0 Start) (1 ∷ 5 ∷ 9 ∷ []) 3) ≡ three 12 16777217 8388608)
