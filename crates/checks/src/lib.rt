@@ -1,10 +1,10 @@
-// Checks as definitions have them: the first reason of two, 12, the answer; and what measure, encode and decode begin with: the list,
-// then the row count.
+// Checks as definitions have them: the first reason of two, 12, the answer; and what follows the list: the
+// row count in measure, encode and decode, the room for its columns in read_list.
 ghost use mathlib.Core.Path.{_≡_};
 ghost use Rattle.format.specs.Check.{both as both·};
-ghost use Rattle.format.specs.Entries.{answer as answer·, totalFault};
+ghost use Rattle.format.specs.Entries.{answer as answer·, totalFault, readListCheck};
 ghost use Rattle.list_reader.specs.Listing.{OfEach};
-ghost use Rattle.checks.specs.Begun.{Begun};
+ghost use Rattle.checks.specs.Begun.{Begun, OfSpelled};
 use format::Answer;
 use format::Check;
 use format::Refusal;
@@ -56,4 +56,20 @@ pub fn begin(listed: Listed, n: u64) -> Listed
         };
     }
     listed
+}
+
+// The list, then 29.
+pub fn column_room(listed: Listed, room: usize) -> Check
+    ensures { λ r. ⌜ OfSpelled listed (λ list. r ≡ readListCheck list room) ⌝ }
+{
+    let check = listed.check;
+    if let Check::Refuse(_) = check {
+        return check;
+    }
+    let schema = listed.schema;
+    let count = schema.count;
+    if room < count {
+        return Check::Refuse(Refusal::ColumnRoom(count));
+    }
+    Check::Pass
 }

@@ -5,3 +5,4 @@ pub mod ListTurns
 pub mod Judged
 pub mod CodeTurns
 pub mod CodesPut
+pub mod ColumnTurns

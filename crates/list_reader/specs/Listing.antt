@@ -1,10 +1,13 @@
 -- What reading a column list says.
-use Prim.Native.Nat.{_≤_}
+use Prim.Native.Nat.{ℕ, _-_, _≤_}
 use mathlib.Core.Path.{_≡_}
-use lib.ListN.{length}
+use mathlib.Core.List.{List, _++_}
+use lib.ListN.{length, take, replicate}
 use Rattle.format.specs.declared.Check.the-variants.{Pass}
+use Rattle.format.specs.declared.Column.{Column}
 use Rattle.format.specs.declared.Schema.{Schema}
-use Rattle.format.specs.Schemas.{schemaOf, colsOf, Limited}
+use Rattle.format.specs.Limits.{maxColumns}
+use Rattle.format.specs.Schemas.{noColumn, schemaOf, colsOf, Limited}
 use Rattle.format.specs.Described.{ColumnList, listFault, columns}
 use Rattle.list_reader.specs.declared.Listed.{Listed}
 
@@ -28,3 +31,18 @@ pub record Sound (list : ColumnList) (schema : Schema) : Type 0 where
   pub count : schema .count ≡ length (columns list)
   pub some : 1 ≤ schema .count
   pub limited : Limited schema
+
+-- of so many lent columns k are looked at
+pub record Used (lent k : ℕ) : Type 0 where
+  pub there : k ≤ lent
+  pub few : k ≤ maxColumns
+  pub all : lent ≤ maxColumns → k ≡ lent
+  pub most : maxColumns ≤ lent → k ≡ maxColumns
+
+-- the array of lent columns: the first 64 at most, and after them none in use
+abbrev pub arrayOf : List Column → List Column
+arrayOf cols = take maxColumns cols ++ replicate (maxColumns - length cols) noColumn
+
+-- what holds of all columns that make this array, so many of them
+abbrev pub OfArray : List Column → ℕ → (List Column → Type 0) → Type 0
+OfArray array count P = (cols : List Column) → array ≡ arrayOf cols → count ≡ length cols → P cols

@@ -16,6 +16,7 @@ use format::no_column;
 use runs::wide;
 
 pub mod codes;
+pub mod columns;
 mod numbers;
 
 // What a list says: its first fault, and the columns of one that has none.
