@@ -1,0 +1,2 @@
+-- What the row cutter's functions promise of each other.
+pub mod Places
