@@ -70,7 +70,7 @@ before-next k = go (ltb k 4) (ltb (suc k) 4) refl refl
     go false true a b = absurd (omega (arith, ltb-false k 4 a, ltb-true (suc k) 4 b))
     go false false a b = omega (arith, ltb-false k 4 a)
 
-size-most : (k : ℕ) → blockSize k ≤ 32
+pub size-most : (k : ℕ) → blockSize k ≤ 32
 size-most k = go (ltb k 4)
   where
     go : (s : Bool) → cond s 8 32 ≤ 32
@@ -185,7 +185,7 @@ null-okay k fold row seen known b l h =
     (λ f. (refl, q .1)))
 
 -- a byte, read either way
-turned : (o : SortOptions) (b : ℕ) → b < 256 → turn o b < 256
+pub turned : (o : SortOptions) (b : ℕ) → b < 256 → turn o b < 256
 turned o b l = go (o .descending)
   where
     go : (t : Bool) → cond t (255 - b) b < 256

@@ -1,0 +1,2 @@
+-- What is proved of the row cutter, stated.
+pub mod Streams
