@@ -4,7 +4,7 @@ use mathlib.Core.Path.{_≡_}
 use mathlib.Core.Bool.{cond}
 use mathlib.Core.List.{List, [], _∷_}
 use lib.Dec.{ltb}
-use lib.ListN.{length}
+use lib.ListN.{length, take, drop}
 use Rattle.format.specs.declared.Column.{Column}
 use Rattle.format.specs.declared.Schema.{Schema}
 use Rattle.format.specs.declared.Check.{Check}
@@ -20,6 +20,7 @@ use Rattle.cutter_moves.specs.Moves.{Stood}
 use Rattle.cutter.specs.declared.Place.{Place}
 use Rattle.cutter.specs.declared.Stepped.{Stepped}
 use Rattle.cutter.specs.declared.Stepped.the-variants.{Going, Ended, Stopped}
+use Rattle.cutter.specs.declared.Advance.{Advance}
 use Rattle.cutter.specs.declared.Walked.{Walked}
 
 -- the state with these columns, which no refusal stands in
@@ -41,6 +42,13 @@ pub record Standing (column : Column) (count : ℕ) (p : Place) : Type 0 where
   pub here : p .column < count
   pub few : count ≤ maxColumns
 
+-- so many bytes more are within the stream
+pub record FieldFits (p : Place) (count n : ℕ) : Type 0 where
+  pub bytes : p .bytes + n ≤ maxTotal
+  pub rows : p .rows ≤ p .bytes
+  pub row : p .row ≤ p .bytes
+  pub here : p .column < count
+
 -- the state after it, and the row end that it shows
 abbrev pub after : Schema → Stepped → Cutter
 after schema (Going p) = stateAt schema p
@@ -52,20 +60,31 @@ shown (Going p) = []
 shown (Ended p) = p .bytes ∷ []
 shown (Stopped r) = []
 
--- a byte more of the same field; one that completes it, and with the last of the columns the row
+-- a byte more of the same field
 abbrev pub onward : Place → Spot → Place
 onward p spot = record { rows = p .rows; bytes = p .bytes + 1; row = p .row + 1; column = p .column; spot = spot }
 
-abbrev pub ended : Place → ℕ → Stepped
-ended p count =
+-- n bytes more, which complete the field, and with the last of the columns the row
+abbrev pub ended : Place → ℕ → ℕ → Stepped
+ended p count n =
     cond (ltb (p .column + 1) count)
-    (Going (record { rows = p .rows; bytes = p .bytes + 1; row = p .row + 1; column = p .column + 1; spot = Start }))
-    (Ended (record { rows = p .rows + 1; bytes = p .bytes + 1; row = 0; column = 0; spot = Start }))
+    (Going (record { rows = p .rows; bytes = p .bytes + n; row = p .row + n; column = p .column + 1; spot = Start }))
+    (Ended (record { rows = p .rows + 1; bytes = p .bytes + n; row = 0; column = 0; spot = Start }))
 
 -- these are those of the definition, in every state with such columns
 pub record Steps (column : Column) (count : ℕ) (p : Place) (b : ℕ) (r : Stepped) : Type 0 where
   pub state : (schema : Schema) → schema .count ≡ count → columnIn (stateAt schema p) ≡ column → taken (stateAt schema p) b ≡ after schema r
   pub end : (schema : Schema) → newEnd (stateAt schema p) (after schema r) ≡ shown r
+
+-- ---- some bytes of a piece, from byte i on: a byte, or a field
+
+pub record Advances (column : Column) (count : ℕ) (p : Place) (piece : List ℕ) (i : ℕ) (r : Advance) : Type 0 where
+  pub state : (schema : Schema) → schema .count ≡ count → columnIn (stateAt schema p) ≡ column
+      → fed (stateAt schema p) (take (r .by) (drop i piece)) ≡ after schema (r .turn)
+  pub ends : (schema : Schema) → schema .count ≡ count → columnIn (stateAt schema p) ≡ column
+      → endsIn (stateAt schema p) (take (r .by) (drop i piece)) ≡ shown (r .turn)
+  pub some : 1 ≤ r .by
+  pub inside : i + r .by ≤ length piece
 
 -- ---- a piece
 

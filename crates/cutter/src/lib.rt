@@ -23,6 +23,12 @@ pub enum Stepped {
     Stopped(Refusal),
 }
 
+// The same of so many bytes of a piece.
+pub struct Advance {
+    pub turn: Stepped,
+    pub by: usize,
+}
+
 // What the walk over a piece answers: the refusal that stopped it, where it stands if none did, and how many rows ended.
 pub struct Walked {
     pub check: Check,

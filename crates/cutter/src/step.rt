@@ -2,7 +2,7 @@
 ghost use mathlib.Core.Path.{_≡_};
 ghost use Prim.Native.Nat.{_<_, _≤_};
 ghost use Rattle.format.specs.Limits.{maxTotal};
-ghost use Rattle.cutter.specs.Places.{Standing, Steps, onward, ended};
+ghost use Rattle.cutter.specs.Places.{Standing, Steps, FieldFits, onward, ended};
 use crate::Place;
 use crate::Stepped;
 use cutter_moves::Moved;
@@ -26,18 +26,18 @@ fn going(place: Place, spot: Spot) -> Place
     }
 }
 
-// A byte more, which completes the field, and with the last column's the row.
-fn field_ended(place: Place, count: usize) -> Stepped
-    requires { ⌜ (place .bytes < maxTotal) × (place .row ≤ place .bytes) × (place .rows ≤ place .bytes) × (place .column < count) ⌝ }
-    ensures { λ r. ⌜ r ≡ ended place count ⌝ }
+// So many bytes more, which complete the field, and with the last column's the row.
+pub fn field_ended(place: Place, count: usize, len: u64) -> Stepped
+    requires { ⌜ FieldFits place count len ⌝ }
+    ensures { λ r. ⌜ r ≡ ended place count len ⌝ }
 {
-    let bytes = place.bytes + 1;
+    let bytes = place.bytes + len;
     let next = place.column + 1;
     if next < count {
         return Stepped::Going(Place {
             rows: place.rows,
             bytes: bytes,
-            row: place.row + 1,
+            row: place.row + len,
             column: next,
             spot: Spot::Start,
         });
@@ -65,7 +65,7 @@ pub fn step(column: Column, count: usize, place: Place, byte: u8) -> Stepped
     let moved = move_in(column, spot, place.row, byte);
     match moved {
         Moved::On(next) => Stepped::Going(going(place, next)),
-        Moved::Whole => field_ended(place, count),
+        Moved::Whole => field_ended(place, count, 1),
         Moved::Bad(fault, at) => {
             Stepped::Stopped(Refusal::Row(fault, rows as usize, place.column, at as usize))
         }

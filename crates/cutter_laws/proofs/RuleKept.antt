@@ -59,7 +59,7 @@ pub record Stands (s : Cutter) : Type 0 where
   pub rows-low : s .rows * overAll fewest (colsOf (s .schema)) ≤ s .bytes - s .row
   pub rows-high : s .bytes - s .row ≤ s .rows * overAll most (colsOf (s .schema))
 
-stands-of : (s : Cutter) → standingKept s ≡ true → Stands s
+pub stands-of : (s : Cutter) → standingKept s ≡ true → Stands s
 stands-of s h =
     let a = and-true h in
     let b = and-true (a .0) in
@@ -106,7 +106,7 @@ module _ (s : Cutter) (w : Whole s) (t : Stands s) where
   sh = columnShape (columnIn s)
 
   -- as many columns as the count says
-  many : length cols ≡ s .schema .count
+  pub many : length cols ≡ s .schema .count
   many = length-take-le (s .schema .count) (s .schema .columns) (omega (arith, w, t .count))
 
   -- the field after which column c + 1 stands
@@ -116,7 +116,7 @@ module _ (s : Cutter) (w : Whole s) (t : Stands s) where
       ∙ ap (λ (col : Column). overAll f (take (s .column) cols) + f (columnShape col)) (getD-take (s .schema .count) (s .schema .columns) (s .column) noColumn (t .column))
 
   -- no fewer bytes than rows
-  rows-most : s .rows ≤ s .bytes - s .row
+  pub rows-most : s .rows ≤ s .bytes - s .row
   rows-most =
       let f : 1 ≤ overAll fewest cols = omega (arith, over-length cols, many, t .column) in
       let g : s .rows * 1 ≤ s .rows * overAll fewest cols = mul-le-mul-left (s .rows) f in

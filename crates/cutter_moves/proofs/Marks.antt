@@ -97,13 +97,6 @@ block-numbers k h = go (ltb k 4) refl h
     go true e l = omega (arith, ltb-true k 4 e)
     go false e l = omega arith
 
-pub size-most : (k : ℕ) → blockSize k ≤ 32
-size-most k = go (ltb k 4)
-  where
-    go : (t : Bool) → cond t 8 32 ≤ 32
-    go true = omega arith
-    go false = omega arith
-
 -- ---- a block's end byte
 
 module _ (k marks at e : ℕ) where

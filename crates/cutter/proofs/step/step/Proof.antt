@@ -1,68 +1,58 @@
+-- `cutter::step::step` meets its contract: 12, or what the byte does to its field. Assumes nothing.
 use borrow.Author.Needs.{needs}
+use mathlib.Core.Path.{_≡_, ap, sym, subst, _∙_}
+use Rattle.cutter_moves.specs.Moves.{asMove}
+use Rattle.cutter.specs.declared.Place.{Place}
+use Rattle.cutter.specs.declared.Stepped.{Stepped}
+use Rattle.cutter.specs.declared.Stepped.the-variants.{Going}
+use Rattle.cutter.specs.Places.{Steps}
+use Rattle.cutter.proofs.Stepping.{step-full, step-on, step-whole, step-bad}
 use Rattle.cutter.proofs.step.step.Statement.{statement}
 use Rattle.cutter.proofs.step.step.Tie as tie
-use Rattle.cutter.proofs.step.step.Reads as reads
-use Rattle.cutter.proofs.step.step.Lts as lts
-use Rattle.cutter.proofs.step.field_ended.Reads as field-ended-reads
-use Rattle.cutter.proofs.step.going.Reads as going-reads
-use Rattle.cutter_moves.proofs.move_in.Reads as move-in-reads
 
--- src/step.rt:62:52
-add-t13 : tie.Need-add-t13
-add-t13 c = search needs
+abbrev entry : tie.After-move-in → tie.Start
+entry c = c .before .before
 
--- src/step.rt:62:9
 returns : tie.Need-returns
-returns c = ?
+returns c =
+    let a = c .before .args in
+    step-full (a .column) (a .count) (a .place) (a .byte) (c .if1 .taken)
 
--- src/step.rt:65:9
-move-in-requires : tie.Need-move-in-requires
-move-in-requires c κs = search needs
-
--- src/step.rt:67:19
-enum-known-moved : tie.Need-enum-known-moved
-enum-known-moved c = search needs
-
--- src/step.rt:67:43
-going-requires : tie.Need-going-requires
-going-requires c κs = search needs
-
--- src/step.rt:68:25
-enum-told : tie.Need-enum-told
-enum-told c = search needs
-
--- src/step.rt:68:25
-field-ended-requires : tie.Need-field-ended-requires
-field-ended-requires c κs = search needs
-
--- src/step.rt:69:20
-enum-known-moved-2 : tie.Need-enum-known-moved-2
-enum-known-moved-2 c = search needs
-
--- src/step.rt:55:1
 returns-2 : tie.Need-returns-2
-returns-2 c = ?
+returns-2 c =
+    let told = c .before .before in
+    let called = told .before .before in
+    let a = entry called .args in
+    subst (λ (p : Place). Steps (a .column) (a .count) (a .place) (a .byte) (Going p)) (sym (c .going .ensures))
+    (step-on (a .column) (a .count) (a .place) (a .byte) (called .before .if1 .left) _ (called .move-in .ensures) _ (ap asMove (told .moved .given .1)))
 
--- src/step.rt:55:1
 returns-3 : tie.Need-returns-3
-returns-3 c = ?
+returns-3 c =
+    let told = c .before in
+    let called = told .before .before in
+    let a = entry called .args in
+    subst (Steps (a .column) (a .count) (a .place) (a .byte)) (sym (c .field-ended .ensures))
+    (step-whole (a .column) (a .count) (a .place) (a .byte) (called .before .if1 .left) _ (called .move-in .ensures) (ap asMove (told .enum-told .given .1)))
 
--- src/step.rt:55:1
 returns-4 : tie.Need-returns-4
-returns-4 c = ?
+returns-4 c =
+    let told = c .before in
+    let called = told .before .before in
+    let a = entry called .args in
+    step-bad (a .column) (a .count) (a .place) (a .byte) (called .before .if1 .left) _ (called .move-in .ensures) _ _ (ap asMove (told .moved2 .given .1))
 
 pub step-spec : {M : Type 1} → statement M
 step-spec =
     tie.close
     (tie.spec
-    add-t13
+    (λ c. search needs)
     returns
-    move-in-requires
-    enum-known-moved
-    going-requires
-    enum-told
-    field-ended-requires
-    enum-known-moved-2
+    (λ c κs. search needs)
+    (λ c. search needs)
+    (λ c κs. search needs)
+    (λ c. search needs)
+    (λ c κs. search needs)
+    (λ c. search needs)
     returns-2
     returns-3
     returns-4)

@@ -1,86 +1,92 @@
+-- `cutter::walk::walk` meets its contract: what was read leaves this state, and its ends stand in the list. Assumes nothing.
+use borrow.Author.Needs.{needs}
+use Prim.Native.Nat.{ℕ, _+_, _-_, _<_, _≤_}
+use mathlib.Core.Path.{_≡_, refl, sym}
+use mathlib.Core.Logic.{⊎-elim}
+use native.Mathlib.Omega.{arith}
+use lib.ListN.{length, getD}
+use Rattle.format.specs.declared.Schema.{Schema}
+use Rattle.format.specs.Lists.{Bytes}
+use Rattle.format.specs.Schemas.{noColumn}
+use Rattle.basics.proofs.Bytes.{bytes-of}
+use Rattle.laws.proofs.InUse.{columns-room}
+use Rattle.cutter.specs.Places.{Standing}
+use Rattle.cutter.proofs.Walking.{Walking, walk-begins, here-standing, walk-goes, walk-ends, walk-stops, walk-done}
 use Rattle.cutter.proofs.walk.walk.Statement.{statement}
 use Rattle.cutter.proofs.walk.walk.Tie as tie
-use Rattle.cutter.proofs.walk.walk.Reads as reads
-use Rattle.cutter.proofs.walk.walk.Lts as lts
-use Rattle.cutter.proofs.step.step.Reads as step-reads
 
 abbrev Inv-loop : tie.InvT-loop
-Inv-loop piece ends₀ count columns at₀ n₀ i₀ ends at n i = ?
+Inv-loop piece ends₀ count columns at₀ n₀ i₀ ends at n i = Walking (record { columns = columns; count = count }) at₀ piece ends₀ at n i ends
 
 abbrev μ-loop : tie.MeasureT-loop
-μ-loop piece ends₀ count columns at₀ n₀ i₀ ends at n i = ?
+μ-loop piece ends₀ count columns at₀ n₀ i₀ ends at n i = length piece - i
 
--- src/walk.rt:26:5
+abbrev Turn : Type 0
+Turn = tie.In-loop Inv-loop μ-loop
+
+abbrev start : Turn → tie.Start Inv-loop μ-loop
+start c = c .before .before .before .before .before
+
+piece-bytes : (c : Turn) → Bytes (start c .args .piece .now)
+piece-bytes c = bytes-of (start c .args .piece .now) (λ i. c .before .before .before .before .shared-slice-known .given i .fits)
+
+standing : (c : Turn) → let a = start c .args in let at = c .before .loop .at in Standing (getD (a .schema .columns) (at .column) noColumn) (a .schema .count) at
+standing c =
+    let s = start c in
+    let a = s .args in
+    here-standing (a .schema) (a .place) (a .piece .now) (a .ends .now) (piece-bytes c) (columns-room (a .schema) (s .good .0)) (s .pre .0) (c .before .loop .inv)
+
+-- there is room for an end more
+room : (c : Turn) → c .before .loop .n < length (c .before .loop .ends)
+room c = let w = c .before .loop .inv in omega (arith, w .few, w .long, c .loop-test .taken, start c .pre .1)
+
 loop-holds : tie.Need-loop-holds Inv-loop μ-loop
-loop-holds c = ?
+loop-holds c =
+    let a = c .before .before .before .args in
+    walk-begins (a .schema) (a .place) (a .piece .now) (a .ends .now)
 
--- src/walk.rt:28:25
-mul-step : tie.Need-mul-step Inv-loop μ-loop
-mul-step c = ?
-
--- src/walk.rt:28:25
-array-copy-out-step : tie.Need-array-copy-out-step Inv-loop μ-loop
-array-copy-out-step c = ?
-
--- src/walk.rt:28:48
-shared-slice-read-step : tie.Need-shared-slice-read-step Inv-loop μ-loop
-shared-slice-read-step c = ?
-
--- src/walk.rt:28:13
-step-requires : tie.Need-step-requires Inv-loop μ-loop
-step-requires c κs = ?
-
--- src/walk.rt:30:28
-enum-known-turn : tie.Need-enum-known-turn Inv-loop μ-loop
-enum-known-turn c = ?
-
--- src/walk.rt:33:28
-enum-known-turn-2 : tie.Need-enum-known-turn-2 Inv-loop μ-loop
-enum-known-turn-2 c = ?
-
--- src/walk.rt:35:17
 mul-ends : tie.Need-mul-ends Inv-loop μ-loop
-mul-ends c = ?
+mul-ends c = omega (arith, room (c .before .before .before .before .before))
 
--- src/walk.rt:35:17
-slice-write-ends : tie.Need-slice-write-ends Inv-loop μ-loop
-slice-write-ends c = ?
-
--- src/walk.rt:36:17
 add-n : tie.Need-add-n Inv-loop μ-loop
-add-n c = ?
+add-n c = omega (arith, room (c .before .before .before .before .before))
 
--- src/walk.rt:38:30
-enum-known-turn-3 : tie.Need-enum-known-turn-3 Inv-loop μ-loop
-enum-known-turn-3 c = ?
-
--- src/walk.rt:39:17
 same-length : tie.Need-same-length Inv-loop μ-loop
-same-length c = ?
+same-length c = c .before .before .before .before .before .before .loop .inv .long
 
--- src/walk.rt:39:17
 returns : tie.Need-returns Inv-loop μ-loop
-returns c = ?
+returns c =
+    let told = c .before in
+    let called = told .before .before in
+    let turn = called .before .before in
+    let a = start turn .args in
+    walk-stops (a .schema) (a .place) (a .piece .now) (a .ends .now) (turn .before .loop .inv) _ (called .advance .ensures) _ (told .turn3 .given .1)
 
--- src/walk.rt:46:9
 add-i : tie.Need-add-i Inv-loop μ-loop
-add-i c = ?
+add-i c =
+    let called = c .before .before in
+    omega (arith, called .advance .ensures .inside, start (called .before .before) .good)
 
--- src/walk.rt:26:5
 loop-less : tie.Need-loop-less Inv-loop μ-loop
-loop-less c = ?
+loop-less c =
+    let called = c .before .before in
+    omega (arith, called .advance .ensures .some, called .before .before .loop-test .taken)
 
--- src/walk.rt:26:5
 loop-again : tie.Need-loop-again Inv-loop μ-loop
-loop-again c = ?
+loop-again c =
+    let joined = c .before in
+    let called = joined .before in
+    let turn = called .before .before in
+    let a = start turn .args in
+    ⊎-elim
+    (λ w. walk-goes (a .schema) (a .place) (a .piece .now) (a .ends .now) (turn .before .loop .inv) _ (called .advance .ensures) _ (w .1 .given .1) (w .3) (w .4) (w .5))
+    (λ w. walk-ends (a .schema) (a .place) (a .piece .now) (a .ends .now) (turn .before .loop .inv) _ (called .advance .ensures) _ (room turn) (w .1 .given .1) (w .3) (w .4) (w .5))
+    (joined .match .came)
 
--- src/walk.rt:16:1
-same-length-2 : tie.Need-same-length-2 Inv-loop μ-loop
-same-length-2 c = ?
-
--- src/walk.rt:16:1
 returns-2 : tie.Need-returns-2 Inv-loop μ-loop
-returns-2 c = ?
+returns-2 c =
+    let a = c .before .before .before .before .before .args in
+    walk-done (a .schema) (a .place) (a .piece .now) (a .ends .now) (c .before .loop .inv) (c .loop-test .left)
 
 pub walk-spec : {M : Type 1} → statement M
 walk-spec =
@@ -89,20 +95,19 @@ walk-spec =
     Inv-loop
     μ-loop
     loop-holds
-    mul-step
-    array-copy-out-step
-    shared-slice-read-step
-    step-requires
-    enum-known-turn
-    enum-known-turn-2
+    (λ c. let t = standing c in omega (arith, t .here, t .few))
+    (λ c. let t = standing c in omega (arith, t .here, t .few))
+    (λ c κs. (standing (c .before), c .before .loop-test .taken))
+    (λ c. search needs)
+    (λ c. search needs)
     mul-ends
-    slice-write-ends
+    (λ c. room (c .before .before .before .before .before))
     add-n
-    enum-known-turn-3
+    (λ c. search needs)
     same-length
     returns
     add-i
     loop-less
     loop-again
-    same-length-2
+    (λ c. c .before .loop .inv .long)
     returns-2)

@@ -5,7 +5,8 @@ use mathlib.Core.Path.{_≡_, _∙_}
 use native.Mathlib.Omega.{arith}
 use borrow.Author.Tests.{le-ltb}
 use Rattle.cutter_moves.proofs.Arms.{unless}
-use Rattle.cutter_moves.proofs.Marks.{size-most, block-on, block-full}
+use Rattle.cutter_laws.proofs.RuleMoves.{size-most}
+use Rattle.cutter_moves.proofs.Marks.{block-on, block-full}
 use Rattle.cutter_moves.proofs.block.block_byte.Statement.{statement}
 use Rattle.cutter_moves.proofs.block.block_byte.Tie as tie
 

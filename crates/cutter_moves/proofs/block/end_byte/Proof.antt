@@ -7,7 +7,8 @@ use Rattle.format.specs.Limits.{maxSlot}
 use Rattle.format.specs.Field.{blockSize}
 use Rattle.format.specs.CutterRule.{before}
 use Rattle.format.specs.Cutter.{lowest}
-use Rattle.cutter_moves.proofs.Marks.{block-numbers, size-most, end-long, end-more, end-none, end-past, end-padded, end-over, end-whole}
+use Rattle.cutter_laws.proofs.RuleMoves.{size-most}
+use Rattle.cutter_moves.proofs.Marks.{block-numbers, end-long, end-more, end-none, end-past, end-padded, end-over, end-whole}
 use Rattle.cutter_moves.proofs.block.end_byte.Statement.{statement}
 use Rattle.cutter_moves.proofs.block.end_byte.Tie as tie
 

@@ -1,0 +1,3 @@
+-- What the row cutter's functions rest on.
+pub mod Stepping
+pub mod Walking
