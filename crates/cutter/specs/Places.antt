@@ -1,7 +1,7 @@
 -- A cutter's state as the walk over a piece holds it: the columns, which stay, and the numbers.
 use Prim.Native.Nat.{ℕ, _+_, _≤_, _<_}
 use mathlib.Core.Path.{_≡_}
-use mathlib.Core.Bool.{cond}
+use mathlib.Core.Bool.{Bool, true, false, cond}
 use mathlib.Core.List.{List, [], _∷_}
 use lib.Dec.{ltb}
 use lib.ListN.{length, take, drop}
@@ -10,11 +10,12 @@ use Rattle.format.specs.declared.Schema.{Schema}
 use Rattle.format.specs.declared.Check.{Check}
 use Rattle.format.specs.declared.Check.the-variants.{Pass, Refuse}
 use Rattle.format.specs.declared.Spot.{Spot}
-use Rattle.format.specs.declared.Spot.the-variants.{Start}
+use Rattle.format.specs.declared.Spot.the-variants.{Start, Nulls, Value, Block}
 use Rattle.format.specs.declared.Cutter.{Cutter}
-use Rattle.format.specs.Limits.{maxColumns, maxTotal}
+use Rattle.format.specs.Limits.{maxColumns, maxWidth, maxSlot, maxTotal}
 use Rattle.format.specs.Lists.{over}
-use Rattle.format.specs.CutterRule.{columnIn}
+use Rattle.format.specs.Kinds.{Shape, fixed, variable}
+use Rattle.format.specs.CutterRule.{before, columnIn}
 use Rattle.format.specs.Cutter.{refused, taken, newEnd, fed, endsIn}
 use Rattle.cutter_moves.specs.Moves.{Stood}
 use Rattle.cutter.specs.declared.Place.{Place}
@@ -27,9 +28,24 @@ use Rattle.cutter.specs.declared.Walked.{Walked}
 abbrev pub stateAt : Schema → Place → Cutter
 stateAt schema p = record { schema = schema; refusal = Pass; rows = p .rows; bytes = p .bytes; row = p .row; column = p .column; spot = p .spot }
 
+-- the same, number by number
+abbrev pub standingAt : Schema → ℕ → ℕ → ℕ → ℕ → Spot → Cutter
+standingAt schema rows bytes row c spot = stateAt schema (record { rows = rows; bytes = bytes; row = row; column = c; spot = spot })
+
 -- the numbers of a state
 abbrev pub placeOf : Cutter → Place
 placeOf s = record { rows = s .rows; bytes = s .bytes; row = s .row; column = s .column; spot = s .spot }
+
+abbrev pub isVariable : Shape → Bool
+isVariable (fixed k) = false
+isVariable variable = true
+
+-- a spot that a field may have, by its numbers
+abbrev pub Small : Spot → Type 0
+Small Start = Unit {0}
+Small (Nulls seen known) = seen ≤ maxWidth
+Small (Value seen spelt) = seen ≤ maxWidth
+Small (Block k seen marks) = (before k ≤ maxSlot) × (seen ≤ 32)
 
 -- ---- a byte
 

@@ -118,7 +118,7 @@ spelt-folded n x y z f small a k e = folded-same n z f small e ∙ ap (isFolded 
 
 -- ---- powers of 256
 
-power-up : (n j : ℕ) → 256 ^ n ≤ 256 ^ (j + n)
+pub power-up : (n j : ℕ) → 256 ^ n ≤ 256 ^ (j + n)
 power-up n zero = let z : 0 + n ≡ n = omega arith in rw z (omega arith)
 power-up n (suc j) = let z : suc j + n ≡ suc (j + n) = omega arith in rw z (omega (arith, power-up n j, pow-suc 256 (j + n)))
 

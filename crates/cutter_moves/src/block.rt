@@ -17,7 +17,7 @@ use format::Spot;
 use runs::wide;
 
 // How many bytes of a value come before block k.
-fn bytes_before(k: usize) -> usize
+pub fn bytes_before(k: usize) -> usize
     requires { ⌜ before k ≤ maxSlot ⌝ }
     ensures { λ r. ⌜ r ≡ before k ⌝ }
 {

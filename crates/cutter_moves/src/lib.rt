@@ -14,6 +14,8 @@ mod lead;
 mod nulls;
 mod value;
 
+pub use block::bytes_before;
+
 // The field goes on, it is whole, or a fault shows: which, and the place of the bad byte in the row.
 pub enum Moved {
     On(Spot),
