@@ -19,7 +19,7 @@
  * list     For each column a byte of kind and a byte of options, and for kind 15 also the width in two
  *          bytes, low byte first (0 to 1,024). Options: bit 0 descending, bit 1 nulls first, bit 2 required
  *          (no slot is null), and for kinds 10 to 12 bit 3 fold (every NaN is 7E00, 7FC00000 or
- *          7FF8000000000000, and -0 is +0); the others zero. 1 to 16 columns.
+ *          7FF8000000000000, and -0 is +0); the others zero. 1 to 64 columns.
  *
  *            kind                  values                                         value bytes
  *            1                     bool                                           1
@@ -31,6 +31,11 @@
  *            15                    fixed binary                                   width
  *            16                    variable bytes, 0 to 65,535 a slot
  *            17, 18                i128, i256                                     16, 32
+ *
+ * descriptions
+ *          A list that was read once, for calls that come again and again: for each column four bytes, kind,
+ *          options and width, low byte first, which is 0 unless the kind is 15. A length that is no multiple
+ *          of four leaves a tail that does not count and stays.
  *
  * n        The count of rows, 0 to 4,096.
  *
@@ -58,8 +63,9 @@
  *            1   list empty, or a body cut                  place of the kind byte, 0
  *            2   unknown kind                               the same
  *            3   other option bits set, or fold elsewhere   the same
- *            4   width over 1,024                           the same
- *            5   a 17th column begins                       the same
+ *            4   width over 1,024, and in descriptions a    the same
+ *                width held outside kind 15
+ *            5   a 65th column begins                       the same
  *            6   over 4,096 rows                            n, 0
  *            7   column cut                                 column, 0
  *            8   spare bit set                              column, 0
@@ -84,6 +90,9 @@
  *            26  pass out of order                          pass, first row below the one before it
  *            27  null in a required column                  column, first null row
  *            28  float not folded where the column folds    row, column
+ *            29  too few descriptions lent                  columns, 0
+ *
+ *          Of descriptions 1 is for none, and the place in 1 to 5 is the index of the column.
  *
  *          The fourth number is the place of a byte in the row, counted from the row's start, for 16 to 23
  *          and 28: of 16 the first byte missing, so the row's length; of 17 the lead byte; of 18 and 21 the
@@ -107,10 +116,14 @@ enum { STATION_ANSWER_BYTES = 32 };
 /* The most bytes of stack that a call takes, from its return address down, whatever it is given. What the C
  * library's memcpy and memset take of it is counted. */
 enum {
-    STATION_CHECK_LIST_STACK = 1024,
-    STATION_MEASURE_STACK = 5120,
-    STATION_ENCODE_STACK = 38912,
-    STATION_DECODE_STACK = 68608,
+    STATION_CHECK_LIST_STACK = 4096,
+    STATION_READ_LIST_STACK = 5120,
+    STATION_MEASURE_STACK = 19456,
+    STATION_MEASURE_READ_STACK = 19456,
+    STATION_ENCODE_STACK = 58368,
+    STATION_ENCODE_READ_STACK = 58368,
+    STATION_DECODE_STACK = 77824,
+    STATION_DECODE_READ_STACK = 77824,
     STATION_JOIN_STACK = 132096,
     STATION_COMPARE_STACK = 64
 };
@@ -123,6 +136,11 @@ uint64_t station_version(void);
 
 /* Checks a list. Total: columns. */
 void station_check_list(const uint8_t *list, size_t list_len, uint8_t *answer, size_t answer_len);
+
+/* Checks a list and writes the descriptions of its columns, which stand for it in station_..._read. Total: columns;
+ * hand on four bytes for each of them. */
+void station_read_list(const uint8_t *list, size_t list_len, uint8_t *descriptions, size_t descriptions_len,
+                       uint8_t *answer, size_t answer_len);
 
 /* Checks list and sheet. Total: row bytes. */
 void station_measure(const uint8_t *list, size_t list_len, uint64_t n, const uint8_t *sheet, size_t sheet_len,
@@ -137,6 +155,19 @@ void station_encode(const uint8_t *list, size_t list_len, uint64_t n, const uint
 void station_decode(const uint8_t *list, size_t list_len, uint64_t n, const uint8_t *rows, size_t rows_len,
                     const uint8_t *offsets, size_t offsets_len, uint8_t *sheet, size_t sheet_len, uint8_t *answer,
                     size_t answer_len);
+
+/* The same three with descriptions in place of the list. Both ways give the same answers and write the same bytes for
+ * descriptions that were read from the list. */
+void station_measure_read(const uint8_t *descriptions, size_t descriptions_len, uint64_t n, const uint8_t *sheet,
+                          size_t sheet_len, uint8_t *answer, size_t answer_len);
+
+void station_encode_read(const uint8_t *descriptions, size_t descriptions_len, uint64_t n, const uint8_t *sheet,
+                         size_t sheet_len, uint8_t *rows, size_t rows_len, uint8_t *offsets, size_t offsets_len,
+                         uint8_t *answer, size_t answer_len);
+
+void station_decode_read(const uint8_t *descriptions, size_t descriptions_len, uint64_t n, const uint8_t *rows,
+                         size_t rows_len, const uint8_t *offsets, size_t offsets_len, uint8_t *sheet, size_t sheet_len,
+                         uint8_t *answer, size_t answer_len);
 
 /* Writes the joined order of two passes, whose rows are sorted as bytes: sorted, every row of both once, equal rows in
  * their order, pass 0 first. Rows are not read as fields. Total: the rows of both, and no null slots. */

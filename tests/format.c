@@ -25,6 +25,8 @@ enum {
     CODES = 256,        /* refusals and kinds are below it */
     FILL = 0xEE,        /* what lent buffers hold before */
     ROOM = 1 << 16,     /* lent where a refusal is to be seen */
+    MOST_COLUMNS = 64,  /* of a list */
+    COLUMN = 4,         /* bytes of a description */
     INPUT_ROOM = 32768, /* of the program, for its input and for rows */
 };
 
@@ -34,15 +36,15 @@ enum batch { OF_SHEET, PASS0, PASS1, BATCHES };
 /* The words of an example. Those up to INPUT have bytes for a value, which may go on in the next line. Those of a batch stand in the
  * order of the batches. */
 enum word {
-    LIST, SHEET, CLEARED, ROW, ROW0, ROW1, INPUT,
-    N, N0, N1, OFFSETS, OFFSETS0, OFFSETS1, ROW_ROOM, OFFSET_ROOM, SHEET_ROOM, ORDER_ROOM,
-    REFUSED, CHECK, MEASURE, ENCODE, DECODE, JOIN, COMPARE, ORDER, PRINTS,
+    LIST, COLUMNS, SHEET, CLEARED, ROW, ROW0, ROW1, INPUT,
+    N, N0, N1, OFFSETS, OFFSETS0, OFFSETS1, COLUMN_ROOM, ROW_ROOM, OFFSET_ROOM, SHEET_ROOM, ORDER_ROOM,
+    REFUSED, CHECK, READ, MEASURE, ENCODE, DECODE, JOIN, COMPARE, ORDER, PRINTS,
     WORDS,
 };
 static const char *const NAMES[WORDS] = {
-    "list", "sheet", "cleared", "row", "row0", "row1", "input",
-    "n", "n0", "n1", "offsets", "offsets0", "offsets1", "row-room", "offset-room", "sheet-room", "order-room",
-    "refused", "check", "measure", "encode", "decode", "join", "compare", "order", "prints",
+    "list", "columns", "sheet", "cleared", "row", "row0", "row1", "input",
+    "n", "n0", "n1", "offsets", "offsets0", "offsets1", "column-room", "row-room", "offset-room", "sheet-room", "order-room",
+    "refused", "check", "read", "measure", "encode", "decode", "join", "compare", "order", "prints",
 };
 
 struct bytes {
@@ -210,26 +212,56 @@ static void judge(enum word entry, const uint8_t *answer, uint64_t total) {
         fault(ex.line, "%s answers %s, and not %s", NAMES[entry], got, ex.has[said] ? text(said) : done);
 }
 
+/* How the columns are said, and the entries that take them so: by a list, or by descriptions that were read from one. */
+struct way {
+    struct bytes columns;
+    void (*measure)(const uint8_t *, size_t, uint64_t, const uint8_t *, size_t, uint8_t *, size_t);
+    void (*encode)(const uint8_t *, size_t, uint64_t, const uint8_t *, size_t, uint8_t *, size_t, uint8_t *, size_t, uint8_t *, size_t);
+    void (*decode)(const uint8_t *, size_t, uint64_t, const uint8_t *, size_t, const uint8_t *, size_t, uint8_t *, size_t, uint8_t *, size_t);
+};
+
+static struct way by_list(void) {
+    return (struct way){ex.value[LIST], station_measure, station_encode, station_decode};
+}
+
+static struct way by_descriptions(struct bytes columns) {
+    return (struct way){columns, station_measure_read, station_encode_read, station_decode_read};
+}
+
 static void try_list(void) {
     struct bytes list = ex.value[LIST];
     uint8_t answer[STATION_ANSWER_BYTES];
     station_check_list(list.at, list.len, answer, sizeof answer);
-    if (ex.has[CHECK] || !(ex.has[SHEET] || ex.has[ROW])) judge(CHECK, answer, 0);
+    if (ex.has[CHECK] || !(ex.has[SHEET] || ex.has[ROW] || ex.has[COLUMN_ROOM] || ex.has[READ])) judge(CHECK, answer, 0);
     if (ex.has[REFUSED]) return;
     for (size_t i = 0; i < list.len; i += list.at[i] == 15 ? 4 : 2) kind_seen[list.at[i]] = true;
 }
 
-static void try_encode(void) {
-    struct bytes list = ex.value[LIST], sheet = ex.value[SHEET];
+/* The descriptions of the list, or none where it is refused: these are what the example has, and nothing is written past them. */
+static struct bytes try_read(void) {
+    struct bytes list = ex.value[LIST], columns = filled(COLUMN * number(COLUMN_ROOM, MOST_COLUMNS));
+    uint8_t answer[STATION_ANSWER_BYTES];
+    station_read_list(list.at, list.len, columns.at, columns.len, answer, sizeof answer);
+    if (ex.has[READ] || (ex.has[REFUSED] && !(ex.has[SHEET] || ex.has[ROW]))) judge(READ, answer, 0);
+    size_t len = eight(answer) ? 0 : COLUMN * eight(answer + 8);
+    struct bytes rest = {columns.at + len, columns.len - len, 0};
+    if (!untouched(rest)) fault(ex.line, "read_list writes more than it counts");
+    columns.len = len;
+    if (ex.has[COLUMNS] && !same(columns, ex.value[COLUMNS])) fault(ex.line, "read_list writes other descriptions");
+    return columns;
+}
+
+static void try_encode(struct way way) {
+    struct bytes list = way.columns, sheet = ex.value[SHEET];
     uint64_t n = number(N, 0);
     uint8_t answer[STATION_ANSWER_BYTES];
     if (!ex.has[ROW_ROOM] && !ex.has[OFFSET_ROOM]) {
-        station_measure(list.at, list.len, n, sheet.at, sheet.len, answer, sizeof answer);
+        way.measure(list.at, list.len, n, sheet.at, sheet.len, answer, sizeof answer);
         judge(MEASURE, answer, ex.value[ROW].len);
     }
     struct bytes rows = filled(number(ROW_ROOM, ex.has[REFUSED] ? ROOM : ex.value[ROW].len));
     struct bytes ends = filled(8 * number(OFFSET_ROOM, ex.batch[OF_SHEET].rows + 1)), right = offsets(OF_SHEET);
-    station_encode(list.at, list.len, n, sheet.at, sheet.len, rows.at, rows.len, ends.at, ends.len, answer, sizeof answer);
+    way.encode(list.at, list.len, n, sheet.at, sheet.len, rows.at, rows.len, ends.at, ends.len, answer, sizeof answer);
     judge(ENCODE, answer, ex.value[ROW].len);
     if (ex.has[REFUSED] && !(untouched(rows) && untouched(ends))) fault(ex.line, "encode refuses and writes");
     if (!ex.has[REFUSED] && !same(rows, ex.value[ROW])) fault(ex.line, "encode writes other rows");
@@ -239,13 +271,13 @@ static void try_encode(void) {
     free(right.at);
 }
 
-static void try_decode(void) {
-    struct bytes list = ex.value[LIST], rows = ex.value[ROW], ends = offsets(OF_SHEET);
+static void try_decode(struct way way) {
+    struct bytes list = way.columns, rows = ex.value[ROW], ends = offsets(OF_SHEET);
     struct bytes right = ex.value[ex.has[CLEARED] ? CLEARED : SHEET];
     struct bytes sheet = filled(number(SHEET_ROOM, ex.has[REFUSED] ? ROOM : right.len));
     uint8_t answer[STATION_ANSWER_BYTES];
     uint64_t n = number(N, ex.batch[OF_SHEET].rows);
-    station_decode(list.at, list.len, n, rows.at, rows.len, ends.at, ends.len, sheet.at, sheet.len, answer, sizeof answer);
+    way.decode(list.at, list.len, n, rows.at, rows.len, ends.at, ends.len, sheet.at, sheet.len, answer, sizeof answer);
     judge(DECODE, answer, right.len);
     if (ex.has[REFUSED] && !untouched(sheet)) fault(ex.line, "decode refuses and writes");
     if (!ex.has[REFUSED] && !same(sheet, right)) fault(ex.line, "decode writes another sheet");
@@ -354,6 +386,25 @@ static void begin(void) {
     }
 }
 
+/* What the example says of a sheet and its rows. */
+static void try_way(struct way way) {
+    if (ex.has[SHEET]) try_encode(way);
+    if (ex.has[ROW] || (ex.has[SHEET] && !ex.has[REFUSED])) try_decode(way);
+}
+
+/* The list, and sheet and rows under it and under what was read from it; or under the descriptions alone. */
+static void try_columns(void) {
+    if (!ex.has[LIST]) {
+        try_way(by_descriptions(ex.value[COLUMNS]));
+        return;
+    }
+    try_list();
+    try_way(by_list());
+    struct bytes read = try_read();
+    if (read.len > 0) try_way(by_descriptions(read));
+    free(read.at);
+}
+
 /* The example has been read: tries all that it says, and begins the next. */
 static void finish(void) {
     if (ex.line == 0) return;
@@ -364,11 +415,10 @@ static void finish(void) {
     if (ex.has[PRINTS] && strncmp(text(PRINTS), "refused ", 8) == 0) refusal_seen[atoi(text(PRINTS) + 8) % CODES] = true;
     if (ex.has[SHEET] && !ex.has[N]) fault(ex.line, "a sheet without its row count");
     if (ex.has[SHEET] && ex.has[ROW] && refused) fault(ex.line, "rows of a sheet that is refused");
-    if (!ex.has[LIST] && !passes && !ex.has[COMPARE] && !ex.has[INPUT]) fault(ex.line, "nothing to try");
-    if (ex.has[LIST]) try_list();
-    if (ex.has[LIST] && ex.has[SHEET]) try_encode();
+    bool columns = ex.has[LIST] || (ex.has[COLUMNS] && (ex.has[SHEET] || ex.has[ROW]));
+    if (!columns && !passes && !ex.has[COMPARE] && !ex.has[INPUT]) fault(ex.line, "nothing to try");
+    if (columns) try_columns();
     if (ex.has[LIST] && ex.has[SHEET] && !room) try_rows();
-    if (ex.has[LIST] && (ex.has[ROW] || (ex.has[SHEET] && !refused))) try_decode();
     if (passes) try_join();
     if (ex.has[COMPARE]) try_compare();
     if (ex.has[INPUT]) try_program(ex.value[INPUT], ex.value[PRINTS]);

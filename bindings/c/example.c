@@ -1,5 +1,6 @@
 /* Two rows of a catalogue of glyphs: plate (u32), glyph name (variable bytes), contour (u16), position (f64), exposure
- * (months, days, nanoseconds). Encodes them, prints each row in hex, compares the two, decodes them again.
+ * (months, days, nanoseconds). Encodes them, prints each row in hex, compares the two, decodes them again. Then the same
+ * with the list read once, as one would for many sheets.
  *
  *   cc -I include bindings/c/example.c target/staticlib/libstation_c.a -o example && ./example
  */
@@ -38,6 +39,27 @@ static int done(const char *call, const uint8_t *answer) {
     return 0;
 }
 
+/* The list is read once; its descriptions stand for it in every call that follows. Answers whether rows and sheet are those
+ * that came without. */
+static int read_once(const uint8_t *rows, uint64_t end) {
+    uint8_t descriptions[5 * 4], again[128], offsets[3 * 8], sheet[sizeof SHEET], answer[STATION_ANSWER_BYTES];
+
+    station_read_list(LIST, sizeof LIST, descriptions, sizeof descriptions, answer, sizeof answer);
+    if (!done("read_list", answer)) return 0;
+    size_t read = 4 * number(answer, 1);
+    printf("read: %" PRIu64 " columns\n", number(answer, 1));
+
+    station_measure_read(descriptions, read, 2, SHEET, sizeof SHEET, answer, sizeof answer);
+    if (!done("measure_read", answer)) return 0;
+    station_encode_read(descriptions, read, 2, SHEET, sizeof SHEET, again, sizeof again, offsets, sizeof offsets, answer,
+                        sizeof answer);
+    if (!done("encode_read", answer)) return 0;
+    station_decode_read(descriptions, read, 2, again, end, offsets, sizeof offsets, sheet, sizeof sheet, answer,
+                        sizeof answer);
+    if (!done("decode_read", answer)) return 0;
+    return memcmp(again, rows, end) == 0 && memcmp(sheet, SHEET, sizeof SHEET) == 0;
+}
+
 int main(void) {
     uint8_t rows[128], offsets[3 * 8], sheet[sizeof SHEET], answer[STATION_ANSWER_BYTES];
 
@@ -57,5 +79,7 @@ int main(void) {
     if (!done("decode", answer)) return 1;
     int same = number(answer, 1) == sizeof SHEET && memcmp(sheet, SHEET, sizeof SHEET) == 0;
     printf("decoded: %s\n", same ? "the same sheet" : "another sheet");
-    return same ? 0 : 1;
+    int alike = read_once(rows, end);
+    printf("with the list read once: %s\n", alike ? "the same rows and sheet" : "other bytes");
+    return same && alike ? 0 : 1;
 }

@@ -9,7 +9,7 @@
 #include "station.h"
 
 /* One bool column. */
-static const uint8_t LIST[] = {1, 0};
+static const uint8_t LIST[] = {1, 0}, DESCRIPTION[] = {1, 0, 0, 0};
 
 static uint8_t answer[STATION_ANSWER_BYTES];
 static int wrong;
@@ -40,6 +40,12 @@ int main(void) {
     hold("check_list of nothing", 1, 0, 0);
     station_check_list(NULL, 0, NULL, 0);
 
+    station_read_list(NULL, 0, NULL, 0, answer, sizeof answer);
+    hold("read_list of nothing", 1, 0, 0);
+    station_read_list(LIST, sizeof LIST, NULL, 0, answer, sizeof answer);
+    hold("read_list into nothing", 29, 1, 0);
+    station_read_list(NULL, 0, NULL, 0, NULL, 0);
+
     station_measure(NULL, 0, 0, NULL, 0, answer, sizeof answer);
     hold("measure of nothing", 1, 0, 0);
     station_measure(LIST, sizeof LIST, 0, NULL, 0, answer, sizeof answer);
@@ -67,6 +73,18 @@ int main(void) {
     station_decode(LIST, sizeof LIST, 0, NULL, 0, zero, sizeof zero, NULL, 0, answer, sizeof answer);
     hold("decode of no rows", 0, 0, 0);
     station_decode(NULL, 0, 0, NULL, 0, NULL, 0, NULL, 0, NULL, 0);
+
+    station_measure_read(NULL, 0, 0, NULL, 0, answer, sizeof answer);
+    hold("measure_read of nothing", 1, 0, 0);
+    station_measure_read(DESCRIPTION, sizeof DESCRIPTION, 0, NULL, 0, answer, sizeof answer);
+    hold("measure_read of no rows", 0, 0, 0);
+    station_encode_read(DESCRIPTION, sizeof DESCRIPTION, 0, NULL, 0, NULL, 0, NULL, 0, answer, sizeof answer);
+    hold("encode_read of no rows, and no offsets", 14, 1, 0);
+    station_decode_read(DESCRIPTION, sizeof DESCRIPTION, 0, NULL, 0, zero, sizeof zero, NULL, 0, answer, sizeof answer);
+    hold("decode_read of no rows", 0, 0, 0);
+    station_measure_read(NULL, 0, 0, NULL, 0, NULL, 0);
+    station_encode_read(NULL, 0, 0, NULL, 0, NULL, 0, NULL, 0, NULL, 0);
+    station_decode_read(NULL, 0, 0, NULL, 0, NULL, 0, NULL, 0, NULL, 0);
 
     station_join(0, NULL, 0, NULL, 0, 0, NULL, 0, NULL, 0, NULL, 0, answer, sizeof answer);
     hold("join of nothing", 14, 1, 0);

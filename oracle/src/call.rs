@@ -1,6 +1,7 @@
-//! Calls of the C entries with any bytes, and what document 01 says that they leave behind; of the
-//! join, document 02.
+//! Calls of the C entries with any bytes, and what document 01 says that they leave behind; of lists
+//! that are read once and of the join, document 02.
 
+use crate::columns::{descriptions_of, Column};
 use crate::hex::hex_start;
 use crate::model::{self, Checked, Numbers};
 use crate::stack::{self, Stacks, WORDS};
@@ -13,18 +14,26 @@ use std::fmt;
 #[derive(Clone, Copy, Debug, PartialEq, Eq)]
 pub enum Entry {
     CheckList,
+    ReadList,
     Measure,
+    MeasureRead,
     Encode,
+    EncodeRead,
     Decode,
+    DecodeRead,
     Join,
     Compare,
 }
 
-pub const ENTRIES: [Entry; 6] = [
+pub const ENTRIES: [Entry; 10] = [
     Entry::CheckList,
+    Entry::ReadList,
     Entry::Measure,
+    Entry::MeasureRead,
     Entry::Encode,
+    Entry::EncodeRead,
     Entry::Decode,
+    Entry::DecodeRead,
     Entry::Join,
     Entry::Compare,
 ];
@@ -33,9 +42,13 @@ impl Entry {
     pub fn name(self) -> &'static str {
         match self {
             Entry::CheckList => "check_list",
+            Entry::ReadList => "read_list",
             Entry::Measure => "measure",
+            Entry::MeasureRead => "measure_read",
             Entry::Encode => "encode",
+            Entry::EncodeRead => "encode_read",
             Entry::Decode => "decode",
+            Entry::DecodeRead => "decode_read",
             Entry::Join => "join",
             Entry::Compare => "compare",
         }
@@ -45,9 +58,13 @@ impl Entry {
     fn function(self) -> *const () {
         match self {
             Entry::CheckList => raw::station_check_list as *const (),
+            Entry::ReadList => raw::station_read_list as *const (),
             Entry::Measure => raw::station_measure as *const (),
+            Entry::MeasureRead => raw::station_measure_read as *const (),
             Entry::Encode => raw::station_encode as *const (),
+            Entry::EncodeRead => raw::station_encode_read as *const (),
             Entry::Decode => raw::station_decode as *const (),
+            Entry::DecodeRead => raw::station_decode_read as *const (),
             Entry::Join => raw::station_join as *const (),
             Entry::Compare => raw::station_compare as *const (),
         }
@@ -57,11 +74,39 @@ impl Entry {
     fn arguments(self) -> (&'static [&'static str], &'static [&'static str]) {
         match self {
             Entry::CheckList => (&["list"], &[]),
+            Entry::ReadList => (&["list"], &["descriptions"]),
             Entry::Measure => (&["list", "sheet"], &[]),
+            Entry::MeasureRead => (&["descriptions", "sheet"], &[]),
             Entry::Encode => (&["list", "sheet"], &["rows", "offsets"]),
+            Entry::EncodeRead => (&["descriptions", "sheet"], &["rows", "offsets"]),
             Entry::Decode => (&["list", "rows", "offsets"], &["sheet"]),
+            Entry::DecodeRead => (&["descriptions", "rows", "offsets"], &["sheet"]),
             Entry::Join => (&["rows0", "offsets0", "rows1", "offsets1"], &["order"]),
             Entry::Compare => (&["a", "b"], &[]),
+        }
+    }
+
+    /// The entry that takes descriptions in place of the list, of one that takes a list.
+    pub fn read(self) -> Option<Entry> {
+        match self {
+            Entry::Measure => Some(Entry::MeasureRead),
+            Entry::Encode => Some(Entry::EncodeRead),
+            Entry::Decode => Some(Entry::DecodeRead),
+            _ => None,
+        }
+    }
+
+    /// The entry that takes a list in place of the descriptions, of one that takes these.
+    pub fn listed(self) -> Entry {
+        let with_list = ENTRIES.into_iter().find(|entry| entry.read() == Some(self));
+        with_list.unwrap_or(self)
+    }
+
+    /// The columns that the first slice says, of an entry that takes a list or descriptions.
+    fn columns(self, first: &[u8]) -> Checked<Vec<Column>> {
+        match self.listed() == self {
+            true => model::read_list(first),
+            false => model::read_descriptions(first),
         }
     }
 }
@@ -130,6 +175,11 @@ impl Call {
         Call::new(Entry::CheckList, 0, &[list], &[])
     }
 
+    /// The room is bytes.
+    pub fn read_list(list: &[u8], descriptions: usize) -> Call {
+        Call::new(Entry::ReadList, 0, &[list], &[descriptions])
+    }
+
     pub fn measure(list: &[u8], n: u64, sheet: &[u8]) -> Call {
         Call::new(Entry::Measure, n, &[list, sheet], &[])
     }
@@ -155,6 +205,23 @@ impl Call {
 
     pub fn compare(a: &[u8], b: &[u8]) -> Call {
         Call::new(Entry::Compare, 0, &[a, b], &[])
+    }
+
+    /// The same call with these descriptions in place of its list, if the entry takes a list.
+    pub fn under(&self, descriptions: &[u8]) -> Option<Call> {
+        let mut call = self.clone();
+        call.entry = self.entry.read()?;
+        call.given[0] = descriptions.to_vec();
+        Some(call)
+    }
+
+    /// The same call with the descriptions of its list, if the entry takes a list and it can be read.
+    pub fn read(&self) -> Option<Call> {
+        let columns = self
+            .entry
+            .read()
+            .and_then(|_| model::read_list(&self.given[0]).ok())?;
+        self.under(&descriptions_of(&columns))
     }
 
     pub fn answer(mut self, len: usize) -> Call {
@@ -183,20 +250,28 @@ impl Call {
                 let columns = model::read_list(given(0))?;
                 ([0, columns.len() as u64, 0, 0], vec![])
             }
-            Entry::Measure => {
-                let measured = model::measure(given(0), self.n, given(1))?;
+            Entry::ReadList => {
+                let columns = model::read_once(given(0), self.lent[0] / 4)?;
+                let written = vec![descriptions_of(&columns)];
+                ([0, columns.len() as u64, 0, 0], written)
+            }
+            Entry::Measure | Entry::MeasureRead => {
+                let columns = self.entry.columns(given(0))?;
+                let measured = model::measure_under(columns, self.n, given(1))?;
                 ([0, measured.total, measured.nulls, 0], vec![])
             }
-            Entry::Encode => {
-                let offset_room = self.lent[1] / 8;
-                let encoded = model::encode(given(0), self.n, given(1), self.lent[0], offset_room)?;
+            Entry::Encode | Entry::EncodeRead => {
+                let (columns, sheet) = (self.entry.columns(given(0))?, given(1));
+                let rooms = (self.lent[0], self.lent[1] / 8);
+                let encoded = model::encode_under(columns, self.n, sheet, rooms.0, rooms.1)?;
                 let total = encoded.rows.len() as u64;
                 let written = vec![encoded.rows, eights(&encoded.offsets)];
                 ([0, total, encoded.nulls, 0], written)
             }
-            Entry::Decode => {
-                let offsets = numbers(given(2));
-                let decoded = model::decode(given(0), self.n, given(1), &offsets, self.lent[0])?;
+            Entry::Decode | Entry::DecodeRead => {
+                let (columns, offsets) = (self.entry.columns(given(0))?, numbers(given(2)));
+                let (rows, room) = (given(1), self.lent[0]);
+                let decoded = model::decode_under(columns, self.n, rows, &offsets, room)?;
                 let total = decoded.sheet.len() as u64;
                 ([0, total, decoded.nulls, 0], vec![decoded.sheet])
             }
@@ -277,9 +352,9 @@ impl Call {
     /// The counts of rows that the entry takes, each with the slice that it stands in front of.
     fn counts(&self) -> Vec<(usize, u64)> {
         match self.entry {
-            Entry::CheckList | Entry::Compare => vec![],
-            Entry::Measure | Entry::Encode | Entry::Decode => vec![(1, self.n)],
+            Entry::CheckList | Entry::ReadList | Entry::Compare => vec![],
             Entry::Join => vec![(0, self.n), (2, self.n1)],
+            _ => vec![(1, self.n)],
         }
     }
 

@@ -56,12 +56,23 @@ impl Column {
     }
 
     /// The column's bytes in a list: kind, options, and for fixed binary the width.
-    pub fn description(&self) -> Vec<u8> {
+    pub fn spelled(&self) -> Vec<u8> {
         let mut bytes = vec![self.kind, self.options()];
         if self.kind == FIXED_BINARY {
             bytes.extend((self.width as u16).to_le_bytes());
         }
         bytes
+    }
+
+    /// The four bytes that stand for the column once its list was read: kind, options, and the width,
+    /// which is 0 unless the kind is fixed binary.
+    pub fn description(&self) -> [u8; 4] {
+        let width = match self.kind {
+            FIXED_BINARY => self.width as u16,
+            _ => 0,
+        };
+        let [low, high] = width.to_le_bytes();
+        [self.kind, self.options(), low, high]
     }
 }
 
@@ -75,6 +86,11 @@ pub fn known_options(kind: u8) -> u8 {
 
 /// The list of columns.
 pub fn list_of(columns: &[Column]) -> Vec<u8> {
+    columns.iter().flat_map(Column::spelled).collect()
+}
+
+/// The descriptions of columns.
+pub fn descriptions_of(columns: &[Column]) -> Vec<u8> {
     columns.iter().flat_map(Column::description).collect()
 }
 

@@ -49,6 +49,15 @@ impl Good {
         Call::decode(&self.list, self.n, &self.rows, &offsets, self.cleared)
     }
 
+    /// The list read once, and measure, encode and decode under what was read.
+    pub fn reads(&self) -> Vec<Call> {
+        let measure = Call::measure(&self.list, self.n, &self.sheet);
+        let calls = [measure, self.encode(), self.decode()];
+        let mut reads: Vec<Call> = calls.iter().filter_map(Call::read).collect();
+        reads.push(Call::read_list(&self.list, reads[0].given[0].len()));
+        reads
+    }
+
     /// Decode with other bytes in place of row r, and room for them.
     pub fn decode_with_row(&self, r: usize, row: &[u8]) -> Call {
         let (start, end) = (self.offsets[r] as usize, self.offsets[r + 1] as usize);
@@ -157,6 +166,23 @@ pub fn decode(rng: &mut Rng, good: &Good) -> Call {
             3 if rng.once_in(4) => call.answer = rng.below(48),
             4 | 5 => change_offsets(rng, &mut call.given[2]),
             _ => change(rng, &mut call.given[1]),
+        }
+    }
+    call
+}
+
+/// A call of an entry on descriptions or of the reading of a list, wrong in one way or more.
+pub fn read(rng: &mut Rng, good: &Good) -> Call {
+    let mut call = match rng.once_in(4) {
+        true => Call::read_list(&good.list, 4 * good.list.len()),
+        false if rng.once_in(2) => encode(rng, good),
+        false => decode(rng, good),
+    };
+    call = call.read().unwrap_or(call);
+    for _ in 0..rng.pick(&[0, 1, 1, 1, 2]) {
+        match rng.below(4) {
+            0 if !call.lent.is_empty() => call.lent[0] = change_room(rng, call.lent[0]),
+            _ => change(rng, &mut call.given[0]),
         }
     }
     call

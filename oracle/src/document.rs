@@ -177,7 +177,7 @@ fn hold_lengths(judge: &mut Judge) {
 }
 
 fn hold_refusals(judge: &mut Judge) {
-    let list = Column::new(VARIABLE, 2).description();
+    let list = Column::new(VARIABLE, 2).spelled();
     for (row, number, place) in DAMAGED {
         let offsets = eights(&[0, row.len() as u64]);
         let call = Call::decode(&list, 1, row, &offsets, 64);

@@ -1,6 +1,7 @@
 //! Calls with anything in them.
 
 use crate::call::{Call, Entry, ENTRIES};
+use crate::columns::descriptions_of;
 use crate::damage::{self, Good};
 use crate::joins;
 use crate::make;
@@ -24,6 +25,14 @@ fn some_list(rng: &mut Rng) -> Vec<u8> {
     match rng.once_in(4) {
         true => noise(rng),
         false => make::small_table(rng).list(),
+    }
+}
+
+/// Descriptions that may be good, whatever comes with them.
+fn some_descriptions(rng: &mut Rng) -> Vec<u8> {
+    match rng.once_in(4) {
+        true => noise(rng),
+        false => descriptions_of(&make::small_table(rng).columns),
     }
 }
 
@@ -56,11 +65,17 @@ fn noisy(rng: &mut Rng, entry: Entry) -> Call {
     let (room, other_room) = (rng.below(200), rng.below(200));
     match entry {
         Entry::CheckList => Call::check_list(&list),
+        Entry::ReadList => Call::read_list(&list, rng.below(40)),
         Entry::Measure => Call::measure(&list, n, &bytes),
         Entry::Encode => Call::encode(&list, n, &bytes, room, other_room),
         Entry::Decode => {
             let offsets = some_offsets(rng, bytes.len());
             Call::decode(&list, n, &bytes, &offsets, room)
+        }
+        Entry::MeasureRead | Entry::EncodeRead | Entry::DecodeRead => {
+            let listed = noisy(rng, entry.listed());
+            let descriptions = some_descriptions(rng);
+            listed.under(&descriptions).expect("an entry with a list")
         }
         Entry::Join => {
             let (n1, others) = (some_count(rng), noise(rng));
@@ -101,6 +116,12 @@ pub fn call_among(rng: &mut Rng, entries: &[Entry]) -> Call {
         Entry::Decode if !rng.once_in(4) => {
             let good = some_good(rng);
             damage::decode(rng, &good)
+        }
+        Entry::ReadList | Entry::MeasureRead | Entry::EncodeRead | Entry::DecodeRead
+            if !rng.once_in(4) =>
+        {
+            let good = some_good(rng);
+            damage::read(rng, &good)
         }
         Entry::Join if !rng.once_in(4) => {
             let good = joins::join(&joins::some_passes(rng));

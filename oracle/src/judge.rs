@@ -12,8 +12,10 @@ use crate::yard::Yard;
 use std::process::ExitCode;
 use std::time::{Duration, Instant};
 
-/// The numbers that an entry may answer with: 0, and refusals 1 to 24 and 26 to 28.
-const ANSWERS: usize = 29;
+/// The numbers that an entry may answer with: 0, and refusals 1 to 24 and 26 to 29.
+const ANSWERS: usize = 30;
+/// Of so many calls under a list that can be read, one is made again under its descriptions.
+const READ_AGAIN: u64 = 4;
 /// Pairs of rows that are compared in each table.
 const PAIRS: usize = 64;
 
@@ -29,6 +31,8 @@ struct Tally {
     short_answers: u64,
     null_calls: u64,
     refusals: u64,
+    /// Calls under a list, of which some are made again under its descriptions.
+    listed: u64,
 }
 
 /// An input that fails, with what was wrong when it was found.
@@ -82,8 +86,21 @@ impl Judge {
         }
     }
 
-    /// One call: the station must leave behind exactly what document 01 says.
+    /// One call: the station must leave behind exactly what document 01 says. Now and then it is made
+    /// again with the list read before.
     pub fn call(&mut self, call: Call) {
+        self.tally.listed += call.entry.read().is_some() as u64;
+        let again = match self.tally.listed % READ_AGAIN {
+            0 => call.read(),
+            _ => None,
+        };
+        self.call_as_is(call);
+        if let Some(again) = again {
+            self.call_as_is(again);
+        }
+    }
+
+    fn call_as_is(&mut self, call: Call) {
         if let Err(fault) = self.hold(&call) {
             self.failed(Failing::Call(call, fault));
         }
@@ -165,9 +182,25 @@ impl Judge {
         let offsets = [eights(offsets), junk(more)].concat();
         let sheet_room = table.cleared().sheet().len() + more;
         self.hold(&Call::check_list(&list))?;
-        self.hold(&Call::measure(&list, n, &sheet))?;
-        self.hold(&Call::encode(&list, n, &sheet, rows.len(), offsets.len()))?;
-        self.hold(&Call::decode(&list, n, &rows, &offsets, sheet_room))
+        self.hold(&Call::read_list(&list, 4 * table.columns.len() + more))?;
+        for call in [
+            Call::measure(&list, n, &sheet),
+            Call::encode(&list, n, &sheet, rows.len(), offsets.len()),
+            Call::decode(&list, n, &rows, &offsets, sheet_room),
+        ] {
+            self.hold(&call)?;
+            self.hold_read(&call)?;
+        }
+        Ok(())
+    }
+
+    /// The same call under the descriptions of its list: the same answer, and the same bytes.
+    fn hold_read(&mut self, call: &Call) -> Result<(), String> {
+        let read = call.read().ok_or("a list that cannot be read")?;
+        ensure(read.expected() == call.expected(), || {
+            "the model's two ways differ".to_string()
+        })?;
+        self.hold(&read)
     }
 
     /// Compare against the order of slices, and that against the order of values.
@@ -318,6 +351,12 @@ fn hold_bindings(table: &Table, rows: &[u8], offsets: &[u64]) -> Result<(), Stri
     let decoded = station::decode_to_vec(&list, n, rows, offsets).map_err(refused)?;
     ensure(decoded == cleared, || {
         format!("the station decodes to {}", hex_start(&decoded))
+    })?;
+    let columns = station::Columns::read(&list).map_err(refused)?;
+    let encoded = columns.encode_to_vec(n, &cleared).map_err(refused)?;
+    let decoded = columns.decode_to_vec(n, rows, offsets).map_err(refused)?;
+    ensure(encoded.bytes == rows && decoded == cleared, || {
+        "the bindings differ where the list was read before".to_string()
     })
 }
 

@@ -18,6 +18,7 @@ pub mod misreads;
 pub mod model;
 pub mod options;
 pub mod order;
+pub mod reads;
 pub mod record;
 pub mod refusals;
 pub mod rng;

@@ -255,7 +255,8 @@ fn any_columns(rng: &mut Rng, most: usize, tall: bool) -> Vec<Column> {
     (0..count).map(|_| any_column(rng, tall)).collect()
 }
 
-/// Any table: 1 to 16 columns, mostly few rows, now and then as many as there may be.
+/// Any table: 1 to 64 columns, mostly few rows, now and then as many as there may be, and then of at
+/// most 16 columns.
 pub fn any_table(rng: &mut Rng) -> Table {
     let rows = match rng.below(100) {
         0..=49 => rng.pick(&ROW_COUNTS),
@@ -263,7 +264,10 @@ pub fn any_table(rng: &mut Rng) -> Table {
         90..=98 => rng.below(300),
         _ => rng.pick(&FULL_ROW_COUNTS),
     };
-    let most = rng.pick(&[1, 3, 16]);
+    let most = match rows > 1000 {
+        true => rng.pick(&[1, 3, 16]),
+        false => rng.pick(&[1, 3, 3, 16, 16, 64]),
+    };
     let columns = any_columns(rng, most, rows > 40);
     table_of(rng, rows, columns)
 }

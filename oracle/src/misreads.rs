@@ -147,7 +147,7 @@ fn hold_misread(judge: &mut Judge, misread: &Misread) {
     let Misread { what, row, .. } = misread;
     let column = Column::new(misread.kind, NULLS_FIRST);
     let read = crate_reads(column, row);
-    let (list, offsets) = (column.description(), [0, row.len() as u64]);
+    let (list, offsets) = (column.spelled(), [0, row.len() as u64]);
     let station = station::decode(&list, 1, row, &offsets, &mut [0; 64]);
     let refused = station.map_err(|r| [r.number, r.second, r.third, r.place]);
     let as_said = read == misread.crate_reads && refused == Err(misread.refused);

@@ -1,5 +1,5 @@
 //! Document 01 as a plain program, written from the document: slow, and easy to hold against it. The
-//! join is document 02's.
+//! descriptions and the join are document 02's.
 
 use crate::columns::{
     value_bytes, Column, BOOL, DAY_TIME, FIXED_BINARY, FLOATS, I128, I256, KINDS, MONTH_DAY_NANO,
@@ -7,7 +7,7 @@ use crate::columns::{
 };
 use crate::table::{Slot, Table};
 
-pub const MAX_COLUMNS: usize = 16;
+pub const MAX_COLUMNS: usize = 64;
 pub const MAX_ROWS: u64 = 4096;
 pub const MAX_WIDTH: usize = 1024;
 pub const MAX_SLOT: usize = 65_535;
@@ -38,7 +38,7 @@ pub fn read_list(list: &[u8]) -> Checked<Vec<Column>> {
         refuse_if(columns.len() == MAX_COLUMNS, [5, place as u64, 0])?;
         let column = read_column(&list[place..]);
         let column = column.map_err(|number| [number, place as u64, 0, 0])?;
-        place += column.description().len();
+        place += column.spelled().len();
         columns.push(column);
     }
     Ok(columns)
@@ -53,25 +53,56 @@ fn read_column(list: &[u8]) -> Result<Column, u64> {
     if list.len() < if kind == FIXED_BINARY { 4 } else { 2 } {
         return Err(1);
     }
-    let options = list[1];
+    let width = match kind {
+        FIXED_BINARY => u16::from_le_bytes([list[2], list[3]]),
+        _ => 0,
+    };
+    column_of(kind, list[1], width)
+}
+
+/// The column of a known kind, the options and the width that is said: 3, 4. Only fixed binary has a
+/// width that is said.
+fn column_of(kind: u8, options: u8, width: u16) -> Result<Column, u64> {
     if options > if FLOATS.contains(&kind) { 15 } else { 7 } {
         return Err(3);
     }
-    let width = match kind {
-        FIXED_BINARY => u16::from_le_bytes([list[2], list[3]]) as usize,
-        _ => value_bytes(kind),
-    };
-    if width > MAX_WIDTH {
+    let most = if kind == FIXED_BINARY { MAX_WIDTH } else { 0 };
+    if width as usize > most {
         return Err(4);
     }
     Ok(Column {
         kind,
-        width,
+        width: match kind {
+            FIXED_BINARY => width as usize,
+            _ => value_bytes(kind),
+        },
         descending: options & 1 == 1,
         nulls_first: options & 2 == 2,
         required: options & 4 == 4,
         fold: options & 8 == 8,
     })
+}
+
+/// The descriptions of a list's columns: all list faults, then 29 (needed count, 0).
+pub fn read_once(list: &[u8], room: usize) -> Checked<Vec<Column>> {
+    let columns = read_list(list)?;
+    let count = columns.len();
+    refuse_if(room < count, [29, count as u64, 0])?;
+    Ok(columns)
+}
+
+/// The columns of descriptions, four bytes each; a shorter tail does not count. None lent is 1; then
+/// left to right 5, 2, 3, 4, as of the bytes of a list, with the index as place.
+pub fn read_descriptions(descriptions: &[u8]) -> Checked<Vec<Column>> {
+    refuse_if(descriptions.len() < 4, [1, 0, 0])?;
+    let mut columns = Vec::new();
+    for (i, four) in descriptions.chunks_exact(4).enumerate() {
+        refuse_if(i == MAX_COLUMNS, [5, i as u64, 0])?;
+        refuse_if(!KINDS.contains(&four[0]), [2, i as u64, 0])?;
+        let column = column_of(four[0], four[1], u16::from_le_bytes([four[2], four[3]]));
+        columns.push(column.map_err(|number| [number, i as u64, 0, 0])?);
+    }
+    Ok(columns)
 }
 
 // ---- the sheet
@@ -330,7 +361,11 @@ pub struct Measured<'a> {
 
 /// List, 6, sheet, 12.
 pub fn measure<'a>(list: &[u8], n: u64, sheet: &'a [u8]) -> Checked<Measured<'a>> {
-    let columns = read_list(list)?;
+    measure_under(read_list(list)?, n, sheet)
+}
+
+/// The same after the list.
+pub fn measure_under(columns: Vec<Column>, n: u64, sheet: &[u8]) -> Checked<Measured<'_>> {
     refuse_if(n > MAX_ROWS, [6, n, 0])?;
     let slots = read_sheet(&columns, n as usize, sheet)?;
     let (mut total, mut nulls) = (0, 0);
@@ -364,7 +399,18 @@ pub fn encode(
     row_room: usize,
     offset_room: usize,
 ) -> Checked<Encoded> {
-    let measured = measure(list, n, sheet)?;
+    encode_under(read_list(list)?, n, sheet, row_room, offset_room)
+}
+
+/// The same after the list.
+pub fn encode_under(
+    columns: Vec<Column>,
+    n: u64,
+    sheet: &[u8],
+    row_room: usize,
+    offset_room: usize,
+) -> Checked<Encoded> {
+    let measured = measure_under(columns, n, sheet)?;
     let total = measured.total;
     refuse_if((row_room as u64) < total, [13, total, 0])?;
     refuse_if((offset_room as u64) < n + 1, [14, n + 1, 0])?;
@@ -540,7 +586,17 @@ pub fn decode(
     offsets: &[u64],
     sheet_room: usize,
 ) -> Checked<Decoded> {
-    let columns = read_list(list)?;
+    decode_under(read_list(list)?, n, rows, offsets, sheet_room)
+}
+
+/// The same after the list.
+pub fn decode_under(
+    columns: Vec<Column>,
+    n: u64,
+    rows: &[u8],
+    offsets: &[u64],
+    sheet_room: usize,
+) -> Checked<Decoded> {
     refuse_if(n > MAX_ROWS, [6, n, 0])?;
     let n = n as usize;
     check_offsets(n, rows, offsets)?;
@@ -597,6 +653,7 @@ pub fn join(first: Pass, second: Pass, room: usize) -> Checked<Vec<u64>> {
 #[cfg(test)]
 mod tests {
     use super::*;
+    use crate::columns::descriptions_of;
 
     /// The numbers of a refusal of a row's content.
     fn refused_row<T>(answer: Checked<T>) -> Numbers {
@@ -623,13 +680,39 @@ mod tests {
         assert_eq!(refused(read_list(&[10, 8, 11, 16])), [3, 2, 0]);
         assert_eq!(refused(read_list(&[15, 0, 1, 4])), [4, 0, 0]);
         assert_eq!(
-            refused(read_list(&[&[1, 0].repeat(16)[..], &[99]].concat())),
-            [5, 32, 0]
+            refused(read_list(&[&[1, 0].repeat(64)[..], &[99]].concat())),
+            [5, 128, 0]
         );
         assert_eq!(
             read_list(&[15, 0, 0, 4]).map(|columns| columns[0].width),
             Ok(1024)
         );
+    }
+
+    #[test]
+    fn a_list_is_read_once() {
+        let columns = read_once(&[12, 15, 15, 3, 0, 4, 16, 1], 3).unwrap();
+        let four: [[u8; 4]; 3] = [[12, 15, 0, 0], [15, 3, 0, 4], [16, 1, 0, 0]];
+        assert_eq!(descriptions_of(&columns), four.concat());
+        assert_eq!(read_descriptions(&four.concat()), Ok(columns));
+        assert_eq!(refused(read_once(&[1, 0, 1, 0], 1)), [29, 2, 0]);
+        assert_eq!(refused(read_once(&[1, 0, 19, 0], 0)), [2, 2, 0]);
+    }
+
+    #[test]
+    fn descriptions_are_judged_by_their_index() {
+        let after = |more: [u8; 4]| refused(read_descriptions(&[[1, 0, 0, 0], more].concat()));
+        assert_eq!(refused(read_descriptions(&[1, 0, 0])), [1, 0, 0]);
+        assert_eq!(after([0, 8, 1, 0]), [2, 1, 0]);
+        assert_eq!(after([19, 0, 0, 0]), [2, 1, 0]);
+        assert_eq!(after([9, 8, 1, 0]), [3, 1, 0]);
+        assert_eq!(after([12, 16, 0, 0]), [3, 1, 0]);
+        assert_eq!(after([15, 0, 1, 4]), [4, 1, 0]);
+        assert_eq!(after([16, 0, 0, 1]), [4, 1, 0]);
+        assert_eq!(after([4, 0, 4, 0]), [4, 1, 0]);
+        let many = [[1, 0, 0, 0].repeat(64), vec![99; 4]].concat();
+        assert_eq!(refused(read_descriptions(&many)), [5, 64, 0]);
+        assert_eq!(read_descriptions(&many[..259]).map(|c| c.len()), Ok(64));
     }
 
     #[test]

@@ -8,9 +8,10 @@ use crate::document::one_slot_each;
 use crate::joins::join;
 use crate::judge::Judge;
 use crate::make::{self, Nulls};
+use crate::model::MAX_COLUMNS;
 use crate::rng::Rng;
 
-/// Every list of up to two bytes; every fault at every column up to the eighteenth; every cut.
+/// Every list of up to two bytes; every fault at every column up to the sixty-seventh; every cut.
 pub fn lists(judge: &mut Judge) {
     judge.call(Call::check_list(&[]));
     for a in 0..=255 {
@@ -33,7 +34,7 @@ pub fn lists(judge: &mut Judge) {
         &[FIXED_BINARY, 3, 0xFF, 0xFF],
         &[VARIABLE, 3],
     ];
-    for before in 0..18 {
+    for before in 0..=MAX_COLUMNS + 2 {
         for fault in faults {
             let good = [1, 0].repeat(before);
             let wide = [FIXED_BINARY, 3, 9, 0].repeat(before);
@@ -205,6 +206,8 @@ pub fn rooms(judge: &mut Judge, rng: &mut Rng) {
             judge.call(Call::measure(&good.list, good.n, &good.sheet).answer(answer));
             judge.call(good.encode().answer(answer));
             judge.call(good.decode().answer(answer));
+            let reads = good.reads().into_iter();
+            reads.for_each(|call| judge.call(call.answer(answer)));
         }
         for n in [4096, 4097, u64::MAX] {
             judge.call(Call::measure(&good.list, n, &good.sheet));
@@ -224,6 +227,7 @@ pub fn empty(judge: &mut Judge) {
         Call::measure(&good.list, good.n, &good.sheet),
         good.encode(),
         good.decode(),
+        Call::read_list(&good.list, 4),
         join(&[vec![b"a".to_vec(), b"b".to_vec()], vec![b"a".to_vec()]]),
         Call::compare(good.row(0), good.row(1)),
         // No rows: nothing is refused, though slices are empty.
@@ -235,7 +239,9 @@ pub fn empty(judge: &mut Judge) {
         join(&[vec![], vec![]]),
         join(&[vec![vec![]], vec![vec![]; 2]]),
     ];
-    for call in calls {
+    let read = calls.iter().filter_map(Call::read);
+    let read: Vec<Call> = read.collect();
+    for call in calls.into_iter().chain(read) {
         let slices = call.given.len() + call.lent.len() + 1;
         for choice in 0..1 << slices {
             judge.call(emptied(&call, choice));

@@ -14,7 +14,7 @@ use std::collections::BTreeMap;
 
 /// Calls to choose from.
 const CALLS: usize = 400_000;
-/// The entries that these are of: the program `vectors` has no line for a join.
+/// The entries that these are of: the program `vectors` has no line for the others.
 const RECORDED: [Entry; 5] = [
     Entry::CheckList,
     Entry::Measure,
@@ -43,7 +43,8 @@ pub fn cases(rng: &mut Rng) -> Vec<Case> {
 }
 
 /// Every kind and option, with nulls and without; every boundary length and option; every pattern of
-/// nulls at every small row count; slices; the widest fixed binary; one to sixteen columns.
+/// nulls at every small row count; slices; the widest fixed binary; one to sixteen columns, and as
+/// many as there may be.
 fn tables(rng: &mut Rng) -> Vec<Table> {
     let mut tables = Vec::new();
     for options in make::OPTIONS {
@@ -89,14 +90,14 @@ fn tables(rng: &mut Rng) -> Vec<Table> {
         let column = Column::fixed_binary(model::MAX_WIDTH, 1);
         tables.push(make::one_column(rng, column, 1, nulls, &[]));
     }
-    for count in 1..=16 {
+    for count in (1..=16).chain([32, 51, 63, 64]) {
         let columns = make::columns_from(count, count as usize, count % 16);
         tables.push(make::table_with(rng, 2, columns, Nulls::Random, &[0, 1, 9]));
     }
     tables
 }
 
-/// Every fault of a list at the first, the second, the sixteenth and the seventeenth column.
+/// Every fault of a list at the first, the second, the sixty-fourth and the sixty-fifth column.
 fn lists() -> Vec<Call> {
     let faults: [&[u8]; 9] = [
         &[0, 0],
@@ -110,7 +111,7 @@ fn lists() -> Vec<Call> {
         &[FIXED_BINARY, 3, 0xFF, 0xFF],
     ];
     let mut calls = vec![Call::encode(&[], 0, &[], 0, 8)];
-    for before in [0, 1, 15, 16] {
+    for before in [0, 1, model::MAX_COLUMNS - 1, model::MAX_COLUMNS] {
         for fault in faults {
             let list = [&[1, 0].repeat(before), fault].concat();
             calls.push(Call::encode(&list, 0, &[], 0, 8));

@@ -5,7 +5,7 @@ use crate::columns::{Column, BOOL, VARIABLE};
 use crate::document::one_slot_each;
 use crate::judge::Judge;
 use crate::make::{self, Nulls};
-use crate::model::{MAX_ROWS, MAX_TOTAL};
+use crate::model::{MAX_COLUMNS, MAX_ROWS, MAX_TOTAL};
 use crate::rng::Rng;
 use crate::table::Table;
 
@@ -72,9 +72,9 @@ pub fn halves(judge: &mut Judge) {
     }
 }
 
-/// Tables of one to sixteen kinds together, then random ones.
+/// Tables of one to sixty-four columns, then random ones.
 pub fn tables(judge: &mut Judge, rng: &mut Rng, count: usize) {
-    for count in 1..=16 {
+    for count in 1..=MAX_COLUMNS as u8 {
         let columns = make::columns_from(count, count as usize, count % 16);
         judge.table(&make::table_of(rng, 17, columns));
     }
@@ -84,13 +84,13 @@ pub fn tables(judge: &mut Judge, rng: &mut Rng, count: usize) {
     }
 }
 
-/// As many rows as there may be, of sixteen kinds together, and of all in two tables: what every entry takes of its stack then is
-/// seen in the end ([`crate::stack`]).
+/// As many rows as there may be, of sixteen kinds together and of all in two tables, and of as many columns as there may be: what
+/// every entry takes of its stack then is seen in the end ([`crate::stack`]).
 pub fn full(judge: &mut Judge, rng: &mut Rng) {
     for options in [0, 7, 9, 14] {
         judge.progress("4,096 rows", options as usize, 16);
-        for first in [1, 3] {
-            let columns = make::columns_from(first, 16, options);
+        for (first, count) in [(1, 16), (3, 16), (1, MAX_COLUMNS)] {
+            let columns = make::columns_from(first, count, options);
             judge.table(&make::table_of(rng, MAX_ROWS as usize, columns));
         }
     }
@@ -104,7 +104,7 @@ pub fn ceiling(judge: &mut Judge, rng: &mut Rng) {
     let (list, n, sheet) = (over.list(), over.rows as u64, over.sheet());
     judge.call(Call::measure(&list, n, &sheet));
     judge.call(Call::encode(&list, n, &sheet, MAX_TOTAL as usize + 1, 0));
-    let list = Column::new(BOOL, 0).description();
+    let list = Column::new(BOOL, 0).spelled();
     for total in [MAX_TOTAL, MAX_TOTAL + 1] {
         let rows = vec![0; total as usize];
         judge.call(Call::decode(&list, 1, &rows, &eights(&[0, total]), 2));

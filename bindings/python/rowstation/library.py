@@ -39,9 +39,13 @@ _NUMBER = (ctypes.c_uint64,)
 ENTRIES = {
     "station_version": (ctypes.c_uint64, ()),
     "station_check_list": (None, _SLICE * 2),
+    "station_read_list": (None, _SLICE * 3),
     "station_measure": (None, _SLICE + _NUMBER + _SLICE * 2),
+    "station_measure_read": (None, _SLICE + _NUMBER + _SLICE * 2),
     "station_encode": (None, _SLICE + _NUMBER + _SLICE * 4),
+    "station_encode_read": (None, _SLICE + _NUMBER + _SLICE * 4),
     "station_decode": (None, _SLICE + _NUMBER + _SLICE * 4),
+    "station_decode_read": (None, _SLICE + _NUMBER + _SLICE * 4),
     "station_join": (None, (_NUMBER + _SLICE * 2) * 2 + _SLICE * 2),
     "station_compare": (ctypes.c_int32, _SLICE * 2),
 }

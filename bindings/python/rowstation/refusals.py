@@ -19,11 +19,11 @@ class Reason(NamedTuple):
 
 #: Number of a refusal -> what it means. The words are a format in ``second``, ``third`` and ``fourth``.
 REASONS = {
-    1: Reason("the list is empty or cut in the column at byte {second}", "place"),
-    2: Reason("unknown kind at byte {second} of the list", "place"),
-    3: Reason("option bits unknown, or not for this kind, in the column at byte {second} of the list", "place"),
-    4: Reason("a width over 1,024 in the column at byte {second} of the list", "place"),
-    5: Reason("a 17th column begins at byte {second} of the list", "place"),
+    1: Reason("the list is empty or cut in the column at place {second}", "place"),
+    2: Reason("unknown kind at place {second} of the list", "place"),
+    3: Reason("option bits unknown, or not for this kind, in the column at place {second} of the list", "place"),
+    4: Reason("a width over 1,024, or outside fixed binary, in the column at place {second} of the list", "place"),
+    5: Reason("a 65th column begins at place {second} of the list", "place"),
     6: Reason("{second} rows, over 4,096", "rows"),
     7: Reason("column {second} of the sheet is cut", "column"),
     8: Reason("a spare bit is set in column {second}", "column"),
@@ -46,6 +46,7 @@ REASONS = {
     26: Reason("pass {second} is out of order: row {third} is below the row before it", "pass", "row"),
     27: Reason("column {second} is required, and null in row {third}", "column", "row"),
     28: Reason("row {second}, column {third}, byte {fourth}: the float is not folded", "row", "column", "byte"),
+    29: Reason("the list of descriptions is too short for {second} columns", "columns"),
 }
 
 #: Answers that this package acts on itself.

@@ -344,7 +344,7 @@ def encode(schema: Schema, columns: Any) -> Rows:
         offsets = np.empty(end - start + 1, "<u8")
         lent = sheet(schema, prepared, start, end)
         try:
-            total, *_ = library.answer("station_encode", schema.lent, end - start, lent, room, offsets)
+            total, *_ = library.answer("station_encode_read", schema.read, end - start, lent, room, offsets)
         except Refused as refusal:
             if refusal.number != TOO_MANY_BYTES or end - start == 1:
                 raise refusal.moved(start) from None
@@ -391,7 +391,7 @@ def decode(schema: Schema, rows: Union[Rows, Iterable[bytes]]) -> Dict[str, Valu
         offsets = rows.offsets[start : end + 1]
         lent = rows.data[offsets[0] : offsets[-1]]
         try:
-            total, *_ = library.answer("station_decode", schema.lent, end - start, lent, offsets - offsets[0], room)
+            total, *_ = library.answer("station_decode_read", schema.read, end - start, lent, offsets - offsets[0], room)
         except Refused as refusal:
             if refusal.number != SHEET_ROOM:
                 raise refusal.moved(start) from None

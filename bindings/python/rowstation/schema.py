@@ -121,7 +121,7 @@ class Schema:
     ValueError: column plate: there is no kind 'u33'; the kinds are bool, i8, ...
     >>> Schema("hash:fixed:1025")
     Traceback (most recent call last):
-    rowstation.refusals.Refused: refused 4 0 0 0: a width over 1,024 in the column at byte 0 of the list
+    rowstation.refusals.Refused: refused 4 0 0 0: a width over 1,024, or outside fixed binary, in the column at place 0 of the list
     """
 
     def __init__(self, columns: Union[str, Iterable[Union[Column, Given]]]) -> None:
@@ -134,8 +134,9 @@ class Schema:
                 raise ValueError(f"two columns have the name {name}")
         #: The column list of the station.
         self.list: bytes = b"".join(column.description for column in self.columns)
-        self.lent = np.frombuffer(self.list, np.uint8)
-        library.answer("station_check_list", self.lent)
+        #: What the station read from the list, once: four bytes a column, for every batch of rows.
+        self.read = np.zeros((len(self.columns), 4), np.uint8)
+        library.answer("station_read_list", np.frombuffer(self.list, np.uint8), self.read)
 
     def first(self, k: int) -> Schema:
         """The schema of the first k columns. The bytes of a row's first k fields are the row of the same values under it.

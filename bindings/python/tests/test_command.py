@@ -344,7 +344,7 @@ class BadInput(Typed):
             ("no/out.hex: cannot be written: No such file or directory", "encode", "a.csv", "-o", "no/out.hex"),
             ("--columns: column plate: there is no kind 'u33'; the kinds are " + ", ".join(station.KINDS),
              "encode", "a.csv", "--columns", "plate:u33"),
-            ("--columns: refused 4 0 0 0: a width over 1,024 in the column at byte 0 of the list", "encode", "a.csv", "--columns", "h:fixed:2000"),
+            ("--columns: refused 4 0 0 0: a width over 1,024, or outside fixed binary, in the column at place 0 of the list", "encode", "a.csv", "--columns", "h:fixed:2000"),
             ("--quantise position: it is NAME=STEP, as position=0.01", "dust", "a.csv", "b.csv", "--quantise", "position"),
             ("--quantise position=-1: it is NAME=STEP, as position=0.01", "dust", "a.csv", "b.csv", "--quantise", "position=-1"),
             ("--quantise plate=2: column plate is u32, and only floats are quantised", "dust", "a.csv", "b.csv", "--quantise", "plate=2"),

@@ -134,6 +134,25 @@ class Batches(unittest.TestCase):
             station.decode(schema, [b"\0" * 5 + b"\1"])
         self.assertEqual(caught.exception.numbers, (17, 0, 0, 0))
 
+    def test_the_list_is_read_once(self):
+        with mock.patch.object(library, "answer", wraps=library.answer) as answer:
+            schema = station.Schema("contour:u8,hash:fixed:3:descending,glyph:text:nulls_last,position:f64:fold")
+            rows = station.encode(schema, [[1] * 9000, [b"abc"] * 9000, ["a"] * 9000, [-0.0] * 9000])
+            rows.decode()
+        entries = [call.args[0] for call in answer.mock_calls]
+        self.assertEqual(entries[:4], ["station_read_list"] + ["station_encode_read"] * 3)
+        self.assertEqual(set(entries[4:]), {"station_decode_read"})
+        self.assertEqual(schema.read.tobytes().hex(" ", -4), "06020000 0f030300 10000000 0c0a0000")
+
+    def test_sixty_four_columns(self):
+        columns = [[i, None] for i in range(64)]
+        schema = station.Schema([(f"c{i}", "u8") for i in range(64)])
+        decoded = station.encode(schema, columns).decode()
+        self.assertEqual([decoded[name].tolist() for name in schema.names], columns)
+        with self.assertRaises(station.Refused) as caught:
+            station.Schema([(f"c{i}", "u8") for i in range(65)])
+        self.assertEqual(caught.exception.numbers, (5, 128, 0, 0))
+
     def test_bytes_beyond_any_sheet(self):
         schema = station.Schema("a:bytes")
         data = np.zeros(1, np.uint8)

@@ -25,8 +25,10 @@
 #[cfg(not(all(target_arch = "x86_64", target_endian = "little")))]
 compile_error!("the station's archive is made for x86-64");
 
+mod columns;
 mod refusal;
 
+pub use columns::{Columns, Description};
 pub use refusal::Refusal;
 use std::cmp::Ordering;
 
@@ -46,10 +48,29 @@ pub mod raw {
             answer: *mut u8,
             answer_len: usize,
         );
+        /// Writes the descriptions of a list's columns.
+        pub fn station_read_list(
+            list: *const u8,
+            list_len: usize,
+            descriptions: *mut u8,
+            descriptions_len: usize,
+            answer: *mut u8,
+            answer_len: usize,
+        );
         /// Checks list and sheet and counts the bytes of the rows.
         pub fn station_measure(
             list: *const u8,
             list_len: usize,
+            n: u64,
+            sheet: *const u8,
+            sheet_len: usize,
+            answer: *mut u8,
+            answer_len: usize,
+        );
+        /// The same under descriptions.
+        pub fn station_measure_read(
+            descriptions: *const u8,
+            descriptions_len: usize,
             n: u64,
             sheet: *const u8,
             sheet_len: usize,
@@ -70,10 +91,38 @@ pub mod raw {
             answer: *mut u8,
             answer_len: usize,
         );
+        /// The same under descriptions.
+        pub fn station_encode_read(
+            descriptions: *const u8,
+            descriptions_len: usize,
+            n: u64,
+            sheet: *const u8,
+            sheet_len: usize,
+            rows: *mut u8,
+            rows_len: usize,
+            offsets: *mut u8,
+            offsets_len: usize,
+            answer: *mut u8,
+            answer_len: usize,
+        );
         /// Writes the cleared sheet of rows.
         pub fn station_decode(
             list: *const u8,
             list_len: usize,
+            n: u64,
+            rows: *const u8,
+            rows_len: usize,
+            offsets: *const u8,
+            offsets_len: usize,
+            sheet: *mut u8,
+            sheet_len: usize,
+            answer: *mut u8,
+            answer_len: usize,
+        );
+        /// The same under descriptions.
+        pub fn station_decode_read(
+            descriptions: *const u8,
+            descriptions_len: usize,
             n: u64,
             rows: *const u8,
             rows_len: usize,
@@ -170,10 +219,10 @@ pub const ANSWER_BYTES: usize = 32;
 /// What an entry counted when it did what was asked.
 #[derive(Clone, Copy, Debug, PartialEq, Eq)]
 pub struct Done {
-    /// Columns ([`check_list`]), row bytes ([`measure`], [`encode`]), sheet bytes ([`decode`]) or
-    /// entries ([`join`]).
+    /// Columns ([`check_list`], [`read_list`]), row bytes ([`measure`], [`encode`]), sheet bytes
+    /// ([`decode`]) or entries ([`join`]).
     pub total: u64,
-    /// The null slots of all rows and columns; 0 from [`check_list`] and [`join`].
+    /// The null slots of all rows and columns; 0 where the total is columns or entries.
     pub nulls: u64,
 }
 
@@ -224,13 +273,41 @@ impl Rows {
 ///
 /// let refusal = station::check_list(&[8, 2, 99, 0]).unwrap_err();
 /// assert_eq!((refusal.number, refusal.second), (2, 2));
-/// assert_eq!(refusal.to_string(), "refused 2 2 0 0: unknown kind at byte 2 of the list");
+/// assert_eq!(refusal.to_string(), "refused 2 2 0 0: unknown kind at place 2 of the list");
 /// # Ok::<(), station::Refusal>(())
 /// ```
 pub fn check_list(list: &[u8]) -> Answer {
     // SAFETY: each pointer comes with the length of its slice, and the answer is borrowed alone.
     answered(|a| unsafe {
         raw::station_check_list(list.as_ptr(), list.len(), a.as_mut_ptr(), a.len())
+    })
+}
+
+/// Checks a column list and writes a description of each column to the front of `descriptions`;
+/// `total` is the column count, and what is past so many stays. [`Columns`] is the same in one step.
+///
+/// ```
+/// use station::Description;
+/// // u32, then fixed binary of three bytes.
+/// let mut read = [Description::default(); 3];
+/// assert_eq!(station::read_list(&[8, 2, 15, 2, 3, 0], &mut read)?.total, 2);
+/// assert_eq!((read[1].kind, read[1].options, read[1].width()), (15, 2, 3));
+///
+/// let refusal = station::read_list(&[8, 2, 16, 2], &mut read[..1]).unwrap_err();
+/// assert_eq!((refusal.number, refusal.second), (29, 2));
+/// # Ok::<(), station::Refusal>(())
+/// ```
+pub fn read_list(list: &[u8], descriptions: &mut [Description]) -> Answer {
+    // SAFETY: as in `check_list`; a description is its four bytes, and any four make one.
+    answered(|a| unsafe {
+        raw::station_read_list(
+            list.as_ptr(),
+            list.len(),
+            descriptions.as_mut_ptr().cast(),
+            size_of_val(descriptions),
+            a.as_mut_ptr(),
+            a.len(),
+        )
     })
 }
 
@@ -406,10 +483,21 @@ pub fn version() -> u64 {
 /// [`encode`] into buffers of exactly the right size.
 pub fn encode_to_vec(list: &[u8], n: u64, sheet: &[u8]) -> Result<Rows, Refusal> {
     let need = measure(list, n, sheet)?;
+    encoded(need, n, |rows, offsets| {
+        encode(list, n, sheet, rows, offsets)
+    })
+}
+
+/// The rows that `encode` writes into buffers of the size that was measured for n rows.
+fn encoded(
+    need: Done,
+    n: u64,
+    encode: impl FnOnce(&mut [u8], &mut [u64]) -> Answer,
+) -> Result<Rows, Refusal> {
     // Measured, so n is at most 4,096 and the total at most 16,777,216.
     let mut bytes = vec![0; need.total as usize];
     let mut offsets = vec![0; n as usize + 1];
-    let nulls = encode(list, n, sheet, &mut bytes, &mut offsets)?.nulls;
+    let nulls = encode(&mut bytes, &mut offsets)?.nulls;
     Ok(Rows {
         bytes,
         offsets,
@@ -424,13 +512,18 @@ pub fn decode_to_vec(
     rows: &[u8],
     offsets: &[u64],
 ) -> Result<Vec<u8>, Refusal> {
+    decoded(|sheet| decode(list, n, rows, offsets, sheet))
+}
+
+/// The sheet that `decode` writes into a buffer of exactly the right size.
+fn decoded(decode: impl Fn(&mut [u8]) -> Answer) -> Result<Vec<u8>, Refusal> {
     // With no room at all the station answers how many bytes it needs, or that none are needed.
-    let mut sheet = match decode(list, n, rows, offsets, &mut []) {
+    let mut sheet = match decode(&mut []) {
         Err(refusal) if refusal.number == Refusal::SHEET_ROOM => vec![0; refusal.second as usize],
         Err(refusal) => return Err(refusal),
         Ok(_) => return Ok(Vec::new()),
     };
-    decode(list, n, rows, offsets, &mut sheet)?;
+    decode(&mut sheet)?;
     Ok(sheet)
 }
 

@@ -5,11 +5,11 @@ use std::fmt;
 
 /// Why an entry did nothing: the number of the reason, and three numbers that say where.
 ///
-/// Rows, columns and places count from 0; a place is a byte's. `Display` gives the four numbers
-/// and what they mean.
+/// Rows, columns and places count from 0. A place is a byte's, and in descriptions a column's.
+/// `Display` gives the four numbers and what they mean.
 #[derive(Clone, Copy, Debug, PartialEq, Eq, Hash)]
 pub struct Refusal {
-    /// The reason, 1 to 24 or 26 to 28.
+    /// The reason, 1 to 24 or 26 to 29.
     pub number: u64,
     /// The first number that goes with it.
     pub second: u64,
@@ -39,17 +39,17 @@ impl fmt::Display for Refusal {
         } = *self;
         write!(f, "refused {number} {a} {b} {place}: ")?;
         match number {
-            1 => write!(f, "the list is empty or cut in the column at byte {a}"),
-            2 => write!(f, "unknown kind at byte {a} of the list"),
+            1 => write!(f, "the list is empty or cut in the column at place {a}"),
+            2 => write!(f, "unknown kind at place {a} of the list"),
             3 => write!(
                 f,
-                "option bits unknown, or not for this kind, in the column at byte {a} of the list"
+                "option bits unknown, or not for this kind, in the column at place {a} of the list"
             ),
             4 => write!(
                 f,
-                "a width over 1,024 in the column at byte {a} of the list"
+                "a width over 1,024, or outside fixed binary, in the column at place {a} of the list"
             ),
-            5 => write!(f, "a 17th column begins at byte {a} of the list"),
+            5 => write!(f, "a 65th column begins at place {a} of the list"),
             6 => write!(f, "{a} rows, over 4,096"),
             7 => write!(f, "column {a} of the sheet is cut"),
             8 => write!(f, "a spare bit is set in column {a}"),
@@ -75,6 +75,7 @@ impl fmt::Display for Refusal {
                 "pass {a} is out of order: row {b} is below the row before it"
             ),
             27 => write!(f, "column {a} is required, and null in row {b}"),
+            29 => write!(f, "the list of descriptions is too short for {a} columns"),
             _ => write!(
                 f,
                 "row {a}, column {b}, byte {place}: {}",

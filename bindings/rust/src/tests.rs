@@ -28,7 +28,8 @@ fn a_list_is_counted_or_refused() {
     assert_eq!(check_list(&[1, 0, 15, 3, 0, 4]), Ok(two));
     assert_eq!(check_list(&[]), refused(1, 0, 0));
     assert_eq!(check_list(&[1, 0, 15, 3, 1, 4]), refused(4, 2, 0));
-    assert_eq!(check_list(&[1, 0].repeat(17)), refused(5, 32, 0));
+    assert_eq!(check_list(&[1, 0].repeat(64)).unwrap().total, 64);
+    assert_eq!(check_list(&[1, 0].repeat(65)), refused(5, 128, 0));
 }
 
 #[test]
@@ -142,8 +143,58 @@ fn floats_are_folded() {
 }
 
 #[test]
+fn a_list_is_read_once() {
+    let list = [1, 2, 15, 3, 9, 0, 12, 15];
+    let mut read = [Description::new(99, 99, 99); 4];
+    assert_eq!(read_list(&list, &mut read[..2]), refused(29, 3, 0));
+    assert_eq!(read_list(&[1, 2, 19], &mut read[..0]), refused(2, 2, 0));
+    assert_eq!(read, [Description::new(99, 99, 99); 4]);
+    assert_eq!(read_list(&list, &mut read), Ok(Done { total: 3, nulls: 0 }));
+    let columns = [(1, 2, 0), (15, 3, 9), (12, 15, 0), (99, 99, 99)];
+    assert_eq!(read, columns.map(|(k, o, w)| Description::new(k, o, w)));
+    assert_eq!(Columns::read(&list).unwrap().descriptions(), &read[..3]);
+}
+
+#[test]
+fn both_ways_answer_and_write_alike() {
+    let columns = Columns::read(&NAMES).unwrap();
+    let rows = encode_to_vec(&NAMES, 2, &A_AND_NULL).unwrap();
+    assert_eq!(columns.encode_to_vec(2, &A_AND_NULL), Ok(rows.clone()));
+    let back = columns.decode_to_vec(2, &rows.bytes, &rows.offsets);
+    assert_eq!(back, Ok(A_AND_NULL.to_vec()));
+    assert_eq!(columns.measure(2, &[]), measure(&NAMES, 2, &[]));
+    let widest = [1, 0].repeat(64);
+    let columns = Columns::read(&widest).unwrap();
+    assert_eq!((columns.len(), columns.is_empty()), (64, false));
+    let sheet = [1; 128];
+    assert_eq!(
+        columns.encode_to_vec(1, &sheet),
+        encode_to_vec(&widest, 1, &sheet)
+    );
+}
+
+#[test]
+fn what_no_reading_makes_is_refused_by_its_index() {
+    let under = |columns: &[(u8, u8, u16)]| {
+        let columns = columns.iter().map(|&(k, o, w)| Description::new(k, o, w));
+        Columns::of(columns.collect()).measure(4097, &[])
+    };
+    let good = (6, 0, 0);
+    assert_eq!(under(&[]), refused(1, 0, 0));
+    assert_eq!(under(&[good, (0, 99, 99)]), refused(2, 1, 0));
+    assert_eq!(under(&[good, (19, 0, 0)]), refused(2, 1, 0));
+    assert_eq!(under(&[good, good, (6, 8, 1)]), refused(3, 2, 0));
+    assert_eq!(under(&[(12, 16, 0)]), refused(3, 0, 0));
+    assert_eq!(under(&[good, (15, 0, 1025)]), refused(4, 1, 0));
+    assert_eq!(under(&[good, (16, 0, 1)]), refused(4, 1, 0));
+    assert_eq!(under(&[good, (15, 0, 1024)]), refused(6, 4097, 0));
+    assert_eq!(under(&[good; 64]), refused(6, 4097, 0));
+    assert_eq!(under(&[good; 65]), refused(5, 64, 0));
+}
+
+#[test]
 fn every_reason_reads_well() {
-    for number in (1..=24).chain([27, 28]) {
+    for number in (1..=24).chain(27..=29) {
         let text = refused_at(number, 5, 6, 7).unwrap_err().to_string();
         assert!(text.starts_with(&format!("refused {number} 5 6 7: ")));
         assert!(!text.contains("unknown reason"), "{text}");
@@ -177,6 +228,12 @@ fn null_pointers_are_empty_slices() {
             raw::station_decode(none, 0, 0, none, 0, none, 0, nowhere, 0, answer, len)
         });
         assert_eq!(decoded, empty_list);
+        let read =
+            answered(|a| raw::station_read_list(none, 0, nowhere, 0, a.as_mut_ptr(), a.len()));
+        assert_eq!(read, empty_list);
+        let measured =
+            answered(|a| raw::station_measure_read(none, 0, 0, none, 0, a.as_mut_ptr(), a.len()));
+        assert_eq!(measured, empty_list);
         assert_eq!(raw::station_compare(none, 0, none, 0), 0);
     }
 }

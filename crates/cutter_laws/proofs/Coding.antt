@@ -1,35 +1,32 @@
 -- What is written of a row cutter's state is read back: numbers of eight bytes, columns of four, and a refusal of four numbers. Assumes
 -- nothing.
-use Prim.Native.Nat.{ℕ, suc, _+_, _*_, _/_, _^_, _<_, _≤_}
-use mathlib.Core.Path.{_≡_, refl, ap, ap₂, sym, subst, _∙_}
+use Prim.Native.Nat.{ℕ, suc, _+_, _*_, _/_, _^_, _<_}
+use mathlib.Core.Path.{_≡_, refl, ap, ap₂, sym, _∙_}
 use mathlib.Core.Bool.{Bool, true, false, cond, _&&_, _||_, false≢true}
 use mathlib.Core.List.{List, [], _∷_, _++_, map, append-nil}
 use native.Mathlib.Nat.{mul-comm, add-zero, mul-div-cancel-left}
 use native.Mathlib.Omega.{arith}
 use lib.Dec.{ltb, leb, eqb, lit<}
-use lib.ListN.{length, getD, take, drop, length-append, length-map, List·getD-map}
+use lib.ListN.{length, getD, take, drop, length-map, List·getD-map}
 use lib.Seq.{getD-drop, getD-take}
 use borrow.Author.Tests.{ltb-true, leb-true, eqb-true}
-use Rattle.format.specs.declared.Kind.{Kind}
-use Rattle.format.specs.declared.Kind.the-variants.{Bool as KindBool, I8, I16, I32, I64, U8, U16, U32, U64, F16, F32, F64, DayTime, MonthDayNano, FixedBinary, Variable, I128, I256}
-use Rattle.format.specs.declared.SortOptions.{SortOptions}
 use Rattle.format.specs.declared.Column.{Column}
 use Rattle.format.specs.declared.RowFault.the-variants.{Cut, Lead, NullRest, BoolByte, EndByte, Padding, Extra, TooLong, Unfolded}
 use Rattle.format.specs.declared.Refusal.{Refusal}
-use Rattle.format.specs.declared.Refusal.the-variants.{ListCut, UnknownKind, OptionBits, Width, ManyColumns, ManyRows, ColumnCut, SpareBit, Ends, LongSlot, BytesAfter, ManyBytes, RowRoom, OffsetRoom, Offsets, Row, SheetRoom, Input, OutOfOrder, Missing, BrokenState}
+use Rattle.format.specs.declared.Refusal.the-variants.{ListCut, UnknownKind, OptionBits, Width, ManyColumns, ManyRows, ColumnCut, SpareBit, Ends, LongSlot, BytesAfter, ManyBytes, RowRoom, OffsetRoom, Offsets, Row, SheetRoom, Input, OutOfOrder, Missing, ColumnRoom, BrokenState}
 use Rattle.format.specs.declared.Check.{Check}
-use Rattle.format.specs.declared.Check.the-variants.{Pass, Refuse}
+use Rattle.format.specs.declared.Check.the-variants.{Refuse}
 use Rattle.format.specs.declared.Returned.{Returned}
 use Rattle.format.specs.Limits.{maxColumns, maxTotal}
-use Rattle.format.specs.Lists.{each, joined, low, lowBytes}
+use Rattle.format.specs.Lists.{each, low, lowBytes}
 use Rattle.format.specs.Kinds.{valueBytes}
-use Rattle.format.specs.Columns.{kindOf, optionsOf}
-use Rattle.format.specs.Coded.{kindNumber, optionsNumber, heldWidth, code, codes, codeAt, columnOf}
+use Rattle.format.specs.Described.{kindNumber, optionsNumber, heldWidth, code, codes, codeAt, columnOf}
 use Rattle.format.specs.Schemas.{noColumn}
-use Rattle.format.specs.Numbers.{four, refusalNumbers}
+use Rattle.format.specs.Numbers.{refusalNumbers}
 use Rattle.format.specs.Lent.{eights, eightBytes}
 use Rattle.format.specs.CutterRule.{numbersKept}
 use Rattle.format.specs.CutterBytes.{checkNumbers, checkOf}
+use Rattle.laws.proofs.Described.{column-again}
 use Rattle.basics.proofs.LowBytes.{length-lowBytes, low-lowBytes}
 use Rattle.basics.proofs.Lists.{Every, every-at, each-is, length-joined, long-at}
 use Rattle.cutter_laws.proofs.RuleMoves.{and-true}
@@ -47,7 +44,9 @@ all-long f w h (x ∷ xs) = (h x, all-long f w h xs)
 
 pub length-eights : (ns : List ℕ) → length (eightBytes ns) ≡ 8 * length ns
 length-eights ns =
-    length-joined 8 (map (lowBytes 8) ns) (all-long (lowBytes 8) 8 (length-lowBytes 8) ns) ∙ ap (λ (n : ℕ). n * 8) (length-map ns (lowBytes 8)) ∙ mul-comm (length ns) 8
+    length-joined 8 (map (lowBytes 8) ns) (all-long (lowBytes 8) 8 (length-lowBytes 8) ns)
+    ∙ ap (λ (n : ℕ). n * 8) (length-map ns (lowBytes 8))
+    ∙ mul-comm (length ns) 8
 
 pub eights-back : (ns : List ℕ) → Small ns → eights (eightBytes ns) ≡ ns
 eights-back ns h =
@@ -58,8 +57,9 @@ eights-back ns h =
     one : (i : ℕ) → i < length ns → low (take 8 (drop (8 * i) (eightBytes ns))) ≡ getD ns i 0
     one i l =
         ap₂ (λ (k : ℕ) (z : List ℕ). low (take 8 (drop k z))) (mul-comm 8 i) (sym (append-nil (eightBytes ns)))
-        ∙ ap low (long-at 8 (map (lowBytes 8) ns) [] i (lowBytes 8 0) (all-long (lowBytes 8) 8 (length-lowBytes 8) ns) (omega (arith, length-map ns (lowBytes 8))))
-        ∙ ap low (List·getD-map (lowBytes 8) ns i 0)
+        ∙ ap low
+        (long-at 8 (map (lowBytes 8) ns) [] i (lowBytes 8 0) (all-long (lowBytes 8) 8 (length-lowBytes 8) ns) (omega (arith, length-map ns (lowBytes 8)))
+        ∙ List·getD-map (lowBytes 8) ns i 0)
         ∙ low-lowBytes 8 (getD ns i 0) (every-at (λ n. n < 256 ^ 8) ns 0 i h l)
 
 -- ---- columns of four bytes
@@ -68,48 +68,7 @@ pub length-codes : (cols : List Column) → length (codes cols) ≡ 4 * length c
 length-codes cols =
     length-joined 4 (map code cols) (all-long code 4 (λ col. refl) cols) ∙ ap (λ (n : ℕ). n * 4) (length-map cols code) ∙ mul-comm (length cols) 4
 
-kind-again : (k : Kind) → kindOf (kindNumber k) (heldWidth k) ≡ k
-kind-again KindBool = refl
-kind-again I8 = refl
-kind-again I16 = refl
-kind-again I32 = refl
-kind-again I64 = refl
-kind-again U8 = refl
-kind-again U16 = refl
-kind-again U32 = refl
-kind-again U64 = refl
-kind-again F16 = refl
-kind-again F32 = refl
-kind-again F64 = refl
-kind-again DayTime = refl
-kind-again MonthDayNano = refl
-kind-again (FixedBinary w) = refl
-kind-again Variable = refl
-kind-again I128 = refl
-kind-again I256 = refl
-
-options-again : (o : SortOptions) → optionsOf (optionsNumber o) ≡ o
-options-again o = go (o .descending) (o .«nulls_first») (o .required) (o .fold)
-  where
-    go : (d n r f : Bool) → optionsOf (cond d 1 0 + cond n 2 0 + cond r 4 0 + cond f 8 0) ≡ record { descending = d; «nulls_first» = n; required = r; fold = f }
-    go true true true true = refl
-    go true true true false = refl
-    go true true false true = refl
-    go true true false false = refl
-    go true false true true = refl
-    go true false true false = refl
-    go true false false true = refl
-    go true false false false = refl
-    go false true true true = refl
-    go false true true false = refl
-    go false true false true = refl
-    go false true false false = refl
-    go false false true true = refl
-    go false false true false = refl
-    go false false false true = refl
-    go false false false false = refl
-
--- no width is over two bytes
+-- a width that is not over two bytes is held in them
 held-small : (col : Column) → valueBytes (col .kind) < 65536 → heldWidth (col .kind) < 256 ^ 2
 held-small col l = go (eqb (kindNumber (col .kind)) 15)
   where
@@ -117,17 +76,18 @@ held-small col l = go (eqb (kindNumber (col .kind)) 15)
     go true = l
     go false = omega arith
 
+-- no width of these is
+abbrev pub TwoBytes : List Column → Type 0
+TwoBytes cols = Every (λ (col : Column). valueBytes (col .kind) < 65536) cols
+
 -- the column of its four bytes
 column-back : (col : Column) → valueBytes (col .kind) < 65536 → columnOf (codeAt (code col) 0) ≡ col
 column-back col l =
-    ap₂ (λ (k : Kind) (o : SortOptions). record { kind = k; options = o })
-    (ap (kindOf (kindNumber (col .kind))) (two ∙ low-lowBytes 2 (heldWidth (col .kind)) (held-small col l)) ∙ kind-again (col .kind))
-    (options-again (col .options))
+    ap (λ (w : ℕ). columnOf (record { kind = kindNumber (col .kind); options = optionsNumber (col .options); width = w }))
+    (two ∙ low-lowBytes 2 (heldWidth (col .kind)) (held-small col l))
+    ∙ column-again col
   where
-    w : ℕ
-    w = heldWidth (col .kind)
-
-    two : getD (code col) 2 0 + 256 * getD (code col) 3 0 ≡ low (lowBytes 2 w)
+    two : getD (code col) 2 0 + 256 * getD (code col) 3 0 ≡ low (lowBytes 2 (heldWidth (col .kind)))
     two = omega arith
 
 module _ (cols : List Column) (t : List ℕ) where
@@ -138,7 +98,8 @@ module _ (cols : List Column) (t : List ℕ) where
       ∙ sym (getD-take 4 (drop (4 * i) (codes cols ++ t)) j 0 m)
       ∙ ap (λ (k : ℕ). getD (take 4 (drop k (codes cols ++ t))) j 0) (mul-comm 4 i)
       ∙ ap (λ (z : List ℕ). getD z j 0)
-      (long-at 4 (map code cols) t i (code noColumn) (all-long code 4 (λ col. refl) cols) (omega (arith, length-map cols code)) ∙ List·getD-map code cols i noColumn)
+      (long-at 4 (map code cols) t i (code noColumn) (all-long code 4 (λ col. refl) cols) (omega (arith, length-map cols code))
+      ∙ List·getD-map code cols i noColumn)
 
   code-at : (i : ℕ) → i < length cols → codeAt (codes cols ++ t) i ≡ codeAt (code (getD cols i noColumn)) 0
   code-at i l =
@@ -152,14 +113,14 @@ module _ (cols : List Column) (t : List ℕ) where
       c : List ℕ
       c = code (getD cols i noColumn)
 
-  pub columns-back : Every (λ (col : Column). valueBytes (col .kind) < 65536) cols → each 0 (length cols) (λ i. columnOf (codeAt (codes cols ++ t) i)) ≡ cols
+  pub columns-back : TwoBytes cols → each 0 (length cols) (λ i. columnOf (codeAt (codes cols ++ t) i)) ≡ cols
   columns-back h =
       each-is cols noColumn (length cols) (λ i. columnOf (codeAt (codes cols ++ t) i)) refl
-      (λ i l. ap columnOf (code-at i l) ∙ column-back (getD cols i noColumn) (every-at (λ (col : Column). valueBytes (col .kind) < 65536) cols noColumn i h l))
+      (λ i l. ap columnOf (code-at i l) ∙ column-back (getD cols i noColumn) (every-at (λ (c : Column). valueBytes (c .kind) < 65536) cols noColumn i h l))
 
 -- ---- the refusal that stands, by its four numbers
 
-abbrev numberList : Returned → List ℕ
+abbrev pub numberList : Returned → List ℕ
 numberList a = a .0 ∷ a .1 ∷ a .2 ∷ a .3 ∷ []
 
 -- it is read back, and eight bytes hold each number
@@ -191,7 +152,7 @@ row-small n r c place l h =
     let b = ltb-true c maxColumns (p .1) in
     (omega arith, (omega arith, (omega arith, (omega arith, tt))))
 
-refusal-written : (r : Refusal) → numbersKept (refusalNumbers r) ≡ true → Written (Refuse r)
+pub refusal-written : (r : Refusal) → numbersKept (refusalNumbers r) ≡ true → Written (Refuse r)
 refusal-written (ListCut p) h = record { back = refl; small = list-small 1 p (omega arith) h }
 refusal-written (UnknownKind p) h = record { back = refl; small = list-small 2 p (omega arith) h }
 refusal-written (OptionBits p) h = record { back = refl; small = list-small 3 p (omega arith) h }
@@ -220,4 +181,5 @@ refusal-written (SheetRoom bytes) h = absurd (false≢true h)
 refusal-written Input h = absurd (false≢true h)
 refusal-written (OutOfOrder p r) h = absurd (false≢true h)
 refusal-written (Missing c r) h = absurd (false≢true h)
+refusal-written (ColumnRoom count) h = absurd (false≢true h)
 refusal-written BrokenState h = absurd (false≢true h)

@@ -1,7 +1,7 @@
 -- A field, from its first byte on: what its bytes do to the state is what the field reader says of them. Assumes nothing.
 use Prim.Native.Nat.{ℕ, suc, _+_, _-_, _<_, _≤_}
 use mathlib.Core.Path.{_≡_, refl, ap, ap₂, sym, subst, _∙_}
-use mathlib.Core.Bool.{Bool, true, false, cond}
+use mathlib.Core.Bool.{Bool, true, cond}
 use mathlib.Core.Logic.{_⊎_, inl, inr}
 use mathlib.Core.List.{List, [], _∷_, _++_, append-nil}
 use native.Mathlib.Nat.{add-zero}
@@ -15,7 +15,7 @@ use Rattle.format.specs.declared.RowFault.{RowFault}
 use Rattle.format.specs.declared.RowFault.the-variants.{Cut}
 use Rattle.format.specs.declared.Refusal.the-variants.{Row, ManyBytes}
 use Rattle.format.specs.declared.Check.{Check}
-use Rattle.format.specs.declared.Check.the-variants.{Pass, Refuse}
+use Rattle.format.specs.declared.Check.the-variants.{Pass}
 use Rattle.format.specs.declared.Spot.{Spot}
 use Rattle.format.specs.declared.Spot.the-variants.{Start}
 use Rattle.format.specs.declared.Cutter.{Cutter}
@@ -25,7 +25,7 @@ use Rattle.format.specs.Kinds.{Shape, fixed, variable, Slot, columnShape}
 use Rattle.format.specs.Read.{Parsed, got, fault, readField}
 use Rattle.format.specs.Numbers.{faultNumber}
 use Rattle.format.specs.CutterRule.{columnIn, faultKept}
-use Rattle.format.specs.Cutter.{Move, on, whole, bad, moveIn, moved, refused, further, rowEnded, fieldEnded, taken, unless, step, fed, newEnd, endsIn}
+use Rattle.format.specs.Cutter.{Move, on, whole, bad, moveIn, moved, refused, further, fieldEnded, taken, unless, step, fed, newEnd, endsIn}
 use Rattle.cutter_laws.proofs.Cutting.{fed-refused, ends-refused}
 use Rattle.cutter_laws.proofs.Walk.{Walk, still, ended, broken, walkThen, walk, Alike}
 use Rattle.cutter_laws.proofs.FixedWalk.{fixed-walk}
@@ -41,8 +41,8 @@ field-walk variable o at xs bs = variable-walk o at xs bs
 -- no byte more; one more, and others after it
 further-none : (s : Cutter) → further s 0 (s .column) (s .spot) ≡ s
 further-none s =
-    ap₂ (λ (n m : ℕ). record { schema = s .schema; refusal = s .refusal; rows = s .rows; bytes = n; row = m; column = s .column; spot = s .spot }) (add-zero (s .bytes))
-    (add-zero (s .row))
+    ap₂ (λ (n m : ℕ). record { schema = s .schema; refusal = s .refusal; rows = s .rows; bytes = n; row = m; column = s .column; spot = s .spot })
+    (add-zero (s .bytes)) (add-zero (s .row))
 
 one-more : (n m : ℕ) → n + 1 + m ≡ n + suc m
 one-more n m = omega arith
@@ -50,16 +50,17 @@ one-more n m = omega arith
 module _ (s : Cutter) (spot : Spot) where
   further-more : (n c : ℕ) (last : Spot) → further (further s 1 (s .column) spot) n c last ≡ further s (suc n) c last
   further-more n c last =
-      ap₂ (λ (b r : ℕ). record { schema = s .schema; refusal = s .refusal; rows = s .rows; bytes = b; row = r; column = c; spot = last }) (one-more (s .bytes) n)
-      (one-more (s .row) n)
+      ap₂ (λ (b r : ℕ). record { schema = s .schema; refusal = s .refusal; rows = s .rows; bytes = b; row = r; column = c; spot = last })
+      (one-more (s .bytes) n) (one-more (s .row) n)
 
   ended-more : (n : ℕ) → fieldEnded (further s 1 (s .column) spot) n ≡ fieldEnded s (suc n)
   ended-more n =
       ap₂ (λ (t u : Cutter). cond (ltb (suc (s .column)) (s .schema .count)) t u) (further-more n (suc (s .column)) Start)
-      (ap (λ (b : ℕ). record { schema = s .schema; refusal = s .refusal; rows = suc (s .rows); bytes = b; row = 0; column = 0; spot = Start }) (one-more (s .bytes) n))
+      (ap (λ (b : ℕ). record { schema = s .schema; refusal = s .refusal; rows = suc (s .rows); bytes = b; row = 0; column = 0; spot = Start })
+      (one-more (s .bytes) n))
 
 -- no row ends where the count of rows stays, or falls
-no-end : (s t : Cutter) → t .rows ≤ s .rows → newEnd s t ≡ []
+pub no-end : (s t : Cutter) → t .rows ≤ s .rows → newEnd s t ≡ []
 no-end s t l = ap (λ (u : Bool). cond u (t .bytes ∷ []) []) (le-ltb (s .rows) (t .rows) l)
 
 -- the bytes of xs before bs complete the field that is being read
@@ -94,7 +95,8 @@ module _ (s : Cutter) (b : ℕ) (bs : List ℕ) where
     state = ap (λ (t : Cutter). fed t (h .part)) e ∙ h .state ∙ ended-more s spot (length (h .part));
     ends =
         ap (λ (t : Cutter). newEnd s t ++ endsIn t (h .part)) e
-        ∙ ap₂ {C = List ℕ} (λ x y. x ++ y) (no-end s (further s 1 (s .column) spot) (omega arith)) (h .ends ∙ ap (newEnd s) (ended-more s spot (length (h .part))));
+        ∙ ap₂ {C = List ℕ} (λ x y. x ++ y) (no-end s (further s 1 (s .column) spot) (omega arith))
+        (h .ends ∙ ap (newEnd s) (ended-more s spot (length (h .part))));
   }
   on-after spot e (broken f place) h = (
     ap (λ (t : Cutter). fed t bs) e ∙ h .0,
@@ -117,7 +119,9 @@ walk-fed (b ∷ bs) s e l = go (moveIn s b) (step-room s b e (omega arith)) (λ 
 
     go : (m : Move) → step s b ≡ moved s m → ((spot : Spot) → After (further s 1 (s .column) spot) bs (walk sh o spot (s .row + 1) bs))
         → After s (b ∷ bs) (walkThen m bs (λ next. walk sh o next (suc (s .row)) bs))
-    go (on spot) q ih = on-after s b bs spot q (walk sh o spot (suc (s .row)) bs) (subst (λ (at : ℕ). After (further s 1 (s .column) spot) bs (walk sh o spot at bs)) (add-one (s .row)) (ih spot))
+    go (on spot) q ih =
+        on-after s b bs spot q (walk sh o spot (suc (s .row)) bs)
+        (subst (λ (at : ℕ). After (further s 1 (s .column) spot) bs (walk sh o spot at bs)) (add-one (s .row)) (ih spot))
     go whole q ih = record {
       part = b ∷ [];
       splits = refl;
@@ -162,9 +166,14 @@ FieldFed s xs (fault f l) = ((f ≡ Cut) × (l ≡ 0) × Open s xs) ⊎ Broken s
 pub field-fed : (s : Cutter) (xs : List ℕ) → Ready s → Bytes xs → s .bytes + length xs ≤ maxTotal → FieldFed s xs (fieldIn s xs)
 field-fed s xs r bs l =
     go (walkIn s xs) (fieldIn s xs) (walk-fed xs s (r .standing) l)
-    (subst (λ (spot : Spot). Alike (s .row + length xs) (walk (columnShape (columnIn s)) (columnIn s .options) spot (s .row) xs) (fieldIn s xs)) (sym (r .start))
-    (field-walk (columnShape (columnIn s)) (columnIn s .options) (s .row) xs bs))
+    (subst (λ (spot : Spot). Alike (s .row + length xs) (walk sh o spot (s .row) xs) (fieldIn s xs)) (sym (r .start)) (field-walk sh o (s .row) xs bs))
   where
+    sh : Shape
+    sh = columnShape (columnIn s)
+
+    o : SortOptions
+    o = columnIn s .options
+
     go : (w : Walk) (p : Parsed Slot) → After s xs w → Alike (s .row + length xs) w p → FieldFed s xs p
     go (still spot) (got v rest) h a = absurd a
     go (still spot) (fault f l) h a = inl (a .0, a .1, record { spot = spot; state = h .0; ends = h .1 })

@@ -7,7 +7,7 @@ use mathlib.Core.List.{List, [], _∷_, _++_, reverse, reverse-append, reverse-r
 use native.Mathlib.Omega.{arith}
 use lib.Dec.{ltb, eqb}
 use lib.ListN.{length, take, drop, length-append, length-reverse, take-append-drop}
-use borrow.Author.Tests.{lt-ltb, le-ltb, ltb-true, ltb-false, eqb-true, eqb-false, eq-eqb, ne-eqb}
+use borrow.Author.Tests.{lt-ltb, le-ltb, ltb-true, ltb-false, eqb-true, eqb-false, ne-eqb}
 use Rattle.format.specs.declared.SortOptions.{SortOptions}
 use Rattle.format.specs.declared.RowFault.the-variants.{Cut, Lead, NullRest, BoolByte, Unfolded}
 use Rattle.format.specs.declared.Spot.{Spot}
@@ -18,12 +18,12 @@ use Rattle.format.specs.Key.{unkey, allowed}
 use Rattle.format.specs.Fold.{folds, isFolded}
 use Rattle.format.specs.Field.{directed}
 use Rattle.format.specs.Read.{Parsed, got, fault, allZero, fromBad, nullLead, readNull, readKey, readBytes, readFixed}
-use Rattle.format.specs.Cutter.{Move, on, whole, bad, turn, led, leadMove, firstBad, nullMove, speltWith, lastMove, valueMove}
+use Rattle.format.specs.Cutter.{on, whole, bad, turn, firstBad, speltWith, lastMove}
 use Rattle.basics.proofs.Bytes.{bytes-append, bytes-reverse}
 use Rattle.basics.proofs.LowBytes.{lowBytes-low}
-use Rattle.laws.proofs.Directed.{directed-none, directed-cons, length-directed}
+use Rattle.laws.proofs.Directed.{directed-none, directed-cons}
 use Rattle.cutter_laws.proofs.RuleMoves.{turned}
-use Rattle.cutter_laws.proofs.Walk.{Walk, still, ended, broken, walkThen, walk, Alike}
+use Rattle.cutter_laws.proofs.Walk.{Walk, ended, walkThen, walk, Alike}
 
 -- two parts of a list are all of it
 parts-length : (m : ℕ) (s : List ℕ) → length (take m s) + length (drop m s) ≡ length s
@@ -182,14 +182,16 @@ module _ (k : Fixed) (o : SortOptions) (end : ℕ) where
       → Alike end (walk (fixed k) o (Value (length p) (spelling k (o .fold) p)) at s) (valueFrom k o (suc m) p s)
   value-walk m at p [] w bp bs l e = rw (lt-ltb 0 (suc m) (omega arith)) (refl, refl)
   value-walk zero at p (b ∷ s) w bp bs l e =
-      rw (le-ltb (suc (length p)) (width k) (omega arith), le-ltb (suc (length s)) 1 (omega arith), directed-cons (o .descending) b [], directed-none (o .descending), spelt-next k o p b)
-      (value-last p at b s (λ next. walk (fixed k) o next (suc at) s) w bp (turned o b (bs .0)) l e)
+      rw (le-ltb (suc (length p)) (width k) (omega arith), le-ltb (suc (length s)) 1 (omega arith))
+      (rw (directed-cons (o .descending) b [], directed-none (o .descending), spelt-next k o p b)
+      (value-last p at b s (λ next. walk (fixed k) o next (suc at) s) w bp (turned o b (bs .0)) l e))
   value-walk (suc m) at p (b ∷ s) w bp bs l e =
       rw (lt-ltb (suc (length p)) (width k) (omega arith))
       (subst (λ (spot : Spot). Alike end (walk (fixed k) o spot (suc at) s) (valueFrom k o (suc (suc m)) p (b ∷ s)))
       (ap₂ Value (long ∙ omega arith) (sym (spelt-next k o p b)))
       (subst (Alike end (walk (fixed k) o (Value (length f) (spelling k (o .fold) f)) (suc at) s)) (value-next k o (suc m) p b s)
-      (value-walk m (suc at) f s (omega (arith, long)) (bytes-append p (turn o b ∷ []) bp (turned o b (bs .0), tt)) (bs .1) (omega (arith, long)) (omega arith))))
+      (value-walk m (suc at) f s (omega (arith, long)) (bytes-append p (turn o b ∷ []) bp (turned o b (bs .0), tt)) (bs .1) (omega (arith, long))
+      (omega arith))))
     where
       f : List ℕ
       f = p ++ turn o b ∷ []

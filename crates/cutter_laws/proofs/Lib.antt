@@ -2,6 +2,7 @@
 pub mod Cutting
 pub mod RuleMoves
 pub mod RuleKept
+pub mod StartKept
 pub mod Walk
 pub mod FixedWalk
 pub mod Marks
@@ -10,5 +11,9 @@ pub mod FieldFed
 pub mod Piece
 pub mod RowFed
 pub mod StreamCut
-pub mod StartKept
+pub mod Calls
+pub mod Streams
 pub mod Coding
+pub mod StateBack
+pub mod LentStates
+pub mod Unique

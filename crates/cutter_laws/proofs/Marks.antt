@@ -1,7 +1,7 @@
 -- The marks of a block: a bit for each byte that is not zero. What is left of them after so many bytes, and where the lowest is. Assumes
 -- nothing.
 use Prim.Native.Nat.{ℕ, zero, suc, _+_, _*_, _/_, _%_, _^_, _≤_}
-use mathlib.Core.Path.{_≡_, refl, ap, ap₂, sym, _∙_}
+use mathlib.Core.Path.{_≡_, refl, ap, sym, _∙_}
 use mathlib.Core.Bool.{Bool, true, false, cond, _&&_, true≢false}
 use mathlib.Core.List.{List, [], _∷_, _++_}
 use native.Mathlib.Nat.{pow-suc, pow-succ', div-one, zero-div, div-div-eq-div-mul}
@@ -62,7 +62,7 @@ lowest-bad zero (x ∷ p) l h = absurd (omega arith)
 lowest-bad (suc n) (x ∷ p) l h = go (eqb x 0) h (lowest-bad n p (omega arith))
   where
     go : (t : Bool) → (t && allZero p) ≡ false → (allZero p ≡ false → lowest n (marksOf p) + fromBad p ≡ length p)
-        → cond (eqb ((cond t 0 1 + 2 * marksOf p) % 2) 1) 0 (suc (lowest n ((cond t 0 1 + 2 * marksOf p) / 2))) + cond t (fromBad p) (suc (length p)) ≡ suc (length p)
+        → lowest (suc n) (cond t 0 1 + 2 * marksOf p) + cond t (fromBad p) (suc (length p)) ≡ suc (length p)
     go true q ih =
         rw (halved true (marksOf p), ne-eqb ((0 + 2 * marksOf p) % 2) 1 (λ z. omega arith)) (omega (arith, ih q))
     go false q ih = rw (eq-eqb ((1 + 2 * marksOf p) % 2) 1 (omega arith)) (omega arith)

@@ -1,35 +1,32 @@
 -- A piece, read up to byte i: a byte more, a whole field more, a fault. What a loop over a piece cites. Assumes nothing.
 use Prim.Native.Nat.{ℕ, suc, _+_, _-_, _<_, _≤_}
 use mathlib.Core.Path.{_≡_, refl, ap, ap₂, sym, subst, _∙_}
-use mathlib.Core.Bool.{Bool, true, false, cond, true≢false}
-use mathlib.Core.Logic.{_⊎_, inl, inr}
+use mathlib.Core.Bool.{Bool, true, false, cond}
+use mathlib.Core.Logic.{inl, inr}
 use mathlib.Core.Option.{none, some}
 use mathlib.Core.List.{List, [], _∷_, _++_, append-nil}
-use native.Mathlib.Numerals.{add-one}
 use native.Mathlib.Omega.{arith}
 use lib.Dec.{ltb}
 use lib.ListN.{length, getD, take, drop, length-append, length-take, take-append-drop}
-use lib.Seq.{drop-cons, take-add, take-all, take-take, take-at}
-use borrow.Author.Tests.{lt-ltb, le-ltb, ltb-false}
+use lib.Seq.{drop-cons, take-add, take-all, take-take, take-at, length-take-le}
+use borrow.Author.Tests.{lt-ltb, le-ltb}
 use Rattle.format.specs.declared.RowFault.{RowFault}
 use Rattle.format.specs.declared.RowFault.the-variants.{Cut}
 use Rattle.format.specs.declared.FieldRead.the-variants.{Null, Value, Fault}
 use Rattle.format.specs.declared.Refusal.{Refusal}
 use Rattle.format.specs.declared.Refusal.the-variants.{Row, ManyBytes}
-use Rattle.format.specs.declared.Check.{Check}
 use Rattle.format.specs.declared.Check.the-variants.{Pass, Refuse}
+use Rattle.format.specs.declared.Spot.{Spot}
 use Rattle.format.specs.declared.Spot.the-variants.{Start}
 use Rattle.format.specs.declared.Cutter.{Cutter}
 use Rattle.format.specs.Limits.{maxTotal}
 use Rattle.format.specs.Lists.{Bytes}
 use Rattle.format.specs.Kinds.{Slot}
-use Rattle.format.specs.Numbers.{faultNumber}
 use Rattle.format.specs.Read.{Parsed, got, fault, fieldRead}
-use Rattle.format.specs.CutterRule.{faultKept}
-use Rattle.format.specs.Cutter.{refused, further, rowEnded, fieldEnded, step, fed, newEnd, endsIn}
+use Rattle.format.specs.Cutter.{on, whole, bad, moveIn, moved, refused, further, rowEnded, fieldEnded, step, fed, newEnd, endsIn}
 use Rattle.basics.proofs.Bytes.{bytes-take, bytes-drop}
-use Rattle.cutter_laws.proofs.Cutting.{fed-append, ends-append, fed-refused, ends-refused}
-use Rattle.cutter_laws.proofs.FieldFed.{Ended, Ready, Broken, FieldFed, fieldIn, field-fed}
+use Rattle.cutter_laws.proofs.Cutting.{fed-append, ends-append, fed-refused, ends-refused, step-full}
+use Rattle.cutter_laws.proofs.FieldFed.{no-end, step-room, Ended, Ready, FieldFed, fieldIn, field-fed}
 
 -- the end that the last byte of a field completes: one, if the column is the last
 pub new-end : (s : Cutter) (n : ℕ) → newEnd s (fieldEnded s n) ≡ cond (ltb (suc (s .column)) (s .schema .count)) [] ((s .bytes + n) ∷ [])
@@ -38,6 +35,24 @@ new-end s n = go (ltb (suc (s .column)) (s .schema .count))
     go : (t : Bool) → newEnd s (cond t (further s n (suc (s .column)) Start) (rowEnded s n)) ≡ cond t [] ((s .bytes + n) ∷ [])
     go true = rw (le-ltb (s .rows) (s .rows) (omega arith))
     go false = rw (lt-ltb (s .rows) (suc (s .rows)) (omega arith))
+
+-- after a field that is whole the next begins
+pub ended-ready : (s : Cutter) (n : ℕ) → s .refusal ≡ Pass → Ready (fieldEnded s n)
+ended-ready s n e = go (ltb (suc (s .column)) (s .schema .count))
+  where
+    go : (t : Bool) → Ready (cond t (further s n (suc (s .column)) Start) (rowEnded s n))
+    go true = record { standing = e; start = refl }
+    go false = record { standing = e; start = refl }
+
+-- no byte completes more than one row
+pub ends-few : (s : Cutter) (xs : List ℕ) → length (endsIn s xs) ≤ length xs
+ends-few s [] = omega arith
+ends-few s (b ∷ xs) =
+    omega (arith, length-append (newEnd s (step s b)) (endsIn (step s b) xs), one (ltb (s .rows) (step s b .rows)), ends-few (step s b) xs)
+  where
+    one : (t : Bool) → length (cond t (step s b .bytes ∷ []) []) ≤ 1
+    one true = omega arith
+    one false = omega arith
 
 -- ---- up to byte i of a piece the state is s, and these ends were found
 pub record Upto (s₀ : Cutter) (piece : List ℕ) (i : ℕ) (s : Cutter) (found : List ℕ) : Type 0 where
@@ -60,6 +75,10 @@ module _ {s₀ : Cutter} {piece : List ℕ} {i : ℕ} {s : Cutter} {found : List
     where
       more : List ℕ
       more = take n (drop i piece)
+
+  -- no more ends than bytes
+  pub upto-few : i ≤ length piece → length found ≤ i
+  upto-few l = omega (arith, ap length (u .ends), ends-few s₀ (take i piece), length-take-le i piece l)
 
   -- all bytes
   pub upto-end : length piece ≤ i → (fed s₀ piece ≡ s) × (endsIn s₀ piece ≡ found)
@@ -85,6 +104,40 @@ module _ {s₀ : Cutter} {piece : List ℕ} {i : ℕ} {s : Cutter} {found : List
   upto-byte l =
       subst (λ (x : List ℕ). Upto s₀ piece (i + 1) (step s (getD piece i 0)) (found ++ x)) (append-nil (newEnd s (step s (getD piece i 0))))
       (subst (λ (x : List ℕ). Upto s₀ piece (i + 1) (fed s x) (found ++ endsIn s x)) (ap (take 1) (drop-cons piece i 0 l)) (upto-more u 1))
+
+  -- a byte that is refused
+  refused-byte : i < length piece → (q : Refusal) → step s (getD piece i 0) ≡ refused q → (fed s₀ piece ≡ refused q) × (endsIn s₀ piece ≡ found)
+  refused-byte l q a =
+      let v : Upto s₀ piece (i + 1) (refused q) (found ++ newEnd s (refused q))
+      = subst (λ (t : Cutter). Upto s₀ piece (i + 1) t (found ++ newEnd s t)) a (upto-byte l) in
+      let w = upto-refused v q refl in
+      (w .0, w .1 ∙ ap (λ (x : List ℕ). found ++ x) (no-end s (refused q) (omega arith)) ∙ append-nil found)
+
+  -- ---- a byte, by what it does to the field
+  module _ (l : i < length piece) (e : s .refusal ≡ Pass) where
+    abbrev b : ℕ
+    b = getD piece i 0
+
+    -- the 16,777,217th: 12
+    pub upto-many : s .bytes ≡ maxTotal → (fed s₀ piece ≡ refused (ManyBytes (suc maxTotal) (s .rows))) × (endsIn s₀ piece ≡ found)
+    upto-many full = refused-byte l (ManyBytes (suc maxTotal) (s .rows)) (step-full s b e full)
+
+    module _ (room : s .bytes < maxTotal) where
+      -- the field goes on
+      pub upto-on : (spot : Spot) → moveIn s b ≡ on spot → Upto s₀ piece (i + 1) (further s 1 (s .column) spot) found
+      upto-on spot q =
+          subst (λ (x : List ℕ). Upto s₀ piece (i + 1) (further s 1 (s .column) spot) x)
+          (ap (λ (x : List ℕ). found ++ x) (no-end s (further s 1 (s .column) spot) (omega arith)) ∙ append-nil found)
+          (subst (λ (t : Cutter). Upto s₀ piece (i + 1) t (found ++ newEnd s t)) (step-room s b e room ∙ ap (moved s) q) (upto-byte l))
+
+      -- it is whole
+      pub upto-whole : moveIn s b ≡ whole → Upto s₀ piece (i + 1) (fieldEnded s 1) (found ++ newEnd s (fieldEnded s 1))
+      upto-whole q = subst (λ (t : Cutter). Upto s₀ piece (i + 1) t (found ++ newEnd s t)) (step-room s b e room ∙ ap (moved s) q) (upto-byte l)
+
+      -- a fault shows
+      pub upto-bad : (f : RowFault) (place : ℕ) → moveIn s b ≡ bad f place
+          → (fed s₀ piece ≡ refused (Row f (s .rows) (s .column) place)) × (endsIn s₀ piece ≡ found)
+      upto-bad f place q = refused-byte l (Row f (s .rows) (s .column) place) (step-room s b e room ∙ ap (moved s) q)
 
   -- one of m bytes more is refused
   broke-off : (q : Refusal) (m : ℕ) → fed s (take m (drop i piece)) ≡ refused q → endsIn s (take m (drop i piece)) ≡ []

@@ -4,11 +4,11 @@ use mathlib.Core.Path.{_≡_, refl, ap, ap₂, sym, subst, _∙_}
 use mathlib.Core.Bool.{Bool, true, false, cond}
 use mathlib.Core.Logic.{_⊎_, inl, inr}
 use mathlib.Core.List.{List, [], _∷_, _++_, append-assoc}
-use native.Mathlib.Nat.{add-zero, add-suc, suc-add, sub-zero}
+use native.Mathlib.Nat.{add-zero, sub-zero}
 use native.Mathlib.Numerals.{add-one}
 use native.Mathlib.Omega.{arith}
 use lib.Dec.{ltb}
-use lib.ListN.{length, getD, take, drop, length-append, length-drop}
+use lib.ListN.{length, getD, drop, length-append, length-drop}
 use lib.Seq.{drop-drop, getD-drop, getD-take}
 use borrow.Author.Tests.{lt-ltb, le-ltb}
 use Rattle.format.specs.declared.Column.{Column}
@@ -27,7 +27,7 @@ use Rattle.format.specs.Kinds.{Slot, columnShape}
 use Rattle.format.specs.Schemas.{noColumn, colsOf}
 use Rattle.format.specs.Read.{Parsed, got, fault, readField, fieldCheck, rowFault}
 use Rattle.format.specs.CutterRule.{columnIn}
-use Rattle.format.specs.Cutter.{refused, further, rowEnded, fieldEnded, fed, newEnd, endsIn, finishFault}
+use Rattle.format.specs.Cutter.{further, rowEnded, fed, endsIn, finishFault}
 use Rattle.basics.proofs.Bytes.{bytes-right}
 use Rattle.cutter_laws.proofs.Cutting.{fed-append, ends-append}
 use Rattle.cutter_laws.proofs.FieldFed.{Ended, Ready, Open, Broken, FieldFed, fieldIn, field-fed}
@@ -98,7 +98,8 @@ module _ (s : Cutter) (col : Column) (cols : List Column) (a : Before s (col ∷
         ∙ ap (λ (n : ℕ). Refuse (Row Cut (s .rows) (s .column) n)) (sub-zero (s .row + length xs));
     finish =
         ap finishFault (h .state)
-        ∙ ap₂ (λ (c : Check) (t : Bool). both c (failIf t (Row Cut (s .rows) (s .column) (s .row + length xs)) Pass)) (a .ready .standing) (lt-ltb 0 (s .row + length xs) pos);
+        ∙ ap₂ (λ (c : Check) (t : Bool). both c (failIf t (Row Cut (s .rows) (s .column) (s .row + length xs)) Pass)) (a .ready .standing)
+        (lt-ltb 0 (s .row + length xs) pos);
     ends = h .ends;
   }
 
@@ -121,7 +122,8 @@ module _ (s : Cutter) (col : Column) (cols : List Column) (a : Before s (col ∷
       ∙ ap (λ (p : Parsed Slot). fieldCheck (s .rows) (s .row + length xs) (s .column) p (rowFault (s .rows) (s .row + length xs) (suc (s .column)) cols)) e
 
 -- the last field is whole: the row ends
-last-read : (s : Cutter) (col : Column) (xs rest : List ℕ) (v : Slot) → Before s (col ∷ []) → fieldIn s xs ≡ got v rest → Ended s xs rest → Reads s (col ∷ []) xs
+last-read : (s : Cutter) (col : Column) (xs rest : List ℕ) (v : Slot) → Before s (col ∷ []) → fieldIn s xs ≡ got v rest → Ended s xs rest
+    → Reads s (col ∷ []) xs
 last-read s col xs rest v a e h = record {
   rest = rest;
   done = record {
@@ -188,9 +190,12 @@ module _ (s : Cutter) (col next : Column) (cols : List Column) (xs rest : List �
     };
     says =
         judged-t ∙ g .says
-        ∙ ap₂ (λ (len c : ℕ). rowFault (s .rows) len c [] (g .rest)) same-length (let z : suc (s .column) + suc (length cols) ≡ s .column + suc (suc (length cols)) = omega arith in z);
+        ∙ ap₂ (λ (len c : ℕ). rowFault (s .rows) len c [] (g .rest)) same-length one-more;
   }
     where
+      one-more : suc (s .column) + suc (length cols) ≡ s .column + suc (suc (length cols))
+      one-more = omega arith
+
       long : s .bytes + n + length (g .done .part) ≡ s .bytes + length (h .part ++ g .done .part)
       long = omega (arith, length-append (h .part) (g .done .part))
 
@@ -206,12 +211,16 @@ module _ (s : Cutter) (col next : Column) (cols : List Column) (xs rest : List �
 abbrev pub RowFed : Cutter → List Column → List ℕ → Type 0
 RowFed s cols xs = Reads s cols xs ⊎ Refuses s cols xs
 
+-- wherever the row stands before these columns
+abbrev RowFrom : List Column → Type 0
+RowFrom cols =
+    (s : Cutter) (xs : List ℕ) → Before s cols → Bytes xs → s .bytes + length xs ≤ maxTotal → 0 < s .row + length xs → RowFed s cols xs
+
 either : {A B C D : Type 0} → (A → C) → (B → D) → A ⊎ B → C ⊎ D
 either f g (inl a) = inl (f a)
 either f g (inr b) = inr (g b)
 
-pub row-from : (col : Column) (cols : List Column) (s : Cutter) (xs : List ℕ) → Before s (col ∷ cols) → Bytes xs → s .bytes + length xs ≤ maxTotal
-    → 0 < s .row + length xs → RowFed s (col ∷ cols) xs
+pub row-from : (col : Column) (cols : List Column) → RowFrom (col ∷ cols)
 row-from col [] s xs a bs l pos = go (fieldIn s xs) refl (field-fed s xs (a .ready) bs l)
   where
     go : (p : Parsed Slot) → fieldIn s xs ≡ p → FieldFed s xs p → RowFed s (col ∷ []) xs
@@ -221,8 +230,7 @@ row-from col [] s xs a bs l pos = go (fieldIn s xs) refl (field-fed s xs (a .rea
 row-from col (next ∷ cols) s xs a bs l pos = go (fieldIn s xs) refl (field-fed s xs (a .ready) bs l) (row-from next cols)
   where
     go : (p : Parsed Slot) → fieldIn s xs ≡ p → FieldFed s xs p
-        → ((t : Cutter) (ys : List ℕ) → Before t (next ∷ cols) → Bytes ys → t .bytes + length ys ≤ maxTotal → 0 < t .row + length ys → RowFed t (next ∷ cols) ys)
-        → RowFed s (col ∷ next ∷ cols) xs
+        → RowFrom (next ∷ cols) → RowFed s (col ∷ next ∷ cols) xs
     go (got v rest) e h ih =
         either (next-reads s col next cols xs rest v a e h) (next-refuses s col next cols xs rest v a e h)
         (ih (t s col next cols xs rest v a e h) rest (before-next s col next cols xs rest v a e h) (bytes-right (h .part) rest (subst Bytes (h .splits) bs))

@@ -18,22 +18,25 @@ use Rattle.format.specs.declared.Spot.{Spot}
 use Rattle.format.specs.declared.Spot.the-variants.{Start}
 use Rattle.format.specs.declared.Cutter.{Cutter}
 use Rattle.format.specs.Limits.{maxColumns, maxTotal}
+use Rattle.format.specs.Lists.{Bytes}
 use Rattle.format.specs.Kinds.{Shape, fixed, variable, columnShape}
 use Rattle.format.specs.Schemas.{noColumn, colsOf}
 use Rattle.format.specs.Numbers.{four, faultNumber}
 use Rattle.format.specs.CutterRule.{within, faultKept, numbersKept, schemaKept, fieldSeen, spotKept, fewest, most, overAll, standingKept, keepsWith, keeps, columnIn}
-use Rattle.format.specs.Cutter.{Move, on, whole, bad, moveIn, refused, further, rowEnded, fieldEnded, moved, taken, unless}
-use Rattle.cutter_laws.proofs.Cutting.{Lending, stream, calls, callsEnds, Whole, Kept, StepKeeps, runs-agree}
+use Rattle.format.specs.Cutter.{Move, on, whole, bad, moveIn, refused, further, rowEnded, moved, taken, unless, step, fed}
+use Rattle.cutter_laws.specs.Calls.{Whole, Kept}
 use Rattle.cutter_laws.proofs.RuleMoves.{and-true, true-and, or-true, within-true, true-within, Okay, move-okay}
 
 -- ---- over columns
 
-over-next : (f : Shape → ℕ) (cols : List Column) (c : ℕ) → c < length cols → overAll f (take (suc c) cols) ≡ overAll f (take c cols) + f (columnShape (getD cols c noColumn))
+over-next : (f : Shape → ℕ) (cols : List Column) (c : ℕ) → c < length cols
+    → overAll f (take (suc c) cols) ≡ overAll f (take c cols) + f (columnShape (getD cols c noColumn))
 over-next f [] c l = absurd (omega arith)
 over-next f (col ∷ cols) zero l = let q : f (columnShape col) + 0 ≡ 0 + f (columnShape col) = omega arith in q
 over-next f (col ∷ cols) (suc c) l =
     let ih = over-next f cols c (omega arith) in
-    let q : f (columnShape col) + overAll f (take (suc c) cols) ≡ f (columnShape col) + overAll f (take c cols) + f (columnShape (getD cols c noColumn)) = omega (arith, ih) in
+    let q : f (columnShape col) + overAll f (take (suc c) cols) ≡ f (columnShape col) + overAll f (take c cols) + f (columnShape (getD cols c noColumn))
+    = omega (arith, ih) in
     q
 
 -- every field has a byte
@@ -113,7 +116,8 @@ module _ (s : Cutter) (w : Whole s) (t : Stands s) where
   over-here : (f : Shape → ℕ) → overAll f (take (suc (s .column)) cols) ≡ overAll f (take (s .column) cols) + f sh
   over-here f =
       over-next f cols (s .column) (omega (arith, many, t .column))
-      ∙ ap (λ (col : Column). overAll f (take (s .column) cols) + f (columnShape col)) (getD-take (s .schema .count) (s .schema .columns) (s .column) noColumn (t .column))
+      ∙ ap (λ (col : Column). overAll f (take (s .column) cols) + f (columnShape col))
+      (getD-take (s .schema .count) (s .schema .columns) (s .column) noColumn (t .column))
 
   -- no fewer bytes than rows
   pub rows-most : s .rows ≤ s .bytes - s .row
@@ -123,8 +127,8 @@ module _ (s : Cutter) (w : Whole s) (t : Stands s) where
       omega (arith, mul-one (s .rows), t .rows-low)
 
   -- a byte more of the same field
-  on-stands : (spot : Spot) → s .bytes < maxTotal → fieldSeen spot ≡ suc (fieldSeen (s .spot)) → spotKept sh (columnIn s .options .fold) (s .row + 1) spot ≡ true
-      → Stands (further s 1 (s .column) spot)
+  on-stands : (spot : Spot) → s .bytes < maxTotal → fieldSeen spot ≡ suc (fieldSeen (s .spot))
+      → spotKept sh (columnIn s .options .fold) (s .row + 1) spot ≡ true → Stands (further s 1 (s .column) spot)
   on-stands spot room seen kept = record {
     schema = t .schema;
     count = t .count;
@@ -202,7 +206,7 @@ module _ (s : Cutter) (w : Whole s) (t : Stands s) where
       go false q = (refl, rw (le-leb (s .rows) maxTotal (omega (arith, rows-most, t .bytes-high))))
 
 -- every state from a byte keeps the rule
-pub step-keeps : StepKeeps
+pub step-keeps : (s : Cutter) (b : ℕ) → b < 256 → Kept s → Kept (step s b)
 unfolding keeps
 step-keeps s b byte (w, h) = go (s .refusal) refl
   where
@@ -212,6 +216,7 @@ step-keeps s b byte (w, h) = go (s .refusal) refl
         subst (λ (c : Check). Kept (unless c s (taken s b))) (sym e) (taken-keeps s w t b byte e)
     go (Refuse r) e = subst (λ (c : Check). Kept (unless c s (taken s b))) (sym e) (w, h)
 
--- so any two runs of calls with one stream, each list long enough, leave one state and write the same ends
-pub any-calls : (s : Cutter) (cs ds : List Lending) → Kept s → stream cs ≡ stream ds → (calls s cs ≡ calls s ds) × (callsEnds s cs ≡ callsEnds s ds)
-any-calls = runs-agree step-keeps
+-- and from a piece
+pub fed-keeps : (s : Cutter) (p : List ℕ) → Bytes p → Kept s → Kept (fed s p)
+fed-keeps s [] bs h = h
+fed-keeps s (b ∷ p) bs h = fed-keeps (step s b) p (bs .1) (step-keeps s b (bs .0) h)

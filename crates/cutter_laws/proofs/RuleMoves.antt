@@ -177,8 +177,7 @@ null-okay k fold row seen known b l h =
     okay-if (fixed k) fold row (suc seen) (ltb (suc seen) (width k)) _ _
     (λ e. (
       refl,
-      true-and e (subst (λ (n : ℕ). (eqb (firstBad known row b) 0 || within (suc row - suc seen) n (firstBad known row b)) ≡ true) (let z : row ≡ suc row - 1 = omega arith in z)
-          (subst (λ (n : ℕ). (eqb (firstBad known row b) 0 || within n row (firstBad known row b)) ≡ true) (let z : row - seen ≡ suc row - suc seen = omega arith in z) (q .0))),
+      true-and e (ap₂ (λ (m n : ℕ). eqb (firstBad known row b) 0 || within m n (firstBad known row b)) (omega arith) (omega arith) ∙ q .0),
     ))
     (λ e. okay-if (fixed k) fold row (suc seen) (eqb (firstBad known row b) 0) _ _
     (λ f. let z = ltb-false (suc seen) (width k) e in (omega arith, omega arith))
@@ -260,7 +259,8 @@ block-okay o row k seen marks b l h =
         let c = counted g in
         let sum : seen ≡ (seen - b) + b = omega (arith, c .1) in
         let j : lowest 32 (marks / 2 ^ b) < seen - b
-        = lowest-below 32 (seen - b) (marks / 2 ^ b) (above (marks / 2 ^ b) (eqb-false (marks / 2 ^ b) 0 m)) (shifted marks b (seen - b) (subst (λ (n : ℕ). marks < 2 ^ n) sum low)) in
+        = lowest-below 32 (seen - b) (marks / 2 ^ b) (above (marks / 2 ^ b) (eqb-false (marks / 2 ^ b) 0 m))
+        (shifted marks b (seen - b) (subst (λ (n : ℕ). marks < 2 ^ n) sum low)) in
         omega (arith, c .0, c .1)
       where
         above : (n : ℕ) → (n ≡ 0 → ⊥) → 0 < n

@@ -1,8 +1,8 @@
 -- A start keeps the rule on a row cutter's state, on a list fault too. Assumes nothing.
 use Prim.Native.Nat.{ℕ, zero, suc, _+_, _-_, _*_, _/_, _%_, _<_, _≤_}
-use mathlib.Core.Path.{_≡_, refl, ap, _∙_}
+use mathlib.Core.Path.{_≡_, refl, ap, subst, _∙_}
 use mathlib.Core.Bool.{Bool, true, false, cond, not, _&&_, _||_}
-use mathlib.Core.List.{List, [], _∷_}
+use mathlib.Core.List.{List, [], _∷_, map}
 use native.Mathlib.Nat.{div-eq-of-lt}
 use native.Mathlib.Omega.{arith}
 use lib.Dec.{ltb, leb, eqb}
@@ -17,15 +17,17 @@ use Rattle.format.specs.declared.Check.the-variants.{Pass, Refuse}
 use Rattle.format.specs.Limits.{maxColumns, maxWidth}
 use Rattle.format.specs.Check.{both, failIf}
 use Rattle.format.specs.Kinds.{lastKind, shape, columnShape, valueBytes}
-use Rattle.format.specs.Columns.{kindOf, mostOptions, descriptionBytes, widthAt, columnAt, descriptionFault, listFaultFrom, columnsFrom, listFault, columns}
+use Rattle.format.specs.Columns.{kindOf, mostOptions, mostWidth, numbersFault, descriptionBytes, widthAt, columnAt, descriptionFault, listFaultFrom, columnsFrom, spelledFault, spelledColumns}
+use Rattle.format.specs.Described.{Description, held, columnOf, descriptionsIn, heldFault, descriptionsFaultFrom, descriptionsFault, ColumnList, spelled, described, coded, listFault, columns}
 use Rattle.format.specs.Schemas.{noColumn, schemaOf, colsOf}
 use Rattle.format.specs.Numbers.{refusalNumbers}
 use Rattle.format.specs.CutterRule.{mayFold, columnsKept, fewest, most, overAll, numbersKept, keeps}
 use Rattle.format.specs.Cutter.{begun, startedWith, startState}
 use Rattle.basics.proofs.Lists.{Every}
-use Rattle.basics.proofs.Checks.{failIf-pass, enough, both-pass}
-use Rattle.laws.proofs.Columns.{Narrow, columns-narrow, columns-few, bytes-least}
-use Rattle.cutter_laws.proofs.Cutting.{Kept}
+use Rattle.basics.proofs.Checks.{failIf-pass, both-pass}
+use Rattle.laws.proofs.Columns.{fine, Narrow, bytes-least}
+use Rattle.laws.proofs.Described.{AllFine, all-fine, columns-again, columns-narrow, columns-few}
+use Rattle.cutter_laws.specs.Calls.{Kept}
 use Rattle.cutter_laws.proofs.RuleMoves.{and-true, true-and, or-true, true-within}
 
 -- ---- the columns of a list that passes: only floats fold
@@ -57,10 +59,8 @@ fold-bit b o w l = go (ltb 9 b && ltb b 13) refl l
 
 description-folds : (s : List ℕ) (at : ℕ) → descriptionFault s at ≡ Pass → Folds (columnAt s at)
 description-folds s at e =
-    let known = failIf-pass (ltb (getD s at 0) 1 || ltb lastKind (getD s at 0)) _ _ e in
-    let whole = failIf-pass (ltb (length s - at) (descriptionBytes (getD s at 0))) _ _ (known .1) in
-    let options = enough (mostOptions (getD s at 0)) (getD s (at + 1) 0) _ _ (whole .1) in
-    fold-bit (getD s at 0) (getD s (at + 1) 0) (widthAt s at) (options .0)
+    let f = fine at (getD s at 0) (ltb (length s - at) (descriptionBytes (getD s at 0))) (getD s (at + 1) 0) (widthAt s at) e in
+    fold-bit (getD s at 0) (getD s (at + 1) 0) (widthAt s at) (f .options)
 
 folds-from : (room : ℕ) (s : List ℕ) (at : ℕ) → listFaultFrom room s at ≡ Pass → Every Folds (columnsFrom room s at)
 folds-from zero s at e = tt
@@ -75,9 +75,15 @@ folds-from (suc room) s at e = go (folds-from room s next) (ltb at (length s)) e
     go rest true e = let p = both-pass (descriptionFault s at) _ e in (description-folds s at (p .0), rest (p .1))
     go rest false e = tt
 
-columns-fold : (s : List ℕ) → listFault s ≡ Pass → Every Folds (columns s)
-unfolding listFault columns
-columns-fold s e = folds-from maxColumns s 0 (failIf-pass (eqb (length s) 0) _ _ e .1)
+descriptions-fold : (ds : List Description) → AllFine ds → Every Folds (map columnOf ds)
+descriptions-fold [] h = tt
+descriptions-fold (d ∷ ds) h = (fold-bit (d .kind) (d .options) (d .width) (h .0 .options), descriptions-fold ds (h .1))
+
+columns-fold : (list : ColumnList) → listFault list ≡ Pass → Every Folds (columns list)
+unfolding spelledFault spelledColumns
+columns-fold (spelled s) e = folds-from maxColumns s 0 (failIf-pass (eqb (length s) 0) _ _ e .1)
+columns-fold (described cols) e = subst (Every Folds) (columns-again cols) (descriptions-fold (map held cols) (all-fine (map held cols) e))
+columns-fold (coded s) e = descriptions-fold (descriptionsIn s) (all-fine (descriptionsIn s) e)
 
 columns-kept : (cols : List Column) → Narrow cols → Every Folds cols → columnsKept cols ≡ true
 columns-kept [] n f = refl
@@ -131,12 +137,12 @@ module _ (place : ℕ) (l : place ≤ 4 * maxColumns) where
   many-columns : numbersKept (refusalNumbers (ManyColumns place)) ≡ true
   many-columns = rw here
 
-description-allows : (s : List ℕ) (at : ℕ) → at ≤ 4 * maxColumns → allows (descriptionFault s at) ≡ true
-description-allows s at l =
-    allows-fail (ltb (getD s at 0) 1 || ltb lastKind (getD s at 0)) _ _ (unknown-kind at l)
-    (allows-fail (ltb (length s - at) (descriptionBytes (getD s at 0))) _ _ (list-cut at l)
-    (allows-fail (ltb (mostOptions (getD s at 0)) (getD s (at + 1) 0)) _ _ (option-bits at l)
-    (allows-fail (ltb maxWidth (widthAt s at)) _ _ (too-wide at l) refl)))
+numbers-allow : (place b : ℕ) (cut : Bool) (o w : ℕ) → place ≤ 4 * maxColumns → allows (numbersFault place b cut o w) ≡ true
+numbers-allow place b cut o w l =
+    allows-fail (ltb b 1 || ltb lastKind b) _ _ (unknown-kind place l)
+    (allows-fail cut _ _ (list-cut place l)
+    (allows-fail (ltb (mostOptions b) o) _ _ (option-bits place l)
+    (allows-fail (ltb (mostWidth b) w) _ _ (too-wide place l) refl)))
 
 list-allows-from : (room : ℕ) (s : List ℕ) (at : ℕ) → at + 4 * room ≤ 4 * maxColumns → allows (listFaultFrom room s at) ≡ true
 list-allows-from zero s at l = allows-fail (ltb at (length s)) _ _ (many-columns at (omega arith)) refl
@@ -145,12 +151,27 @@ list-allows-from (suc room) s at l =
   where
     go : (t : Bool) → allows (listFaultFrom room s (at + descriptionBytes (getD s at 0))) ≡ true
         → allows (cond t (both (descriptionFault s at) (listFaultFrom room s (at + descriptionBytes (getD s at 0)))) Pass) ≡ true
-    go true ih = allows-both (descriptionFault s at) _ (description-allows s at (omega arith)) ih
+    go true ih =
+        allows-both (descriptionFault s at) _
+        (numbers-allow at (getD s at 0) (ltb (length s - at) (descriptionBytes (getD s at 0))) (getD s (at + 1) 0) (widthAt s at) (omega arith)) ih
     go false ih = refl
 
-list-allows : (s : List ℕ) → allows (listFault s) ≡ true
-unfolding listFault
-list-allows s = allows-fail (eqb (length s) 0) _ _ (list-cut 0 (omega arith)) (list-allows-from maxColumns s 0 (omega arith))
+descriptions-allow-from : (room i : ℕ) (ds : List Description) → i + room ≤ maxColumns → allows (descriptionsFaultFrom room i ds) ≡ true
+descriptions-allow-from room i [] l = refl
+descriptions-allow-from zero i (d ∷ ds) l = many-columns i (omega arith)
+descriptions-allow-from (suc room) i (d ∷ ds) l =
+    allows-both (heldFault i d) _ (numbers-allow i (d .kind) false (d .options) (d .width) (omega arith))
+    (descriptions-allow-from room (suc i) ds (omega arith))
+
+descriptions-allow : (ds : List Description) → allows (descriptionsFault ds) ≡ true
+unfolding descriptionsFault
+descriptions-allow ds = allows-fail (eqb (length ds) 0) _ _ (list-cut 0 (omega arith)) (descriptions-allow-from maxColumns 0 ds (omega arith))
+
+list-allows : (list : ColumnList) → allows (listFault list) ≡ true
+unfolding spelledFault
+list-allows (spelled s) = allows-fail (eqb (length s) 0) _ _ (list-cut 0 (omega arith)) (list-allows-from maxColumns s 0 (omega arith))
+list-allows (described cols) = descriptions-allow (map held cols)
+list-allows (coded s) = descriptions-allow (descriptionsIn s)
 
 -- ---- a start
 
@@ -160,9 +181,11 @@ unfolding keeps
 started-keeps Pass cols p a = p refl
 started-keeps (Refuse r) cols p a = (refl, a)
 
-pub start-keeps : (list : List ℕ) → Kept (startState list)
+pub start-keeps : (list : ColumnList) → Kept (startState list)
 unfolding startState
 start-keeps list =
     started-keeps (listFault list) (columns list)
-    (λ e. let few = columns-few list e in begun-keeps (columns list) (few .0) (few .1) (columns-kept (columns list) (columns-narrow list e) (columns-fold list e)))
+    (λ e.
+    let few = columns-few list e in
+    begun-keeps (columns list) (few .0) (few .1) (columns-kept (columns list) (columns-narrow list e) (columns-fold list e)))
     (list-allows list)

@@ -1,25 +1,21 @@
 -- A stream: its ends cut it into exactly the rows that decode accepts, and what is left is refused as decode refuses it. Assumes nothing.
-use Prim.Native.Nat.{ℕ, zero, suc, _+_, _-_, _<_, _≤_}
+use Prim.Native.Nat.{ℕ, zero, suc, _+_, _<_, _≤_}
 use mathlib.Core.Path.{_≡_, refl, ap, ap₂, sym, subst, _∙_}
-use mathlib.Core.Bool.{Bool, true, false, cond}
 use mathlib.Core.Logic.{_⊎_, inl, inr}
 use mathlib.Core.List.{List, [], _∷_, _++_, append-assoc, append-nil}
 use native.Mathlib.Nat.{add-zero, zero-add}
 use native.Mathlib.Omega.{arith}
 use lib.Dec.{ltb}
-use lib.ListN.{length, getD, take, drop, length-append}
+use lib.ListN.{length, getD, drop, length-append}
 use lib.Seq.{take-append-seam, drop-at}
 use borrow.Author.Tests.{lt-ltb, le-ltb}
 use Rattle.format.specs.declared.Column.{Column}
 use Rattle.format.specs.declared.SortOptions.{SortOptions}
 use Rattle.format.specs.declared.RowFault.the-variants.{Cut, Extra}
-use Rattle.format.specs.declared.Refusal.{Refusal}
 use Rattle.format.specs.declared.Refusal.the-variants.{Row}
-use Rattle.format.specs.declared.Check.{Check}
 use Rattle.format.specs.declared.Check.the-variants.{Pass, Refuse}
-use Rattle.format.specs.declared.Spot.the-variants.{Start}
 use Rattle.format.specs.declared.Cutter.{Cutter}
-use Rattle.format.specs.Limits.{maxColumns, maxTotal}
+use Rattle.format.specs.Limits.{maxTotal}
 use Rattle.format.specs.Check.{failIf}
 use Rattle.format.specs.Lists.{Bytes, joined, endsFrom}
 use Rattle.format.specs.Schemas.{schemaOf, colsOf}
@@ -28,12 +24,12 @@ use Rattle.format.specs.Read.{Parsed, fault, readField, fieldCheck, rowFault, r
 use Rattle.format.specs.Entries.{cutRows}
 use Rattle.format.specs.Cutter.{fed, endsIn, begun, finishFault}
 use Rattle.basics.proofs.Bytes.{bytes-right, bytes-take}
-use Rattle.basics.proofs.Lists.{Every, endAt, length-ends, end-last}
+use Rattle.basics.proofs.Lists.{Every, length-ends, end-last}
 use Rattle.basics.proofs.Checks.{refuse-pass, both-pass, pass-both}
 use Rattle.laws.proofs.Cuts.{written-rows}
 use Rattle.cutter_laws.specs.Streams.{atRow, rowJudged, streamEnds, openRow, CutAsRead}
 use Rattle.cutter_laws.proofs.Cutting.{fed-append, ends-append}
-use Rattle.cutter_laws.proofs.RowFed.{Before, RowDone, Reads, Refuses, RowFed, row-from}
+use Rattle.cutter_laws.proofs.RowFed.{Before, RowDone, Refuses, RowFed, row-from}
 
 -- the bytes before others are bytes
 bytes-left : (x y : List ℕ) → Bytes (x ++ y) → Bytes x
@@ -86,6 +82,10 @@ module _ (cols : List Column) (some : 0 < length cols) where
 
   -- ---- a stream from row r on, of which n bytes came before
 
+  -- what is left open after r rows of n bytes, of a stream that leaves state u: nothing, or decode refuses it as a finish does
+  abbrev Judged : ℕ → ℕ → List ℕ → Cutter → Type 0
+  Judged r n left u = ((left ≡ []) × (u ≡ atRow cols r n)) ⊎ (rowFault r (length left) 0 cols left ≡ finishFault u)
+
   -- the rows that ended, and what is left open
   record Cutting (r n : ℕ) (xs : List ℕ) : Type 0 where
     pub rows : List (List ℕ)
@@ -93,8 +93,7 @@ module _ (cols : List Column) (some : 0 < length cols) where
     pub splits : xs ≡ joined rows ++ left
     pub accepted : rowsFault r cols rows ≡ Pass
     pub ends : endsIn (atRow cols r n) xs ≡ drop 1 (endsFrom n rows)
-    pub judged : ((left ≡ []) × (fed (atRow cols r n) xs ≡ atRow cols (r + length rows) (n + length (joined rows))))
-        ⊎ (rowFault (r + length rows) (length left) 0 cols left ≡ finishFault (fed (atRow cols r n) xs))
+    pub judged : Judged (r + length rows) (n + length (joined rows)) left (fed (atRow cols r n) xs)
 
   -- the ends with the first before them
   ends-head : (k : ℕ) (rows : List (List ℕ)) → endsFrom k rows ≡ k ∷ drop 1 (endsFrom k rows)
@@ -124,15 +123,16 @@ module _ (cols : List Column) (some : 0 < length cols) where
   }
 
   -- a row ends, and then the others
-  row-more : (r n : ℕ) (xs rest : List ℕ) → Bytes xs → n + length xs ≤ maxTotal → (d : RowDone (atRow cols r n) xs rest) → Cutting (suc r) (n + length (d .part)) rest
-      → Cutting r n xs
+  row-more : (r n : ℕ) (xs rest : List ℕ) → Bytes xs → n + length xs ≤ maxTotal → (d : RowDone (atRow cols r n) xs rest)
+      → Cutting (suc r) (n + length (d .part)) rest → Cutting r n xs
   row-more r n xs rest bs l d c = record {
     rows = d .part ∷ c .rows;
     left = c .left;
     splits = d .splits ∙ ap (λ (z : List ℕ). d .part ++ z) (c .splits) ∙ sym (append-assoc (d .part) (joined (c .rows)) (c .left));
     accepted =
         pass-both (rowFault r (length (d .part)) 0 cols (d .part)) (rowsFault (suc r) cols (c .rows))
-        (row-accepted r n (d .part) (bytes-left (d .part) rest (subst Bytes (d .splits) bs)) (omega (arith, ap length (d .splits), length-append (d .part) rest)) (d .ends)) (c .accepted);
+        (row-accepted r n (d .part) (bytes-left (d .part) rest (subst Bytes (d .splits) bs))
+        (omega (arith, ap length (d .splits), length-append (d .part) rest)) (d .ends)) (c .accepted);
     ends =
         ap (endsIn (atRow cols r n)) (d .splits)
         ∙ ends-append (atRow cols r n) (d .part) rest
@@ -146,17 +146,11 @@ module _ (cols : List Column) (some : 0 < length cols) where
       fed-part =
           ap (fed (atRow cols r n)) (d .splits) ∙ fed-append (atRow cols r n) (d .part) rest ∙ ap (λ (u : Cutter). fed u rest) (d .state)
 
-      Judged : List (List ℕ) → List ℕ → Type 0
-      Judged rows left =
-          ((left ≡ []) × (fed (atRow cols r n) xs ≡ atRow cols (r + length rows) (n + length (joined rows))))
-          ⊎ (rowFault (r + length rows) (length left) 0 cols left ≡ finishFault (fed (atRow cols r n) xs))
-
       one-more : suc r + length (c .rows) ≡ r + suc (length (c .rows))
       one-more = omega arith
 
-      go : ((c .left ≡ []) × (fed (atRow cols (suc r) (n + length (d .part))) rest ≡ atRow cols (suc r + length (c .rows)) (n + length (d .part) + length (joined (c .rows)))))
-          ⊎ (rowFault (suc r + length (c .rows)) (length (c .left)) 0 cols (c .left) ≡ finishFault (fed (atRow cols (suc r) (n + length (d .part))) rest))
-          → Judged (d .part ∷ c .rows) (c .left)
+      go : Judged (suc r + length (c .rows)) (n + length (d .part) + length (joined (c .rows))) (c .left) (fed (atRow cols (suc r) (n + length (d .part))) rest)
+          → Judged (r + suc (length (c .rows))) (n + length (d .part ++ joined (c .rows))) (c .left) (fed (atRow cols r n) xs)
       go (inl g) = inl (g .0, fed-part ∙ g .1 ∙ ap₂ (atRow cols) one-more (omega (arith, length-append (d .part) (joined (c .rows)))))
       go (inr g) = inr (ap (λ (k : ℕ). rowFault k (length (c .left)) 0 cols (c .left)) (sym one-more) ∙ g ∙ ap finishFault (sym fed-part))
 
@@ -214,8 +208,7 @@ module _ (cols : List Column) (some : 0 < length cols) where
           ∙ ap₂ {C = List ℕ} (λ (k : ℕ) (z : List ℕ). drop k z) (end-last 0 (c .rows) ∙ zero-add (length (joined (c .rows)))) (c .splits)
           ∙ drop-at (joined (c .rows)) (c .left) (length (joined (c .rows))) refl
 
-      go : ((c .left ≡ []) × (fed (begun cols) xs ≡ atRow cols (0 + length (c .rows)) (0 + length (joined (c .rows)))))
-          ⊎ (rowFault (0 + length (c .rows)) (length (c .left)) 0 cols (c .left) ≡ finishFault (fed (begun cols) xs))
+      go : Judged (0 + length (c .rows)) (0 + length (joined (c .rows))) (c .left) (fed (begun cols) xs)
           → ((length (openRow cols xs) ≡ 0) × (finishFault (fed (begun cols) xs) ≡ Pass))
           ⊎ (rowFault (length ends) (length (openRow cols xs)) 0 cols (openRow cols xs) ≡ finishFault (fed (begun cols) xs))
       go (inl g) = inl (ap length (opens ∙ g .0), ap finishFault (g .1))
@@ -233,7 +226,10 @@ module _ (cols : List Column) (some : 0 < length cols) where
       go : RowFed (atRow cols r n) cols x → (fed (atRow cols r n) x ≡ atRow cols (suc r) (n + length x)) × (endsIn (atRow cols r n) x ≡ (n + length x) ∷ [])
       go (inr g) = absurd (refuse-pass (sym (g .says) ∙ passes))
       go (inl g) =
-          let part : g .done .part ≡ x = sym (append-nil (g .done .part)) ∙ ap (λ (z : List ℕ). g .done .part ++ z) (sym (none-left (g .rest) (sym (g .says) ∙ passes))) ∙ sym (g .done .splits) in (
+          let part : g .done .part ≡ x
+          = sym (append-nil (g .done .part))
+          ∙ ap (λ (z : List ℕ). g .done .part ++ z) (sym (none-left (g .rest) (sym (g .says) ∙ passes)))
+          ∙ sym (g .done .splits) in (
             subst (λ (z : List ℕ). fed (atRow cols r n) z ≡ atRow cols (suc r) (n + length z)) part (g .done .state),
             subst (λ (z : List ℕ). endsIn (atRow cols r n) z ≡ (n + length z) ∷ []) part (g .done .ends),
           )
@@ -257,7 +253,8 @@ module _ (cols : List Column) (some : 0 < length cols) where
           absurd (refuse-pass (sym (ap (λ (z : Parsed Slot). fieldCheck r 0 0 z (rowFault r 0 1 cs)) (empty-field (columnShape col) (col .options))) ∙ e))
 
   rows-from : (r n : ℕ) (rows : List (List ℕ)) → Every Bytes rows → rowsFault r cols rows ≡ Pass → n + length (joined rows) ≤ maxTotal
-      → (fed (atRow cols r n) (joined rows) ≡ atRow cols (r + length rows) (n + length (joined rows))) × (endsIn (atRow cols r n) (joined rows) ≡ drop 1 (endsFrom n rows))
+      → (fed (atRow cols r n) (joined rows) ≡ atRow cols (r + length rows) (n + length (joined rows)))
+      × (endsIn (atRow cols r n) (joined rows) ≡ drop 1 (endsFrom n rows))
   rows-from r n [] bs e l = (ap₂ (atRow cols) (sym (add-zero r)) (sym (add-zero n)), refl)
   rows-from r n (x ∷ rows) bs e l =
       let sizes = length-append x (joined rows) in
@@ -300,7 +297,8 @@ module _ (cols : List Column) (some : 0 < length cols) where
           found = ap (endsIn s) (g .done .splits) ∙ ends-append s part (g .rest) ∙ ap (λ (z : List ℕ). z ++ endsIn (fed s part) (g .rest)) (g .done .ends)
 
           extra : (rest : List ℕ) → length x ≡ length part + length rest
-              → rowFault r (0 + length x) (0 + length cols) [] rest ≡ failIf (ltb (0 + length part) (length x)) (Row Extra r (length cols) (0 + length part)) Pass
+              → rowFault r (0 + length x) (0 + length cols) [] rest
+              ≡ failIf (ltb (0 + length part) (length x)) (Row Extra r (length cols) (0 + length part)) Pass
           extra [] q = rw (le-ltb (0 + length part) (length x) (omega arith))
           extra (b ∷ rest) q =
               rw (lt-ltb (0 + length part) (length x) (omega arith))

@@ -1,13 +1,13 @@
 -- A field of variable bytes, byte by byte, is read as the field reader reads it. Assumes nothing.
-use Prim.Native.Nat.{ℕ, zero, suc, _+_, _-_, _/_, _^_, _<_, _≤_}
+use Prim.Native.Nat.{ℕ, zero, suc, _+_, _-_, _^_, _≤_}
 use mathlib.Core.Path.{_≡_, refl, ap, ap₂, sym, subst, _∙_}
 use mathlib.Core.Bool.{Bool, true, false, cond, _||_}
-use mathlib.Core.Option.{none, some}
+use mathlib.Core.Option.{none}
 use mathlib.Core.List.{List, [], _∷_, _++_, append-assoc, append-nil}
 use native.Mathlib.Omega.{arith}
 use lib.Dec.{ltb, eqb}
 use lib.ListN.{length, take, drop, length-append, length-drop}
-use borrow.Author.Tests.{lt-ltb, le-ltb, le-leb, ltb-true, ltb-false, eqb-true, eqb-false}
+use borrow.Author.Tests.{le-leb, ltb-true, ltb-false}
 use Rattle.format.specs.declared.SortOptions.{SortOptions}
 use Rattle.format.specs.declared.RowFault.the-variants.{Cut, Lead, EndByte, Padding, TooLong}
 use Rattle.format.specs.declared.Spot.{Spot}
@@ -16,9 +16,9 @@ use Rattle.format.specs.Limits.{maxSlot}
 use Rattle.format.specs.Lists.{Bytes}
 use Rattle.format.specs.Kinds.{Slot, variable}
 use Rattle.format.specs.Field.{directed, blockSize}
-use Rattle.format.specs.Read.{Parsed, got, fault, after, allZero, fromBad, nullLead, readBlock, readBlocks, readValue, valueSlot, readVariable}
+use Rattle.format.specs.Read.{Parsed, got, fault, after, allZero, fromBad, nullLead, readBlock, readBlocks, valueSlot, readVariable}
 use Rattle.format.specs.CutterRule.{before}
-use Rattle.format.specs.Cutter.{Move, on, whole, bad, turn, lowest, endMove, blockMove}
+use Rattle.format.specs.Cutter.{on, whole, bad, turn, lowest, endMove}
 use Rattle.laws.proofs.Directed.{directed-none, directed-cons, directed-twice, length-directed}
 use Rattle.laws.proofs.Parsed.{or-false}
 use Rattle.laws.proofs.ReadBlocks.{cut}
@@ -76,7 +76,8 @@ module _ (o : SortOptions) (end : ℕ) where
           → Alike end
           (walkThen (cond t (cond u (bad TooLong at) (on (Block (suc k) 0 0)))
           (cond (ltb e 1 || ltb size e) (bad EndByte at)
-          (cond (allZero (drop e p)) (cond (ltb maxSlot (before k + e)) (bad TooLong at) whole) (bad Padding (at - size + e + lowest 32 (marksOf (drop e p))))))) s next)
+          (cond (allZero (drop e p)) (cond (ltb maxSlot (before k + e)) (bad TooLong at) whole)
+          (bad Padding (at - size + e + lowest 32 (marksOf (drop e p))))))) s next)
           (valueSlot d (cond t (cond u (fault TooLong (suc (length ds))) (after p more))
           (cond (ltb e 1 || ltb size e) (fault EndByte (suc (length ds)))
           (cond (allZero (drop e p)) (cond (ltb maxSlot (before k + e)) (fault TooLong (suc (length ds))) (got (take e p) ds))
@@ -157,5 +158,6 @@ variable-walk o at (b ∷ s) bs = rw (directed-cons (o .descending) b s) (go (nu
         (cond v (readBlocks blockSize maxSlot (length (directed d s)) 0 0 (directed d s)) (fault Lead (suc (length (directed d s))))))))
     go true u v = refl
     go false true v = sym (directed-twice d s (bs .1))
-    go false false true = block-walk o end s (bs .1) (length (directed d s)) 0 (suc at) [] (omega arith) (omega arith) (omega arith) (omega (arith, length-directed d s))
+    go false false true =
+        block-walk o end s (bs .1) (length (directed d s)) 0 (suc at) [] (omega arith) (omega arith) (omega arith) (omega (arith, length-directed d s))
     go false false false = (refl, omega (arith, length-directed d s), refl)

@@ -12,7 +12,7 @@ use Rattle.format.specs.declared.Refusal.the-variants.{RowRoom, SheetRoom}
 use Rattle.format.specs.declared.Column.{Column}
 use Rattle.format.specs.Limits.{maxRows, maxTotal}
 use Rattle.format.specs.Check.{both, failIf}
-use Rattle.format.specs.Columns.{listFault, columns}
+use Rattle.format.specs.Described.{ColumnList, listFault, columns}
 use Rattle.format.specs.Sheet.{sheetFault}
 use Rattle.format.specs.Read.{rowsFault}
 use Rattle.format.specs.Entries.{answer, rowCountFault, sheetTotal, measureCheck, encodeCheck, offsetRoomFault, offsetsFault, cutRows, decodedSheet, decodeCheck}
@@ -38,7 +38,7 @@ next : (x y : Check) → x ≡ Pass → both x y ≡ y
 next x y e = rw e
 
 -- ---- measure and encode
-pub measure-pass : (list : List ℕ) (n : ℕ) (sheet : List ℕ) → listFault list ≡ Pass → Accepted (columns list) n sheet → measureCheck list n sheet ≡ Pass
+pub measure-pass : (list : ColumnList) (n : ℕ) (sheet : List ℕ) → listFault list ≡ Pass → Accepted (columns list) n sheet → measureCheck list n sheet ≡ Pass
 unfolding measureCheck
 measure-pass list n sheet l a =
     pass-both (listFault list) _ l
@@ -47,14 +47,14 @@ measure-pass list n sheet l a =
     (pass-enough maxTotal (sheetTotal n (columns list) sheet) _ _ (a .small) refl)))
 
 -- of an accepted sheet, encode refuses nothing but 13 and 14
-pub encode-room : (list : List ℕ) (n : ℕ) (sheet : List ℕ) (rowRoom offsetRoom : ℕ) → listFault list ≡ Pass → Accepted (columns list) n sheet
+pub encode-room : (list : ColumnList) (n : ℕ) (sheet : List ℕ) (rowRoom offsetRoom : ℕ) → listFault list ≡ Pass → Accepted (columns list) n sheet
     → encodeCheck list n sheet rowRoom offsetRoom
     ≡ failIf (ltb rowRoom (sheetTotal n (columns list) sheet)) (RowRoom (sheetTotal n (columns list) sheet)) (offsetRoomFault n offsetRoom)
 unfolding encodeCheck
 encode-room list n sheet rowRoom offsetRoom l a = next (measureCheck list n sheet) _ (measure-pass list n sheet l a)
 
 -- ---- decode
-pub decoded : (list : List ℕ) (n : ℕ) (bytes offsets : List ℕ) (room : ℕ) → decodeCheck list n bytes offsets room ≡ Pass
+pub decoded : (list : ColumnList) (n : ℕ) (bytes offsets : List ℕ) (room : ℕ) → decodeCheck list n bytes offsets room ≡ Pass
     → (listFault list ≡ Pass) × AcceptedRows (columns list) n bytes offsets
 unfolding decodeCheck
 decoded list n bytes offsets room e =
@@ -65,7 +65,7 @@ decoded list n bytes offsets room e =
     (p .0, record { few = enough maxRows n _ _ (q .0) .0; cuts = offsets-passed n bytes offsets (r .0); passes = s .0 })
 
 -- of accepted rows, decode refuses nothing but 24
-pub decode-room : (list : List ℕ) (n : ℕ) (bytes offsets : List ℕ) (room : ℕ) → listFault list ≡ Pass → AcceptedRows (columns list) n bytes offsets
+pub decode-room : (list : ColumnList) (n : ℕ) (bytes offsets : List ℕ) (room : ℕ) → listFault list ≡ Pass → AcceptedRows (columns list) n bytes offsets
     → decodeCheck list n bytes offsets room
     ≡ failIf (ltb room (length (decodedSheet n (columns list) (cutRows n bytes offsets))))
     (SheetRoom (length (decodedSheet n (columns list) (cutRows n bytes offsets))))

@@ -15,7 +15,7 @@ use Rattle.format.specs.declared.Check.the-variants.{Pass, Refuse}
 use Rattle.format.specs.declared.Refusal.{Refusal}
 use Rattle.format.specs.Check.{both}
 use Rattle.format.specs.Lists.{Bytes}
-use Rattle.format.specs.Columns.{columns}
+use Rattle.format.specs.Described.{ColumnList, columns}
 use Rattle.format.specs.Numbers.{numbersOf}
 use Rattle.format.specs.Entries.{encodeCheck, encodeAnswer, encodeRows, encodeOffsets, cutRows, decodedSheet, decodeCheck, decodeAnswer, decodeSheet, compareAnswer}
 use Rattle.format.specs.Promises.{Encoded, Decoded}
@@ -33,7 +33,7 @@ use Rattle.demands.proofs.Accept.{answer-refused}
 use Rattle.demands.proofs.NullSlots.{sliced-alike}
 
 -- ---- after a call of encode
-module _ {list : List ℕ} {n : ℕ} {sheet rows offsets : List ℕ} {r : Answer} {rows′ offsets′ : List ℕ}
+module _ {list : ColumnList} {n : ℕ} {sheet rows offsets : List ℕ} {r : Answer} {rows′ offsets′ : List ℕ}
     (h : Encoded list n sheet rows offsets r rows′ offsets′) where
   encode-is : r ≡ encodeAnswer list n sheet (length rows) (length offsets)
   encode-is = numbers-injective r _ (h .answers)
@@ -61,7 +61,7 @@ module _ {list : List ℕ} {n : ℕ} {sheet rows offsets : List ℕ} {r : Answer
       }
 
 -- ---- two calls of encode, on sheets that differ only before a first end
-pub both-alike : {list : List ℕ} {n : ℕ} {sheet rows offsets other others ends : List ℕ} {r q : Answer} {rows′ offsets′ others′ ends′ : List ℕ}
+pub both-alike : {list : ColumnList} {n : ℕ} {sheet rows offsets other others ends : List ℕ} {r q : Answer} {rows′ offsets′ others′ ends′ : List ℕ}
     → Bytes sheet → Encoded list n sheet rows offsets r rows′ offsets′ → Encoded list n other others ends q others′ ends′
     → EncodedAlike list n sheet rows offsets other others ends (record { first = r; second = q }) rows′ offsets′ others′ ends′
 both-alike {list} {n} {sheet} {rows} {offsets} {other} {others} {ends} b f g e d same-rows same-ends =
@@ -79,7 +79,7 @@ both-alike {list} {n} {sheet} {rows} {offsets} {other} {others} {ends} b f g e d
     }
 
 -- ---- after a call of decode
-module _ {list : List ℕ} {n : ℕ} {rows offsets sheet : List ℕ} {r : Answer} {sheet′ : List ℕ} (h : Decoded list n rows offsets sheet r sheet′) where
+module _ {list : ColumnList} {n : ℕ} {rows offsets sheet : List ℕ} {r : Answer} {sheet′ : List ℕ} (h : Decoded list n rows offsets sheet r sheet′) where
   abbrev out : List ℕ
   out = decodedSheet n (columns list) (cutRows n rows offsets)
 
@@ -122,11 +122,11 @@ module _ {list : List ℕ} {n : ℕ} {rows offsets sheet : List ℕ} {r : Answer
 -- ---- after two calls of encode
 
 -- a batch that was encoded
-pub batch-written : {list : List ℕ} {n : ℕ} {sheet rows offsets : List ℕ} {r : Answer} {rows′ offsets′ : List ℕ}
+pub batch-written : {list : ColumnList} {n : ℕ} {sheet rows offsets : List ℕ} {r : Answer} {rows′ offsets′ : List ℕ}
     → Encoded list n sheet rows offsets r rows′ offsets′ → Bytes sheet → (a b : ℕ) → r ≡ Done a b → Written list (batch n sheet rows offsets rows′ offsets′)
 batch-written h bytes a b e = record { bytes = bytes; passes = encode-passed h a b e; row-bytes = h .row-bytes; row-ends = h .row-ends }
 
-module _ {list : List ℕ} {b d : Batch} (r q : ℕ) where
+module _ {list : ColumnList} {b d : Batch} (r q : ℕ) where
   -- where one of them is refused, or a row is not there, nothing is compared
   none : (x : Ordered) → x ≡ ordered (both (batchFault list b) (batchFault list d)) (ltb r (b .n) && ltb q (d .n)) (orderIn list b d r q)
       → (There list b d r q → ⊥) → OrderedAs list b d r q x

@@ -17,7 +17,7 @@ use Rattle.format.specs.declared.RowFault.{RowFault}
 use Rattle.format.specs.declared.Column.{Column}
 use Rattle.format.specs.Check.{both, failIf}
 use Rattle.format.specs.Lists.{Bytes, endsFrom, joined}
-use Rattle.format.specs.Columns.{columns, listFault}
+use Rattle.format.specs.Described.{ColumnList, listFault, columns}
 use Rattle.format.specs.Sheet.{sheetSlots, nulls}
 use Rattle.format.specs.Cleared.{clearedSheet}
 use Rattle.format.specs.Read.{rowSlots, rowsFault}
@@ -35,7 +35,7 @@ use Rattle.demands.specs.RoundTrip.{clearedOf, CameBack, CameAgain, Alik
 use Rattle.demands.proofs.Accept.{AcceptedRows, measure-pass, encode-room, decoded, decode-room, answer-refused}
 
 -- ---- what encode wrote, decoded: the cleared sheet of the same slots, and the same null total
-module _ (list : List ℕ) (n : ℕ) (sheet rows offsets back : List ℕ) where
+module _ (list : ColumnList) (n : ℕ) (sheet rows offsets back : List ℕ) where
   abbrev cols : List Column
   cols = columns list
 
@@ -86,7 +86,7 @@ module _ (list : List ℕ) (n : ℕ) (sheet rows offsets back : List ℕ) where
     }
 
 -- ---- what decode wrote, encoded: the same rows and offsets, and the same null total
-module _ (list : List ℕ) (n : ℕ) (rows offsets sheet rows₂ offsets₂ : List ℕ) where
+module _ (list : ColumnList) (n : ℕ) (rows offsets sheet rows₂ offsets₂ : List ℕ) where
   -- what decode refuses is not encoded
   pub refused-again : (x : Refusal) → decodeCheck list n rows offsets (length sheet) ≡ Refuse x
       → CameAgain list n rows offsets sheet rows₂ offsets₂ (Refused x) rows₂ offsets₂
@@ -118,7 +118,7 @@ module _ (list : List ℕ) (n : ℕ) (rows offsets sheet rows₂ offsets₂ : Li
     }
 
 -- ---- accepted sheets that differ only in null slots, and so have equal slots, are encoded alike
-pub same-slots-alike : (list : List ℕ) (n : ℕ) (s t rows offsets : List ℕ) → measureCheck list n s ≡ Pass → measureCheck list n t ≡ Pass
+pub same-slots-alike : (list : ColumnList) (n : ℕ) (s t rows offsets : List ℕ) → measureCheck list n s ≡ Pass → measureCheck list n t ≡ Pass
     → sheetSlots n (columns list) s ≡ sheetSlots n (columns list) t → Alike list n s t rows offsets
 unfolding encodeCheck encodeAnswer encodeRows encodeOffsets
 same-slots-alike list n s t rows offsets p q e = record {
@@ -128,7 +128,7 @@ same-slots-alike list n s t rows offsets p q e = record {
 }
 
 -- so are an accepted sheet and its cleared sheet
-pub cleared-alike : (list : List ℕ) (n : ℕ) (sheet rows offsets : List ℕ) → Bytes sheet → measureCheck list n sheet ≡ Pass
+pub cleared-alike : (list : ColumnList) (n : ℕ) (sheet rows offsets : List ℕ) → Bytes sheet → measureCheck list n sheet ≡ Pass
     → Alike list n sheet (clearedOf list n sheet) rows offsets
 cleared-alike list n sheet rows offsets b e =
     let l = measured list n sheet e in
@@ -138,7 +138,7 @@ cleared-alike list n sheet rows offsets b e =
     (sym (cleared-same cols n sheet b (l .1)))
 
 -- ---- a row is refused by its content exactly when no values within the limits have its bytes
-module _ (list : List ℕ) (n : ℕ) (bytes offsets : List ℕ) (room : ℕ) where
+module _ (list : ColumnList) (n : ℕ) (bytes offsets : List ℕ) (room : ℕ) where
   pub cut : (r : ℕ) → r < n → getD (cutRows n bytes offsets) r [] ≡ rowBytes bytes offsets r
   cut r l = each-at n (rowBytes bytes offsets) [] r l
 

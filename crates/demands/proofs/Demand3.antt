@@ -7,7 +7,7 @@ use lib.ListN.{length, drop}
 use Rattle.format.specs.declared.Check.the-variants.{Pass}
 use Rattle.format.specs.declared.Column.{Column}
 use Rattle.format.specs.Lists.{Bytes, endsFrom, joined}
-use Rattle.format.specs.Columns.{columns}
+use Rattle.format.specs.Described.{ColumnList, columns}
 use Rattle.format.specs.Order.{Begins, cmp}
 use Rattle.format.specs.Fits.{RowFits}
 use Rattle.format.specs.Row.{row}
@@ -27,13 +27,13 @@ use Rattle.demands.proofs.OneRow.{row-injective}
 use Rattle.demands.proofs.Turning.{row-at, row-fits}
 
 -- a batch that encode did not refuse, with what it wrote
-pub record Written (list : List ℕ) (b : Batch) : Type 0 where
+pub record Written (list : ColumnList) (b : Batch) : Type 0 where
   pub bytes : Bytes (b .sheet)
   pub passes : batchFault list b ≡ Pass
   pub row-bytes : b .rows′ ≡ encodeRows list (b .n) (b .sheet) (b .rows) (length (b .offsets))
   pub row-ends : b .offsets′ ≡ encodeOffsets list (b .n) (b .sheet) (length (b .rows)) (b .offsets)
 
-module _ {list : List ℕ} {b : Batch} (w : Written list b) where
+module _ {list : ColumnList} {b : Batch} (w : Written list b) where
   abbrev cols : List Column
   cols = columns list
 
@@ -73,7 +73,7 @@ module _ {list : List ℕ} {b : Batch} (w : Written list b) where
         (sheet-fits (b .n) cols (b .sheet) (w .bytes) (encoded list (b .n) (b .sheet) (length (b .rows)) (length (b .offsets)) (w .passes) .1 .passes))
 
 -- row r of one batch and row q of another under one list
-module _ {list : List ℕ} {b d : Batch} (v : Written list b) (w : Written list d) (r q : ℕ) (lr : r < b .n) (lq : q < d .n) where
+module _ {list : ColumnList} {b d : Batch} (v : Written list b) (w : Written list d) (r q : ℕ) (lr : r < b .n) (lq : q < d .n) where
   -- comparing their bytes compares their values
   pub written-order : compareAnswer (rowIn b r) (rowIn d q) ≡ sign (rowOrder (columns list) (valuesIn list b r) (valuesIn list d q))
   unfolding compareAnswer

@@ -14,11 +14,12 @@ use Rattle.format.specs.declared.Check.{Check}
 use Rattle.format.specs.declared.Check.the-variants.{Pass, Refuse}
 use Rattle.format.specs.declared.Refusal.{Refusal}
 use Rattle.format.specs.declared.Refusal.the-variants.{Row}
-use Rattle.format.specs.Limits.{maxRows, maxWidth, maxTotal}
+use Rattle.format.specs.Limits.{maxColumns, maxRows, maxTotal}
 use Rattle.format.specs.Check.{both, failIf}
 use Rattle.format.specs.Lists.{Bytes}
 use Rattle.format.specs.Kinds.{lastKind, Slot, columnShape}
-use Rattle.format.specs.Columns.{mostOptions, descriptionBytes, descriptionFault, listFaultFrom, listFault, widthAt}
+use Rattle.format.specs.Columns.{mostOptions, mostWidth, numbersFault, descriptionBytes, descriptionFault, widthAt, listFaultFrom, spelledFault}
+use Rattle.format.specs.Described.{Description, held, descriptionsIn, heldFault, descriptionsFaultFrom, descriptionsFault, ColumnList, spelled, described, coded, listFault}
 use Rattle.format.specs.Fits.{RowFits, HasValues}
 use Rattle.format.specs.Row.{row}
 use Rattle.format.specs.Read.{Parsed, got, fault, readField, fieldCheck, rowFault, rowSlots, rowsFault}
@@ -60,12 +61,16 @@ outer-cond : (b : Bool) (c d : Check) → Outer c → Outer d → Outer (cond b 
 outer-cond true c d h k = h
 outer-cond false c d h k = k
 
+outer-numbers : (place b : ℕ) (cut : Bool) (o w : ℕ) → Outer (numbersFault place b cut o w)
+outer-numbers place b cut o w =
+    outer-if (ltb b 1 || ltb lastKind b) _ _ refl
+    (outer-if cut _ _ refl
+    (outer-if (ltb (mostOptions b) o) _ _ refl
+    (outer-if (ltb (mostWidth b) w) _ _ refl tt)))
+
 outer-description : (s : List ℕ) (at : ℕ) → Outer (descriptionFault s at)
 outer-description s at =
-    outer-if (ltb (getD s at 0) 1 || ltb lastKind (getD s at 0)) _ _ refl
-    (outer-if (ltb (length s - at) (descriptionBytes (getD s at 0))) _ _ refl
-    (outer-if (ltb (mostOptions (getD s at 0)) (getD s (at + 1) 0)) _ _ refl
-    (outer-if (ltb maxWidth (widthAt s at)) _ _ refl tt)))
+    outer-numbers at (getD s at 0) (ltb (length s - at) (descriptionBytes (getD s at 0))) (getD s (at + 1) 0) (widthAt s at)
 
 outer-list-from : (room : ℕ) (s : List ℕ) (at : ℕ) → Outer (listFaultFrom room s at)
 outer-list-from zero s at = outer-if (ltb at (length s)) _ _ refl tt
@@ -73,9 +78,24 @@ outer-list-from (suc room) s at =
     outer-cond (ltb at (length s)) _ _
     (outer-both (descriptionFault s at) _ (outer-description s at) (outer-list-from room s (at + descriptionBytes (getD s at 0)))) tt
 
-pub outer-list : (s : List ℕ) → Outer (listFault s)
-unfolding listFault
-outer-list s = outer-if (eqb (length s) 0) _ _ refl (outer-list-from 16 s 0)
+outer-spelled : (s : List ℕ) → Outer (spelledFault s)
+unfolding spelledFault
+outer-spelled s = outer-if (eqb (length s) 0) _ _ refl (outer-list-from maxColumns s 0)
+
+outer-descriptions-from : (room i : ℕ) (ds : List Description) → Outer (descriptionsFaultFrom room i ds)
+outer-descriptions-from room i [] = tt
+outer-descriptions-from zero i (d ∷ ds) = refl
+outer-descriptions-from (suc room) i (d ∷ ds) =
+    outer-both (heldFault i d) _ (outer-numbers i (d .kind) false (d .options) (d .width)) (outer-descriptions-from room (suc i) ds)
+
+outer-descriptions : (ds : List Description) → Outer (descriptionsFault ds)
+unfolding descriptionsFault
+outer-descriptions ds = outer-if (eqb (length ds) 0) _ _ refl (outer-descriptions-from maxColumns 0 ds)
+
+pub outer-list : (list : ColumnList) → Outer (listFault list)
+outer-list (spelled s) = outer-spelled s
+outer-list (described cols) = outer-descriptions (map held cols)
+outer-list (coded s) = outer-descriptions (descriptionsIn s)
 
 pub outer-count : (n : ℕ) → Outer (rowCountFault n)
 outer-count n = outer-if (ltb maxRows n) _ _ refl tt

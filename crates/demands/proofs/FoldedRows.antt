@@ -15,7 +15,7 @@ use Rattle.format.specs.Limits.{maxRows, maxSlot, maxTotal}
 use Rattle.format.specs.Check.{failIf}
 use Rattle.format.specs.Lists.{Bytes, joined, endsFrom, over}
 use Rattle.format.specs.Kinds.{Shape, fixed, variable, Slot, columnShape}
-use Rattle.format.specs.Columns.{listFault, columns}
+use Rattle.format.specs.Described.{ColumnList, listFault, columns}
 use Rattle.format.specs.Field.{field}
 use Rattle.format.specs.Row.{row}
 use Rattle.format.specs.Fits.{SlotFits, AllSlots, SheetFits}
@@ -94,7 +94,7 @@ module _ (n : ℕ) (cols : List Column) (sheet : List ℕ) (few : n ≤ maxRows)
   folded-rows = rows-folded n cols sheet (foldedSheet n cols sheet) folded-slots
 
 -- ---- the same of encode, where another list has the same columns without bit 3
-module _ (list plain : List ℕ) (n : ℕ) (sheet rows offsets : List ℕ) (l : listFault plain ≡ Pass) (same : columns plain ≡ map unfolded (columns list))
+module _ (list plain : ColumnList) (n : ℕ) (sheet rows offsets : List ℕ) (l : listFault plain ≡ Pass) (same : columns plain ≡ map unfolded (columns list))
     (b : Bytes sheet) (e : encodeCheck list n sheet (length rows) (length offsets) ≡ Pass) where
   a : Accepted (columns list) n sheet
   a = encoded list n sheet (length rows) (length offsets) e .1

@@ -16,7 +16,7 @@ use Rattle.format.specs.declared.Check.the-variants.{Pass, Refuse}
 use Rattle.format.specs.declared.Refusal.{Refusal}
 use Rattle.format.specs.declared.Refusal.the-variants.{OffsetRoom, Offsets}
 use Rattle.format.specs.Check.{both, failIf}
-use Rattle.format.specs.Columns.{listFault}
+use Rattle.format.specs.Described.{ColumnList, listFault}
 use Rattle.format.specs.Passed.{Cuts}
 use Rattle.format.specs.Entries.{rowCountFault, totalFault, fallFault, offsetsFault, rowBytes, cutRows, decodeCheck, decodeAnswer, decodeSheet}
 use Rattle.basics.proofs.Compare.{choose}
@@ -52,7 +52,7 @@ no-rows Pass Pass r = (r, refl)
 no-rows Pass (Refuse q) r = (q, refl)
 no-rows (Refuse p) y r = (p, refl)
 
-module _ (list : List ℕ) (n : ℕ) (bytes bytes′ offsets offsets′ sheet : List ℕ) (ends : take (suc n) offsets ≡ take (suc n) offsets′)
+module _ (list : ColumnList) (n : ℕ) (bytes bytes′ offsets offsets′ sheet : List ℕ) (ends : take (suc n) offsets ≡ take (suc n) offsets′)
     (front : take (getD offsets n 0) bytes ≡ take (getD offsets n 0) bytes′) where
   at : (i : ℕ) → i ≤ n → getD offsets i 0 ≡ getD offsets′ i 0
   at i l =

@@ -30,3 +30,4 @@ pub mod Sorted
 pub mod Insertion
 pub mod JoinOrder
 pub mod Unique
+pub mod BothWays

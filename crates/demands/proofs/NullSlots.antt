@@ -15,7 +15,7 @@ use Rattle.format.specs.Lists.{Bytes, joined, over}
 use Rattle.format.specs.Kinds.{Slot, columnShape}
 use Rattle.format.specs.Fold.{foldedSlot}
 use Rattle.format.specs.Fits.{AllSlots}
-use Rattle.format.specs.Columns.{columns}
+use Rattle.format.specs.Described.{ColumnList, columns}
 use Rattle.format.specs.Row.{row}
 use Rattle.format.specs.Sheet.{Layout, bits, ended, wide, layout, packed, bit, valueAt, slotIf, columnBytes, slotAt, sheetFault, sheetSlots, nulls, turned}
 use Rattle.format.specs.Cleared.{clearedSheet}
@@ -43,7 +43,7 @@ raws-slots n (col ∷ cols) s =
 -- raw columns within the limits of which encode takes the slots of an accepted sheet make an accepted sheet, which is encoded alike. Those of the
 -- sheet itself make the sheet (`sheet-raw`), so that its null slots, and what is before its first ends, may be changed at will,
 -- and a float for one that is folded to the same
-pub null-slots-free : (list : List ℕ) (n : ℕ) (s rows offsets : List ℕ) (cs : List RawColumn) → measureCheck list n s ≡ Pass → RawFits n (columns list) cs
+pub null-slots-free : (list : ColumnList) (n : ℕ) (s rows offsets : List ℕ) (cs : List RawColumn) → measureCheck list n s ≡ Pass → RawFits n (columns list) cs
     → takenFrom (columns list) cs ≡ sheetSlots n (columns list) s
     → (measureCheck list n (rawSheet n (columns list) cs) ≡ Pass) × Alike list n s (rawSheet n (columns list) cs) rows offsets
 null-slots-free list n s rows offsets cs e fits same =
@@ -94,7 +94,7 @@ resliced-slots (col ∷ cols) (c ∷ cs) (d ∷ ds) r =
     (resliced-slots cols cs ds (r .3))
 
 -- so a sheet that differs from an accepted one only in bytes before a first end is accepted, and encoded alike
-pub sliced-alike : (list : List ℕ) (n : ℕ) (s t rows offsets : List ℕ) → Bytes s → measureCheck list n s ≡ Pass → DiffersBefore n (columns list) s t
+pub sliced-alike : (list : ColumnList) (n : ℕ) (s t rows offsets : List ℕ) → Bytes s → measureCheck list n s ≡ Pass → DiffersBefore n (columns list) s t
     → (measureCheck list n t ≡ Pass) × Alike list n s t rows offsets
 sliced-alike list n s t rows offsets b e d =
     let cols : List Column = columns list in
@@ -130,8 +130,8 @@ pub cleared-kept : (n : ℕ) (cols : List Column) (s : List ℕ) → Bytes s →
 cleared-kept n cols s b e h f = cleared-raw n cols (sheetSlots n cols s) ∙ ap (rawSheet n cols) (clear-raws n cols s h f) ∙ sheet-raw n cols s b e .0
 
 -- so, encoded and decoded, it comes back byte for byte
-pub byte-for-byte : (list : List ℕ) (n : ℕ) (sheet rows offsets back : List ℕ) (r : Answer) (back′ : List ℕ) → CameBack list n sheet rows offsets back r back′
-    → Bytes sheet → encodeCheck list n sheet (length rows) (length offsets) ≡ Pass → IsCleared n (columns list) sheet
+pub byte-for-byte : (list : ColumnList) (n : ℕ) (sheet rows offsets back : List ℕ) (r : Answer) (back′ : List ℕ)
+    → CameBack list n sheet rows offsets back r back′ → Bytes sheet → encodeCheck list n sheet (length rows) (length offsets) ≡ Pass → IsCleared n (columns list) sheet
     → IsFolded n (columns list) sheet → length sheet ≤ length back
     → (numbersOf r ≡ three 0 (length sheet) (nulls (sheetSlots n (columns list) sheet))) × (back′ ≡ over sheet back)
 byte-for-byte list n sheet rows offsets back r back′ h b e clear folded room =

@@ -14,7 +14,7 @@ use Rattle.format.specs.Limits.{maxRows, maxSlot}
 use Rattle.format.specs.Lists.{Bytes, endsFrom, joined, lowBytes}
 use Rattle.format.specs.Kinds.{Shape, fixed, variable, Slot, columnShape}
 use Rattle.format.specs.Fits.{Fits, RowFits, SheetFits}
-use Rattle.format.specs.Columns.{columns}
+use Rattle.format.specs.Described.{ColumnList, columns}
 use Rattle.format.specs.Row.{row}
 use Rattle.format.specs.Sheet.{Layout, bits, ended, wide, layout, packed, sheetSlots, turned}
 use Rattle.format.specs.Cleared.{byteOf, pack, clearedSheet}
@@ -91,7 +91,8 @@ rows-bytes : (cols : List Column) (yss : List (List Slot)) → Every (RowFits co
 rows-bytes cols [] h = tt
 rows-bytes cols (ys ∷ yss) h = (bytes-row cols ys (h .0), rows-bytes cols yss (h .1))
 
-pub encode-bytes : (list : List ℕ) (n : ℕ) (sheet rows : List ℕ) (offsetRoom : ℕ) → Bytes sheet → Bytes rows → Bytes (encodeRows list n sheet rows offsetRoom)
+pub encode-bytes : (list : ColumnList) (n : ℕ) (sheet rows : List ℕ) (offsetRoom : ℕ) → Bytes sheet → Bytes rows
+    → Bytes (encodeRows list n sheet rows offsetRoom)
 unfolding encodeRows
 encode-bytes list n sheet rows offsetRoom b old =
     written-bytes (encodeCheck list n sheet (length rows) offsetRoom) (joined (sheetRows n cols sheet)) rows new old
@@ -104,7 +105,7 @@ encode-bytes list n sheet rows offsetRoom b old =
         let fits = sheet-fits n cols sheet b (encoded list n sheet (length rows) offsetRoom e .1 .passes) in
         bytes-joined (sheetRows n cols sheet) (rows-bytes cols (turned n (sheetSlots n cols sheet)) (rows-fit n cols (sheetSlots n cols sheet) fits))
 
-pub decode-bytes : (list : List ℕ) (n : ℕ) (bytes offsets sheet : List ℕ) → Bytes bytes → Bytes sheet → Bytes (decodeSheet list n bytes offsets sheet)
+pub decode-bytes : (list : ColumnList) (n : ℕ) (bytes offsets sheet : List ℕ) → Bytes bytes → Bytes sheet → Bytes (decodeSheet list n bytes offsets sheet)
 unfolding decodeSheet
 decode-bytes list n bytes offsets sheet b old =
     written-bytes (decodeCheck list n bytes offsets (length sheet)) (decodedSheet n (columns list) (cutRows n bytes offsets)) sheet new old

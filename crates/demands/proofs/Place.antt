@@ -15,7 +15,7 @@ use Rattle.format.specs.declared.RowFault.the-variants.{Cut, Lead, NullRest, Bo
 use Rattle.format.specs.declared.SortOptions.{SortOptions}
 use Rattle.format.specs.Kinds.{Fixed, bool, plain, number, integer, float, parts, Shape, fixed, variable, Slot, width, columnShape}
 use Rattle.format.specs.Lists.{Bytes}
-use Rattle.format.specs.Columns.{columns}
+use Rattle.format.specs.Described.{ColumnList, columns}
 use Rattle.format.specs.Field.{directed, field}
 use Rattle.format.specs.Fold.{isFolded}
 use Rattle.format.specs.Key.{unkey}
@@ -199,7 +199,7 @@ byte-place cols s f c place other t = omega (arith, length-rest t, go (drop c co
     go (col ∷ rest) h = field-byte (columnShape col) (col .options) f (t .rest) (t .p) other h
 
 -- ---- decode
-module _ (list : List ℕ) (n : ℕ) (bytes offsets : List ℕ) (room : ℕ) (b : Bytes bytes) (f : RowFault) (r c place : ℕ)
+module _ (list : ColumnList) (n : ℕ) (bytes offsets : List ℕ) (room : ℕ) (b : Bytes bytes) (f : RowFault) (r c place : ℕ)
     (e : decodeAnswer list n bytes offsets room ≡ Refused (Row f r c place)) where
   -- a refusal by content names the bad byte of its row
   pub decode-place : BadAt (columns list) (rowBytes bytes offsets r) f c place

@@ -6,7 +6,7 @@ use mathlib.Core.List.{List}
 use lib.ListN.{length}
 use Rattle.format.specs.declared.SortOptions.{SortOptions}
 use Rattle.format.specs.declared.Column.{Column}
-use Rattle.format.specs.Columns.{columns}
+use Rattle.format.specs.Described.{ColumnList, columns}
 use Rattle.format.specs.Sheet.{sheetSlots}
 use Rattle.format.specs.Cleared.{clearedSheet}
 use Rattle.format.specs.Entries.{encodeAnswer, encodeRows, encodeOffsets}
@@ -23,7 +23,7 @@ abbrev pub foldedSheet : ℕ → List Column → List ℕ → List ℕ
 foldedSheet n cols sheet = clearedSheet n cols (sheetSlots n cols sheet)
 
 -- encode answers and writes for a sheet under one list what it does for its folded sheet under the other
-pub record EncodedFolded (list plain : List ℕ) (n : ℕ) (sheet rows offsets : List ℕ) : Type 0 where
+pub record EncodedFolded (list plain : ColumnList) (n : ℕ) (sheet rows offsets : List ℕ) : Type 0 where
   pub answers : encodeAnswer list n sheet (length rows) (length offsets)
       ≡ encodeAnswer plain n (foldedSheet n (columns list) sheet) (length rows) (length offsets)
   pub row-bytes : encodeRows list n sheet rows (length offsets) ≡ encodeRows plain n (foldedSheet n (columns list) sheet) rows (length offsets)

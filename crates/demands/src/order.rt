@@ -1,5 +1,6 @@
 // Demand 3: comparing the bytes of two encoded rows compares their values.
 ghost use mathlib.Core.Path.{_≡_};
+ghost use Rattle.format.specs.Described.{spelled};
 ghost use Rattle.format.specs.Entries.{rowBytes, compareAnswer};
 ghost use Rattle.joiner.specs.Rows.{Lies};
 ghost use Rattle.demands.specs.Order.{batch, OrderedAs};
@@ -49,7 +50,7 @@ pub fn encode_compare(
     ends: &mut [u64],
     q: u64,
 ) -> Ordered
-    ensures { λ x. ⌜ OrderedAs (now (list .entry))
+    ensures { λ x. ⌜ OrderedAs (spelled (now (list .entry)))
         (batch n (now (sheet .entry)) (now (rows .entry)) (now (offsets .entry)) (now (rows .exit)) (now (offsets .exit)))
         (batch m (now (other .entry)) (now (others .entry)) (now (ends .entry)) (now (others .exit)) (now (ends .exit)))
         r q x ⌝ }

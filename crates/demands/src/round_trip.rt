@@ -1,4 +1,5 @@
 // Demand 2: what encode wrote decodes to the cleared sheet, and what decode wrote encodes to the same rows.
+ghost use Rattle.format.specs.Described.{spelled};
 ghost use Rattle.demands.specs.RoundTrip.{CameBack, CameAgain};
 use format::Answer;
 use station::decode::decode;
@@ -13,7 +14,7 @@ pub fn encode_decode(
     offsets: &mut [u64],
     back: &mut [u8],
 ) -> Answer
-    ensures { λ r. ⌜ CameBack (now (list .entry)) n (now (sheet .entry)) (now (rows .entry)) (now (offsets .entry)) (now (back .entry))
+    ensures { λ r. ⌜ CameBack (spelled (now (list .entry))) n (now (sheet .entry)) (now (rows .entry)) (now (offsets .entry)) (now (back .entry))
         r (now (back .exit)) ⌝ }
 {
     let encoded = encode(list, n, sheet, rows, offsets);
@@ -33,7 +34,7 @@ pub fn decode_encode(
     again: &mut [u8],
     ends: &mut [u64],
 ) -> Answer
-    ensures { λ r. ⌜ CameAgain (now (list .entry)) n (now (rows .entry)) (now (offsets .entry)) (now (sheet .entry)) (now (again .entry)) (now (ends .entry))
+    ensures { λ r. ⌜ CameAgain (spelled (now (list .entry))) n (now (rows .entry)) (now (offsets .entry)) (now (sheet .entry)) (now (again .entry)) (now (ends .entry))
         r (now (again .exit)) (now (ends .exit)) ⌝ }
 {
     let decoded = decode(list, n, rows, offsets, sheet);

@@ -1,4 +1,5 @@
 // Sheets from slices: what is before a first end means nothing to encode.
+ghost use Rattle.format.specs.Described.{spelled};
 ghost use Rattle.demands.specs.Slices.{EncodedAlike};
 use format::Answer;
 use station::encode::encode;
@@ -20,7 +21,7 @@ pub fn encode_both(
     others: &mut [u8],
     ends: &mut [u64],
 ) -> Both
-    ensures { λ b. ⌜ EncodedAlike (now (list .entry)) n (now (sheet .entry)) (now (rows .entry)) (now (offsets .entry))
+    ensures { λ b. ⌜ EncodedAlike (spelled (now (list .entry))) n (now (sheet .entry)) (now (rows .entry)) (now (offsets .entry))
         (now (other .entry)) (now (others .entry)) (now (ends .entry))
         b (now (rows .exit)) (now (offsets .exit)) (now (others .exit)) (now (ends .exit)) ⌝ }
 {

@@ -1,5 +1,6 @@
 -- Small cases of every definition, computed.
 pub mod ListExamples
+pub mod DescribedExamples
 pub mod SheetExamples
 pub mod RowExamples
 pub mod EntryExamples

@@ -20,7 +20,7 @@ use Rattle.format.specs.Limits.{maxSlot, maxTotal}
 use Rattle.format.specs.Check.{both, failIf}
 use Rattle.format.specs.Lists.{lowBytes}
 use Rattle.format.specs.Kinds.{Fixed, Shape, fixed, variable, width, columnShape}
-use Rattle.format.specs.Columns.{listFault, columns}
+use Rattle.format.specs.Described.{ColumnList, listFault, columns}
 use Rattle.format.specs.Schemas.{schemaOf}
 use Rattle.format.specs.Key.{invert, unkey, allowed}
 use Rattle.format.specs.Field.{blockSize}
@@ -185,10 +185,10 @@ startedWith Pass cols = begun cols
 startedWith (Refuse r) cols = refused r
 
 -- answers as the list check
-unfoldable pub startAnswer : List ℕ → Answer
+unfoldable pub startAnswer : ColumnList → Answer
 startAnswer list = answer (listFault list) (length (columns list)) 0
 
-unfoldable pub startState : List ℕ → Cutter
+unfoldable pub startState : ColumnList → Cutter
 startState list = startedWith (listFault list) (columns list)
 
 -- ---- a call

@@ -17,7 +17,7 @@ use Rattle.format.specs.declared.Spot.the-variants.{Start, Nulls, Value,
 use Rattle.format.specs.declared.Cutter.{Cutter}
 use Rattle.format.specs.Limits.{maxColumns}
 use Rattle.format.specs.Lists.{each, over}
-use Rattle.format.specs.Coded.{codes, codeAt, columnOf}
+use Rattle.format.specs.Described.{ColumnList, codes, codeAt, columnOf}
 use Rattle.format.specs.Schemas.{schemaOf, colsOf}
 use Rattle.format.specs.Numbers.{three, refusalNumbers}
 use Rattle.format.specs.Lent.{eights, eightBytes, answerBytes, unlessShort}
@@ -49,7 +49,7 @@ abbrev pub numbersSize : ℕ
 numbersSize = 8 * 13
 
 -- then the columns, four bytes each, and zeros for those that are not there
-abbrev pub stateBytes : Cutter → List ℕ
+unfoldable pub stateBytes : Cutter → List ℕ
 stateBytes s =
     eightBytes (stateNumbers (checkNumbers (s .refusal)) s)
     ++ codes (colsOf (s .schema))
@@ -101,7 +101,7 @@ stateFrom ns s = record {
   spot = spotOf (getD ns 8 0) (getD ns 9 0) (getD ns 10 0) (getD ns 11 0);
 }
 
-abbrev pub stateOf : List ℕ → Cutter
+unfoldable pub stateOf : List ℕ → Cutter
 stateOf s = stateFrom (eights (take numbersSize s)) s
 
 -- ---- the rule on lent bytes: those of a state that keeps the rule, in front; bytes after them mean nothing
@@ -130,11 +130,11 @@ lentState s = cond (lentKeeps s) (stateOf (take stateSize s)) (begun [])
 -- ---- the C entries
 
 -- station_cutter_start: a lent state that is too short is 33, and stays
-unfoldable pub lentStart : List ℕ → List ℕ → List ℕ → List ℕ
+unfoldable pub lentStart : ColumnList → List ℕ → List ℕ → List ℕ
 lentStart list state lent = answerBytes (cond (noRoom state) (Refused BrokenState) (startAnswer list)) lent
 
 -- the state is written on a list fault too
-unfoldable pub lentStartState : List ℕ → List ℕ → List ℕ → List ℕ
+unfoldable pub lentStartState : ColumnList → List ℕ → List ℕ → List ℕ
 lentStartState list state lent = unlessShort lent (cond (noRoom state) state (over (stateBytes (startState list)) state)) state
 
 -- station_cut

@@ -10,12 +10,13 @@ use Rattle.format.specs.declared.Answer.{Answer}
 use Rattle.format.specs.declared.Answer.the-variants.{Done, Refused}
 use Rattle.format.specs.declared.Check.{Check}
 use Rattle.format.specs.declared.Check.the-variants.{Pass, Refuse}
-use Rattle.format.specs.declared.Refusal.the-variants.{ManyRows, ManyBytes, RowRoom, OffsetRoom, Offsets, SheetRoom}
+use Rattle.format.specs.declared.Refusal.the-variants.{ManyRows, ManyBytes, RowRoom, OffsetRoom, Offsets, SheetRoom, ColumnRoom}
 use Rattle.format.specs.Limits.{maxRows, maxTotal}
 use Rattle.format.specs.Check.{both, failIf}
 use Rattle.format.specs.Lists.{each, joined, endsFrom, over, sum}
 use Rattle.format.specs.Kinds.{Slot, columnShape}
-use Rattle.format.specs.Columns.{listFault, columns}
+use Rattle.format.specs.Columns.{spelledFault, spelledColumns}
+use Rattle.format.specs.Described.{ColumnList, listFault, columns}
 use Rattle.format.specs.Order.{cmp}
 use Rattle.format.specs.Field.{fieldLength}
 use Rattle.format.specs.Row.{row}
@@ -29,7 +30,7 @@ answer Pass a b = Done a b
 answer (Refuse r) a b = Refused r
 
 -- a lent buffer at exit: a success writes in front, what is past the written part stays, and a refusal writes nothing
-abbrev pub written : Check → List ℕ → List ℕ → List ℕ
+abbrev pub written : {A : Type 0} → Check → List A → List A → List A
 written Pass new old = over new old
 written (Refuse r) new old = old
 
@@ -45,13 +46,28 @@ totalFault total = failIf (ltb maxTotal total) (ManyBytes total 0) Pass
 abbrev pub offsetRoomFault : ℕ → ℕ → Check
 offsetRoomFault n room = failIf (ltb room (suc n)) (OffsetRoom (suc n)) Pass
 
--- ---- check_list
+-- ---- check_list and read_list
 
 -- success: the column count, 0
 unfoldable pub checkListAnswer : List ℕ → Answer
-checkListAnswer list = answer (listFault list) (length (columns list)) 0
+checkListAnswer list = answer (spelledFault list) (length (spelledColumns list)) 0
 
--- ---- measure and encode
+-- list, 29
+unfoldable pub readListCheck : List ℕ → ℕ → Check
+readListCheck list room =
+    both (spelledFault list)
+    (failIf (ltb room (length (spelledColumns list))) (ColumnRoom (length (spelledColumns list)))
+    Pass)
+
+-- success: as check_list
+unfoldable pub readListAnswer : List ℕ → ℕ → Answer
+readListAnswer list room = answer (readListCheck list room) (length (spelledColumns list)) 0
+
+-- the lent descriptions: the columns
+unfoldable pub readListColumns : List ℕ → List Column → List Column
+readListColumns list lent = written (readListCheck list (length lent)) (spelledColumns list) lent
+
+-- ---- measure and encode, under a list of any case
 
 -- the values of row r of a sheet of n rows: its slots, column by column
 abbrev pub rowValues : List Column → ℕ → List ℕ → ℕ → List Slot
@@ -70,7 +86,7 @@ abbrev pub sheetTotal : ℕ → List Column → List ℕ → ℕ
 sheetTotal n cols sheet = length (joined (sheetRows n cols sheet))
 
 -- list, 6, sheet, 12
-unfoldable pub measureCheck : List ℕ → ℕ → List ℕ → Check
+unfoldable pub measureCheck : ColumnList → ℕ → List ℕ → Check
 measureCheck list n sheet =
     both (listFault list)
     (both (rowCountFault n)
@@ -78,28 +94,28 @@ measureCheck list n sheet =
     (totalFault (sheetTotal n (columns list) sheet))))
 
 -- then 13, 14
-unfoldable pub encodeCheck : List ℕ → ℕ → List ℕ → ℕ → ℕ → Check
+unfoldable pub encodeCheck : ColumnList → ℕ → List ℕ → ℕ → ℕ → Check
 encodeCheck list n sheet rowRoom offsetRoom =
     both (measureCheck list n sheet)
     (failIf (ltb rowRoom (sheetTotal n (columns list) sheet)) (RowRoom (sheetTotal n (columns list) sheet))
     (offsetRoomFault n offsetRoom))
 
 -- success: total row bytes and the null total
-unfoldable pub measureAnswer : List ℕ → ℕ → List ℕ → Answer
+unfoldable pub measureAnswer : ColumnList → ℕ → List ℕ → Answer
 measureAnswer list n sheet =
     answer (measureCheck list n sheet) (sheetTotal n (columns list) sheet) (nulls (sheetSlots n (columns list) sheet))
 
-unfoldable pub encodeAnswer : List ℕ → ℕ → List ℕ → ℕ → ℕ → Answer
+unfoldable pub encodeAnswer : ColumnList → ℕ → List ℕ → ℕ → ℕ → Answer
 encodeAnswer list n sheet rowRoom offsetRoom =
     answer (encodeCheck list n sheet rowRoom offsetRoom) (sheetTotal n (columns list) sheet) (nulls (sheetSlots n (columns list) sheet))
 
 -- the row buffer: the rows, joined
-unfoldable pub encodeRows : List ℕ → ℕ → List ℕ → List ℕ → ℕ → List ℕ
+unfoldable pub encodeRows : ColumnList → ℕ → List ℕ → List ℕ → ℕ → List ℕ
 encodeRows list n sheet rows offsetRoom =
     written (encodeCheck list n sheet (length rows) offsetRoom) (joined (sheetRows n (columns list) sheet)) rows
 
 -- the offsets: the first 0, then each row's end
-unfoldable pub encodeOffsets : List ℕ → ℕ → List ℕ → ℕ → List ℕ → List ℕ
+unfoldable pub encodeOffsets : ColumnList → ℕ → List ℕ → ℕ → List ℕ → List ℕ
 encodeOffsets list n sheet rowRoom offsets =
     written (encodeCheck list n sheet rowRoom (length offsets)) (endsFrom 0 (sheetRows n (columns list) sheet)) offsets
 
@@ -137,7 +153,7 @@ abbrev pub decodedSheet : ℕ → List Column → List (List ℕ) → List ℕ
 decodedSheet n cols rows = clearedSheet n cols (rowsSlots cols rows)
 
 -- list, 6, 14, 15, 12, rows, 24
-unfoldable pub decodeCheck : List ℕ → ℕ → List ℕ → List ℕ → ℕ → Check
+unfoldable pub decodeCheck : ColumnList → ℕ → List ℕ → List ℕ → ℕ → Check
 decodeCheck list n bytes offsets sheetRoom =
     both (listFault list)
     (both (rowCountFault n)
@@ -148,14 +164,14 @@ decodeCheck list n bytes offsets sheetRoom =
     Pass))))
 
 -- success: sheet bytes and the null total
-unfoldable pub decodeAnswer : List ℕ → ℕ → List ℕ → List ℕ → ℕ → Answer
+unfoldable pub decodeAnswer : ColumnList → ℕ → List ℕ → List ℕ → ℕ → Answer
 decodeAnswer list n bytes offsets sheetRoom =
     answer (decodeCheck list n bytes offsets sheetRoom)
     (length (decodedSheet n (columns list) (cutRows n bytes offsets)))
     (nulls (rowsSlots (columns list) (cutRows n bytes offsets)))
 
 -- the sheet buffer: the cleared sheet
-unfoldable pub decodeSheet : List ℕ → ℕ → List ℕ → List ℕ → List ℕ → List ℕ
+unfoldable pub decodeSheet : ColumnList → ℕ → List ℕ → List ℕ → List ℕ → List ℕ
 decodeSheet list n bytes offsets sheet =
     written (decodeCheck list n bytes offsets (length sheet)) (decodedSheet n (columns list) (cutRows n bytes offsets)) sheet
 

@@ -1,4 +1,5 @@
--- The C entries: the same answers on lent bytes. Offsets, the order and the answer are eight bytes a number, low byte first.
+-- The C entries: the same answers on lent bytes. Offsets, the order and the answer are eight bytes a number, low byte first; a
+-- description is four bytes.
 use Prim.Native.Nat.{ℕ, _*_, _/_}
 use mathlib.Core.Bool.{cond}
 use mathlib.Core.List.{List, [], _∷_, map}
@@ -7,8 +8,10 @@ use lib.ListN.{length, take, drop}
 use Rattle.format.specs.declared.Answer.{Answer}
 use Rattle.format.specs.declared.Returned.{Returned}
 use Rattle.format.specs.Lists.{each, joined, over, low, lowBytes}
+use Rattle.format.specs.Columns.{spelledColumns}
+use Rattle.format.specs.Described.{ColumnList, codes}
 use Rattle.format.specs.Numbers.{numbersOf}
-use Rattle.format.specs.Entries.{checkListAnswer, measureAnswer, encodeAnswer, encodeRows, encodeOffsets, decodeAnswer, decodeSheet}
+use Rattle.format.specs.Entries.{written, checkListAnswer, readListCheck, readListAnswer, measureAnswer, encodeAnswer, encodeRows, encodeOffsets, decodeAnswer, decodeSheet}
 use Rattle.format.specs.Join.{joinAnswer, joinList}
 
 -- the numbers of lent bytes; a shorter tail does not count
@@ -36,23 +39,35 @@ unlessShort lent new old = cond (ltb (length lent) answerRoom) old new
 unfoldable pub lentCheckList : List ℕ → List ℕ → List ℕ
 lentCheckList list lent = answerBytes (checkListAnswer list) lent
 
-unfoldable pub lentMeasure : List ℕ → ℕ → List ℕ → List ℕ → List ℕ
+-- the room for descriptions: four bytes each
+abbrev pub codeRoom : List ℕ → ℕ
+codeRoom descriptions = length descriptions / 4
+
+unfoldable pub lentReadList : List ℕ → List ℕ → List ℕ → List ℕ
+lentReadList list descriptions lent = answerBytes (readListAnswer list (codeRoom descriptions)) lent
+
+-- the lent descriptions: the columns, four bytes each
+unfoldable pub lentReadListCodes : List ℕ → List ℕ → List ℕ → List ℕ
+lentReadListCodes list descriptions lent =
+    unlessShort lent (written (readListCheck list (codeRoom descriptions)) (codes (spelledColumns list)) descriptions) descriptions
+
+unfoldable pub lentMeasure : ColumnList → ℕ → List ℕ → List ℕ → List ℕ
 lentMeasure list n sheet lent = answerBytes (measureAnswer list n sheet) lent
 
-unfoldable pub lentEncode : List ℕ → ℕ → List ℕ → ℕ → List ℕ → List ℕ → List ℕ
+unfoldable pub lentEncode : ColumnList → ℕ → List ℕ → ℕ → List ℕ → List ℕ → List ℕ
 lentEncode list n sheet rowRoom offsets lent = answerBytes (encodeAnswer list n sheet rowRoom (length offsets / 8)) lent
 
-unfoldable pub lentEncodeRows : List ℕ → ℕ → List ℕ → List ℕ → List ℕ → List ℕ → List ℕ
+unfoldable pub lentEncodeRows : ColumnList → ℕ → List ℕ → List ℕ → List ℕ → List ℕ → List ℕ
 lentEncodeRows list n sheet rows offsets lent = unlessShort lent (encodeRows list n sheet rows (length offsets / 8)) rows
 
-unfoldable pub lentEncodeOffsets : List ℕ → ℕ → List ℕ → ℕ → List ℕ → List ℕ → List ℕ
+unfoldable pub lentEncodeOffsets : ColumnList → ℕ → List ℕ → ℕ → List ℕ → List ℕ → List ℕ
 lentEncodeOffsets list n sheet rowRoom offsets lent =
     unlessShort lent (over (eightBytes (encodeOffsets list n sheet rowRoom (eights offsets))) offsets) offsets
 
-unfoldable pub lentDecode : List ℕ → ℕ → List ℕ → List ℕ → ℕ → List ℕ → List ℕ
+unfoldable pub lentDecode : ColumnList → ℕ → List ℕ → List ℕ → ℕ → List ℕ → List ℕ
 lentDecode list n rows offsets sheetRoom lent = answerBytes (decodeAnswer list n rows (eights offsets) sheetRoom) lent
 
-unfoldable pub lentDecodeSheet : List ℕ → ℕ → List ℕ → List ℕ → List ℕ → List ℕ → List ℕ
+unfoldable pub lentDecodeSheet : ColumnList → ℕ → List ℕ → List ℕ → List ℕ → List ℕ → List ℕ
 lentDecodeSheet list n rows offsets sheet lent = unlessShort lent (decodeSheet list n rows (eights offsets) sheet) sheet
 
 unfoldable pub lentJoin : ℕ → List ℕ → List ℕ → ℕ → List ℕ → List ℕ → List ℕ → List ℕ → List ℕ

@@ -4,6 +4,7 @@ pub mod Check
 pub mod Lists
 pub mod Kinds
 pub mod Columns
+pub mod Described
 pub mod Schemas
 pub mod Order
 pub mod Key
@@ -24,7 +25,6 @@ pub mod Join
 pub mod CutterRule
 pub mod Cutter
 pub mod Lent
-pub mod Coded
 pub mod CutterBytes
 pub mod Promises
 pub mod Program

@@ -5,7 +5,7 @@ use lib.Dec.{leb, eqb}
 use Rattle.format.specs.declared.RowFault.{RowFault}
 use Rattle.format.specs.declared.RowFault.the-variants.{Cut, Lead, NullRest, BoolByte, EndByte, Padding, Extra, TooLong, Unfolded}
 use Rattle.format.specs.declared.Refusal.{Refusal}
-use Rattle.format.specs.declared.Refusal.the-variants.{ListCut, UnknownKind, OptionBits, Width, ManyColumns, ManyRows, ColumnCut, SpareBit, Ends, LongSlot, BytesAfter, ManyBytes, RowRoom, OffsetRoom, Offsets, Row, SheetRoom, Input, OutOfOrder, Missing, BrokenState}
+use Rattle.format.specs.declared.Refusal.the-variants.{ListCut, UnknownKind, OptionBits, Width, ManyColumns, ManyRows, ColumnCut, SpareBit, Ends, LongSlot, BytesAfter, ManyBytes, RowRoom, OffsetRoom, Offsets, Row, SheetRoom, Input, OutOfOrder, Missing, ColumnRoom, BrokenState}
 use Rattle.format.specs.declared.Answer.{Answer}
 use Rattle.format.specs.declared.Answer.the-variants.{Done, Refused}
 use Rattle.format.specs.declared.Returned.{Returned}
@@ -50,6 +50,7 @@ refusalNumbers (SheetRoom bytes) = three 24 bytes 0
 refusalNumbers Input = three 25 0 0
 refusalNumbers (OutOfOrder p r) = three 26 p r
 refusalNumbers (Missing c r) = three 27 c r
+refusalNumbers (ColumnRoom count) = three 29 count 0
 refusalNumbers BrokenState = three 33 0 0
 
 -- refusals by what a row holds: 16 to 23, and 28

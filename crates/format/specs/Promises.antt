@@ -5,32 +5,39 @@ use mathlib.Core.Path.{_≡_}
 use mathlib.Core.List.{List}
 use lib.IntN.{ℤ}
 use lib.ListN.{length}
+use Rattle.format.specs.declared.Column.{Column}
 use Rattle.format.specs.declared.Answer.{Answer}
 use Rattle.format.specs.declared.Cutter.{Cutter}
+use Rattle.format.specs.Described.{ColumnList}
 use Rattle.format.specs.Numbers.{numbersOf}
-use Rattle.format.specs.Entries.{checkListAnswer, measureAnswer, encodeAnswer, encodeRows, encodeOffsets, decodeAnswer, decodeSheet, compareAnswer}
+use Rattle.format.specs.Entries.{checkListAnswer, readListAnswer, readListColumns, measureAnswer, encodeAnswer, encodeRows, encodeOffsets, decodeAnswer, decodeSheet, compareAnswer}
 use Rattle.format.specs.Join.{joinAnswer, joinList}
 use Rattle.format.specs.Lent.{lentJoin, lentJoinList}
 use Rattle.format.specs.Cutter.{startAnswer, startState, cutAnswer, cutState, cutEnds, finishAnswer}
 use Rattle.format.specs.CutterBytes.{lentStart, lentStartState, lentCut, lentCutState, lentCutEnds, lentFinish}
-use Rattle.format.specs.Lent.{lentCheckList, lentMeasure, lentEncode, lentEncodeRows, lentEncodeOffsets, lentDecode, lentDecodeSheet}
+use Rattle.format.specs.Lent.{lentCheckList, lentReadList, lentReadListCodes, lentMeasure, lentEncode, lentEncodeRows, lentEncodeOffsets, lentDecode, lentDecodeSheet}
 
 -- check_list
 pub record ListChecked (list : List ℕ) (r : Answer) : Type 0 where
   pub answers : numbersOf r ≡ numbersOf (checkListAnswer list)
 
--- measure
-pub record Measured (list : List ℕ) (n : ℕ) (sheet : List ℕ) (r : Answer) : Type 0 where
+-- read_list: the lent descriptions at entry, and at exit
+pub record ListRead (list : List ℕ) (lent : List Column) (r : Answer) (lent′ : List Column) : Type 0 where
+  pub answers : numbersOf r ≡ numbersOf (readListAnswer list (length lent))
+  pub descriptions : lent′ ≡ readListColumns list lent
+
+-- measure, under a list of any case
+pub record Measured (list : ColumnList) (n : ℕ) (sheet : List ℕ) (r : Answer) : Type 0 where
   pub answers : numbersOf r ≡ numbersOf (measureAnswer list n sheet)
 
--- encode: the lent rows and offsets at entry, and at exit
-pub record Encoded (list : List ℕ) (n : ℕ) (sheet rows offsets : List ℕ) (r : Answer) (rows′ offsets′ : List ℕ) : Type 0 where
+-- encode likewise: the lent rows and offsets at entry, and at exit
+pub record Encoded (list : ColumnList) (n : ℕ) (sheet rows offsets : List ℕ) (r : Answer) (rows′ offsets′ : List ℕ) : Type 0 where
   pub answers : numbersOf r ≡ numbersOf (encodeAnswer list n sheet (length rows) (length offsets))
   pub row-bytes : rows′ ≡ encodeRows list n sheet rows (length offsets)
   pub row-ends : offsets′ ≡ encodeOffsets list n sheet (length rows) offsets
 
--- decode: the lent sheet at entry, and at exit
-pub record Decoded (list : List ℕ) (n : ℕ) (rows offsets sheet : List ℕ) (r : Answer) (sheet′ : List ℕ) : Type 0 where
+-- decode likewise: the lent sheet at entry, and at exit
+pub record Decoded (list : ColumnList) (n : ℕ) (rows offsets sheet : List ℕ) (r : Answer) (sheet′ : List ℕ) : Type 0 where
   pub answers : numbersOf r ≡ numbersOf (decodeAnswer list n rows offsets (length sheet))
   pub bytes : sheet′ ≡ decodeSheet list n rows offsets sheet
 
@@ -40,7 +47,7 @@ pub record Joined (n₀ : ℕ) (rows₀ offsets₀ : List ℕ) (n₁ : ℕ) (row
   pub order : list′ ≡ joinList n₀ rows₀ offsets₀ n₁ rows₁ offsets₁ list
 
 -- cutter start: the state that is handed out
-pub record Started (list : List ℕ) (r : Answer) (s : Cutter) : Type 0 where
+pub record Started (list : ColumnList) (r : Answer) (s : Cutter) : Type 0 where
   pub answers : numbersOf r ≡ numbersOf (startAnswer list)
   pub state : s ≡ startState list
 
@@ -64,18 +71,23 @@ pub record Compared (a b : List ℕ) (r : ℤ) : Type 0 where
 pub record LentListChecked (list lent lent′ : List ℕ) : Type 0 where
   pub answers : lent′ ≡ lentCheckList list lent
 
--- station_measure
-pub record LentMeasured (list : List ℕ) (n : ℕ) (sheet lent lent′ : List ℕ) : Type 0 where
+-- station_read_list
+pub record LentListRead (list descriptions lent descriptions′ lent′ : List ℕ) : Type 0 where
+  pub answers : lent′ ≡ lentReadList list descriptions lent
+  pub codes : descriptions′ ≡ lentReadListCodes list descriptions lent
+
+-- station_measure under a list in bytes, station_measure_read under coded descriptions
+pub record LentMeasured (list : ColumnList) (n : ℕ) (sheet lent lent′ : List ℕ) : Type 0 where
   pub answers : lent′ ≡ lentMeasure list n sheet lent
 
--- station_encode
-pub record LentEncoded (list : List ℕ) (n : ℕ) (sheet rows offsets lent rows′ offsets′ lent′ : List ℕ) : Type 0 where
+-- station_encode and station_encode_read likewise
+pub record LentEncoded (list : ColumnList) (n : ℕ) (sheet rows offsets lent rows′ offsets′ lent′ : List ℕ) : Type 0 where
   pub answers : lent′ ≡ lentEncode list n sheet (length rows) offsets lent
   pub row-bytes : rows′ ≡ lentEncodeRows list n sheet rows offsets lent
   pub row-ends : offsets′ ≡ lentEncodeOffsets list n sheet (length rows) offsets lent
 
--- station_decode
-pub record LentDecoded (list : List ℕ) (n : ℕ) (rows offsets sheet lent sheet′ lent′ : List ℕ) : Type 0 where
+-- station_decode and station_decode_read likewise
+pub record LentDecoded (list : ColumnList) (n : ℕ) (rows offsets sheet lent sheet′ lent′ : List ℕ) : Type 0 where
   pub answers : lent′ ≡ lentDecode list n rows offsets (length sheet) lent
   pub bytes : sheet′ ≡ lentDecodeSheet list n rows offsets sheet lent
 
@@ -85,7 +97,7 @@ pub record LentJoined (n₀ : ℕ) (rows₀ offsets₀ : List ℕ) (n₁ : ℕ) 
   pub order : list′ ≡ lentJoinList n₀ rows₀ offsets₀ n₁ rows₁ offsets₁ list lent
 
 -- station_cutter_start
-pub record LentStarted (list state lent state′ lent′ : List ℕ) : Type 0 where
+pub record LentStarted (list : ColumnList) (state lent state′ lent′ : List ℕ) : Type 0 where
   pub answers : lent′ ≡ lentStart list state lent
   pub states : state′ ≡ lentStartState list state lent
 

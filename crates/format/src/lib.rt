@@ -8,7 +8,7 @@ ghost use Rattle.format.specs.Read.{nullLead};
 ghost use Rattle.format.specs.Numbers.{faultNumber, refusalNumbers, numbersOf};
 
 // The ceilings of document 01; specs/Limits.antt has the same numbers.
-pub const MAX_COLUMNS: usize = 16;
+pub const MAX_COLUMNS: usize = 64;
 
 pub const MAX_ROWS: u64 = 4096;
 
@@ -101,6 +101,7 @@ pub enum Refusal {
     Input,
     OutOfOrder(usize, usize),
     Missing(usize, usize),
+    ColumnRoom(usize),
     BrokenState,
 }
 
@@ -255,6 +256,7 @@ pub fn refusal_numbers(r: Refusal) -> Returned
         Refusal::Input => Returned(25, 0, 0, 0),
         Refusal::OutOfOrder(pass, row) => Returned(26, pass as u64, row as u64, 0),
         Refusal::Missing(c, row) => Returned(27, c as u64, row as u64, 0),
+        Refusal::ColumnRoom(count) => Returned(29, count as u64, 0, 0),
         Refusal::BrokenState => Returned(33, 0, 0, 0),
     }
 }

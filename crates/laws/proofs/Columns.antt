@@ -1,22 +1,22 @@
--- The columns of a list: the bytes of a description, and that a list that passes has 1 to 16 columns, none wider than the
+-- The columns of a list: the bytes of a description, and that a list that passes has 1 to 64 columns, none wider than the
 -- limit. Assumes nothing.
 use Prim.Native.Nat.{ℕ, zero, suc, _+_, _-_, _*_, _<_, _≤_}
-use mathlib.Core.Path.{_≡_}
+use mathlib.Core.Path.{_≡_, refl}
 use mathlib.Core.Bool.{Bool, true, false, cond, _||_}
 use mathlib.Core.List.{List, [], _∷_}
 use native.Mathlib.Omega.{arith}
 use lib.Dec.{ltb, eqb, lit≤}
 use lib.ListN.{length, getD}
-use borrow.Author.Tests.{eq-eqb, ne-eqb, eqb-false, lt-ltb}
+use borrow.Author.Tests.{eq-eqb, ne-eqb, eqb-false, lt-ltb, le-ltb, ltb-false}
 use Rattle.format.specs.declared.Kind.{Kind}
 use Rattle.format.specs.declared.Column.{Column}
 use Rattle.format.specs.declared.Check.the-variants.{Pass}
 use Rattle.format.specs.Limits.{maxColumns, maxWidth}
 use Rattle.format.specs.Check.{both}
 use Rattle.format.specs.Kinds.{lastKind, valueBytes}
-use Rattle.format.specs.Columns.{kindOf, mostOptions, descriptionBytes, widthAt, columnAt, descriptionFault, listFaultFrom, columnsFrom, listFault, columns}
+use Rattle.format.specs.Columns.{kindOf, mostOptions, mostWidth, numbersFault, descriptionBytes, widthAt, columnAt, descriptionFault, listFaultFrom, columnsFrom, spelledFault, spelledColumns}
 use Rattle.basics.proofs.Lists.{Every}
-use Rattle.basics.proofs.Checks.{failIf-pass, enough, both-pass}
+use Rattle.basics.proofs.Checks.{failIf-pass, enough, pass-enough, both-pass}
 
 -- ---- one description
 
@@ -39,22 +39,59 @@ width-wide s at e = rw (eq-eqb (getD s at 0) 15 e)
 pub width-plain : (s : List ℕ) (at : ℕ) → (getD s at 0 ≡ 15 → ⊥) → widthAt s at ≡ 0
 width-plain s at e = rw (ne-eqb (getD s at 0) 15 e)
 
+-- a description that passes, by its numbers: the kind is known, the body whole, options and width are such as the kind has
+pub record Fine (b : ℕ) (cut : Bool) (o w : ℕ) : Type 0 where
+  pub least : 1 ≤ b
+  pub most : b ≤ lastKind
+  pub whole : cut ≡ false
+  pub options : o ≤ mostOptions b
+  pub width : w ≤ mostWidth b
+
+neither : (a b : Bool) → (a || b) ≡ false → (a ≡ false) × (b ≡ false)
+neither true b e = (e, cc)
+neither false b e = (refl, e)
+
+pub fine : (place b : ℕ) (cut : Bool) (o w : ℕ) → numbersFault place b cut o w ≡ Pass → Fine b cut o w
+fine place b cut o w e =
+    let known = failIf-pass (ltb b 1 || ltb lastKind b) _ _ e in
+    let body = failIf-pass cut _ _ (known .1) in
+    let bits = enough (mostOptions b) o _ _ (body .1) in
+    let within = neither (ltb b 1) (ltb lastKind b) (known .0) in
+    record {
+      least = ltb-false b 1 (within .0);
+      most = ltb-false lastKind b (within .1);
+      whole = body .0;
+      options = bits .0;
+      width = enough (mostWidth b) w _ _ (bits .1) .0;
+    }
+
+-- the other way, at any place
+pub fine-pass : (place b : ℕ) (cut : Bool) (o w : ℕ) → Fine b cut o w → numbersFault place b cut o w ≡ Pass
+fine-pass place b cut o w f =
+    rw (le-ltb b 1 (f .least), le-ltb lastKind b (f .most), f .whole)
+    (pass-enough (mostOptions b) o _ _ (f .options) (pass-enough (mostWidth b) w _ _ (f .width) refl))
+
+-- no kind has a width over the limit
+pub most-width : (b w : ℕ) → w ≤ mostWidth b → w ≤ maxWidth
+most-width b w = go (eqb b 15)
+  where
+    go : (t : Bool) → w ≤ cond t maxWidth 0 → w ≤ maxWidth
+    go true l = l
+    go false l = omega arith
+
 -- what a description that passes says: it is whole, and its width is within the limit
 pub description-passed : (s : List ℕ) (at : ℕ) → descriptionFault s at ≡ Pass
     → (descriptionBytes (getD s at 0) ≤ length s - at) × (widthAt s at ≤ maxWidth)
 description-passed s at e =
-    let known = failIf-pass (ltb (getD s at 0) 1 || ltb lastKind (getD s at 0)) _ _ e in
-    let whole = enough (length s - at) (descriptionBytes (getD s at 0)) _ _ (known .1) in
-    let options = enough (mostOptions (getD s at 0)) (getD s (at + 1) 0) _ _ (whole .1) in
-    let narrow = enough maxWidth (widthAt s at) _ _ (options .1) in
-    (whole .0, narrow .0)
+    let f = fine at (getD s at 0) (ltb (length s - at) (descriptionBytes (getD s at 0))) (getD s (at + 1) 0) (widthAt s at) e in
+    (ltb-false (length s - at) (descriptionBytes (getD s at 0)) (f .whole), most-width (getD s at 0) (widthAt s at) (f .width))
 
 -- ---- the width of a kind
 either : (t : Bool) (k l : Kind) → valueBytes k ≤ maxWidth → valueBytes l ≤ maxWidth → valueBytes (cond t k l) ≤ maxWidth
 either true k l p q = p
 either false k l p q = q
 
-kind-narrow : (b w : ℕ) → w ≤ maxWidth → valueBytes (kindOf b w) ≤ maxWidth
+pub kind-narrow : (b w : ℕ) → w ≤ maxWidth → valueBytes (kindOf b w) ≤ maxWidth
 kind-narrow b w h =
     either (eqb b 1) _ _ (lit≤ tt)
     (either (eqb b 2) _ _ (lit≤ tt)
@@ -110,13 +147,13 @@ some-from room s at h = rw (lt-ltb at (length s) h) (some _)
     some : (n : ℕ) → 1 ≤ suc n
     some n = omega arith
 
-pub columns-narrow : (s : List ℕ) → listFault s ≡ Pass → Narrow (columns s)
-unfolding listFault columns
-columns-narrow s e = narrow-from maxColumns s 0 (failIf-pass (eqb (length s) 0) _ _ e .1)
+pub spelled-narrow : (s : List ℕ) → spelledFault s ≡ Pass → Narrow (spelledColumns s)
+unfolding spelledFault spelledColumns
+spelled-narrow s e = narrow-from maxColumns s 0 (failIf-pass (eqb (length s) 0) _ _ e .1)
 
-pub columns-few : (s : List ℕ) → listFault s ≡ Pass → (1 ≤ length (columns s)) × (length (columns s) ≤ maxColumns)
-unfolding listFault columns
-columns-few s e = (some-from 15 s 0 (filled (eqb-false (length s) 0 (failIf-pass (eqb (length s) 0) _ _ e .0))), few-from maxColumns s 0)
+pub spelled-few : (s : List ℕ) → spelledFault s ≡ Pass → (1 ≤ length (spelledColumns s)) × (length (spelledColumns s) ≤ maxColumns)
+unfolding spelledFault spelledColumns
+spelled-few s e = (some-from (maxColumns - 1) s 0 (filled (eqb-false (length s) 0 (failIf-pass (eqb (length s) 0) _ _ e .0))), few-from maxColumns s 0)
   where
     filled : (length s ≡ 0 → ⊥) → 0 < length s
     filled h = omega arith

@@ -18,6 +18,7 @@ pub mod ReadRow
 pub mod FaultPlace
 pub mod Parts
 pub mod Columns
+pub mod Described
 pub mod InUse
 pub mod Sheets
 pub mod Places

@@ -7,13 +7,13 @@ use lib.Dec.{eqb}
 use lib.ListN.{getD, replicate}
 use Rattle.format.specs.declared.RowFault.the-variants.{Cut, Lead, NullRest, BoolByte, EndByte, Padding, Extra, TooLong, Unfolded}
 use Rattle.format.specs.declared.Refusal.{Refusal}
-use Rattle.format.specs.declared.Refusal.the-variants.{ListCut, UnknownKind, OptionBits, Width, ManyColumns, ManyRows, ColumnCut, SpareBit, Ends, LongSlot, BytesAfter, ManyBytes, RowRoom, OffsetRoom, Offsets, Row, SheetRoom, Input, OutOfOrder, Missing, BrokenState}
+use Rattle.format.specs.declared.Refusal.the-variants.{ListCut, UnknownKind, OptionBits, Width, ManyColumns, ManyRows, ColumnCut, SpareBit, Ends, LongSlot, BytesAfter, ManyBytes, RowRoom, OffsetRoom, Offsets, Row, SheetRoom, Input, OutOfOrder, Missing, ColumnRoom, BrokenState}
 use Rattle.format.specs.declared.Answer.{Answer}
 use Rattle.format.specs.declared.Answer.the-variants.{Done, Refused}
 use Rattle.format.specs.declared.Returned.{Returned}
 use Rattle.format.specs.Numbers.{numbersOf}
 
--- the refusals in the order of their numbers, each made of the second, third and fourth number; 29 to 32 are not in use
+-- the refusals in the order of their numbers, each made of the second, third and fourth number; 30 to 32 are not in use
 abbrev refusals : List (ℕ → ℕ → ℕ → Refusal)
 refusals =
     (λ a b p. ListCut a) ∷ (λ a b p. UnknownKind a) ∷ (λ a b p. OptionBits a) ∷ (λ a b p. Width a) ∷ (λ a b p. ManyColumns a)
@@ -22,7 +22,7 @@ refusals =
     ∷ (λ a b p. Row Cut a b p) ∷ (λ a b p. Row Lead a b p) ∷ (λ a b p. Row NullRest a b p) ∷ (λ a b p. Row BoolByte a b p)
     ∷ (λ a b p. Row EndByte a b p) ∷ (λ a b p. Row Padding a b p) ∷ (λ a b p. Row Extra a b p) ∷ (λ a b p. Row TooLong a b p)
     ∷ (λ a b p. SheetRoom a) ∷ (λ a b p. Input) ∷ (λ a b p. OutOfOrder a b) ∷ (λ a b p. Missing a b) ∷ (λ a b p. Row Unfolded a b p)
-    ∷ replicate 4 (λ a b p. Input) ++ (λ a b p. BrokenState) ∷ []
+    ∷ (λ a b p. ColumnRoom a) ∷ replicate 3 (λ a b p. Input) ++ (λ a b p. BrokenState) ∷ []
 
 -- the answer of four numbers
 abbrev answerOf : Returned → Answer
@@ -58,6 +58,7 @@ numbers-back (Refused (SheetRoom bytes)) = refl
 numbers-back (Refused Input) = refl
 numbers-back (Refused (OutOfOrder p r)) = refl
 numbers-back (Refused (Missing c r)) = refl
+numbers-back (Refused (ColumnRoom count)) = refl
 numbers-back (Refused BrokenState) = refl
 
 pub numbers-injective : (a b : Answer) → numbersOf a ≡ numbersOf b → a ≡ b

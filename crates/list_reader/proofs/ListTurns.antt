@@ -1,6 +1,6 @@
 -- The loop of `read_list`: what holds at its head, and what each way out of a turn gives. Assumes nothing.
 use Prim.Native.Nat.{ℕ, zero, suc, _+_, _-_, _<_, _≤_}
-use mathlib.Core.Path.{_≡_, refl, sym, ap, ap₂, _∙_}
+use mathlib.Core.Path.{_≡_, refl, sym, ap, _∙_}
 use mathlib.Core.List.{List, [], _∷_, _++_, append-nil}
 use native.Mathlib.Omega.{arith}
 use lib.ListN.{length, getD, set, replicate, length-append}
@@ -11,11 +11,12 @@ use Rattle.format.specs.declared.Refusal.{Refusal}
 use Rattle.format.specs.declared.Refusal.the-variants.{ListCut, ManyColumns}
 use Rattle.format.specs.declared.Check.the-variants.{Pass, Refuse}
 use Rattle.format.specs.Limits.{maxColumns}
-use Rattle.format.specs.Columns.{descriptionBytes, columnAt, descriptionFault, listFaultFrom, columnsFrom, listFault, columns}
-use Rattle.basics.proofs.Checks.{refuse-pass}
+use Rattle.format.specs.Columns.{descriptionBytes, columnAt, descriptionFault, listFaultFrom, columnsFrom, spelledFault, spelledColumns}
+use Rattle.format.specs.Described.{spelled}
 use Rattle.list_reader.specs.declared.Listed.{Listed}
-use Rattle.format.specs.Schemas.{noColumn, schemaOf}
+use Rattle.format.specs.Schemas.{noColumn}
 use Rattle.list_reader.specs.Listing.{ListedAs}
+use Rattle.list_reader.proofs.Schemas.{refused, passed}
 
 -- ---- one turn of the definitions
 
@@ -39,8 +40,8 @@ columns-next : (room : ℕ) (s : List ℕ) (at : ℕ) → at < length s
 columns-next room s at h = rw (lt-ltb at (length s) h)
 
 -- a list that is not empty
-fault-all : (s : List ℕ) → 0 < length s → listFault s ≡ listFaultFrom maxColumns s 0
-unfolding listFault
+fault-all : (s : List ℕ) → 0 < length s → spelledFault s ≡ listFaultFrom maxColumns s 0
+unfolding spelledFault
 fault-all s h = rw (ne-eqb (length s) 0 (λ e. omega arith))
 
 -- ---- at the head of a turn: so many columns read, and room for so many more
@@ -51,10 +52,10 @@ pub record Turn (s : List ℕ) (array : List Column) (count at : ℕ) : Type 0 w
   pub long : length read ≡ count
   pub made : array ≡ read ++ replicate room noColumn
   pub faults : listFaultFrom room s at ≡ listFaultFrom maxColumns s 0
-  pub says : read ++ columnsFrom room s at ≡ columns s
+  pub says : read ++ columnsFrom room s at ≡ spelledColumns s
 
 pub start : (s : List ℕ) (none : Column) → none ≡ noColumn → Turn s (replicate maxColumns none) 0 0
-unfolding columns
+unfolding spelledColumns
 start s none e = record { room = maxColumns; read = []; counts = refl; long = refl; made = ap (replicate maxColumns) e; faults = refl; says = refl }
 
 -- ---- the ways on from the head of a turn
@@ -64,7 +65,7 @@ pub more : (s : List ℕ) (array : List Column) (count at : ℕ) (col : Column) 
 more s array count at col size t h left e is wide = step (t .room) (t .read) (t .counts) (t .long) (t .made) (t .faults) (t .says)
   where
     step : (room : ℕ) (read : List Column) → count + room ≡ maxColumns → length read ≡ count → array ≡ read ++ replicate room noColumn
-        → listFaultFrom room s at ≡ listFaultFrom maxColumns s 0 → read ++ columnsFrom room s at ≡ columns s
+        → listFaultFrom room s at ≡ listFaultFrom maxColumns s 0 → read ++ columnsFrom room s at ≡ spelledColumns s
         → Turn s (set array count col) (count + 1) (at + size)
     step zero read counts long made faults says = absurd (left (omega arith))
     step (suc room) read counts long made faults says =
@@ -81,35 +82,25 @@ more s array count at col size t h left e is wide = step (t .room) (t .read) (t 
               ∙ rw (wide, is, ← columns-next room s at h) says;
         }
 
--- the refusal x is the first fault of the list, and so it was answered
-refused : (s : List ℕ) (r : Listed) (x : Refusal) → r .check ≡ Refuse x → listFault s ≡ Refuse x → ListedAs s r
-refused s r x e f = record { check = e ∙ sym f; schema = λ p. absurd (refuse-pass (sym f ∙ p)) }
-
-pub empty : (s : List ℕ) (r : Listed) → length s ≡ 0 → r .check ≡ Refuse (ListCut 0) → ListedAs s r
-unfolding listFault
-empty s r e a = refused s r (ListCut 0) a (rw (eq-eqb (length s) 0 e))
+pub empty : (s : List ℕ) (r : Listed) → length s ≡ 0 → r .check ≡ Refuse (ListCut 0) → ListedAs (spelled s) r
+unfolding spelledFault
+empty s r e a = refused (spelled s) r (ListCut 0) a (rw (eq-eqb (length s) 0 e))
 
 module _ (s : List ℕ) (array : List Column) (count at : ℕ) (t : Turn s array count at) (r : Listed) where
-  pub full : at < length s → count ≡ maxColumns → r .check ≡ Refuse (ManyColumns at) → ListedAs s r
+  pub full : at < length s → count ≡ maxColumns → r .check ≡ Refuse (ManyColumns at) → ListedAs (spelled s) r
   full h e a =
       let none : t .room ≡ 0 = omega (arith, t .counts) in
-      refused s r (ManyColumns at) a (fault-all s (omega arith) ∙ sym (t .faults) ∙ rw (none, lt-ltb at (length s) h))
+      refused (spelled s) r (ManyColumns at) a (fault-all s (omega arith) ∙ sym (t .faults) ∙ rw (none, lt-ltb at (length s) h))
 
-  pub bad : (x : Refusal) → at < length s → (count ≡ maxColumns → ⊥) → descriptionFault s at ≡ Refuse x → r .check ≡ Refuse x → ListedAs s r
-  bad x h left e a = refused s r x a (fault-all s (omega arith) ∙ sym (t .faults) ∙ step (t .room) (t .counts))
+  pub bad : (x : Refusal) → at < length s → (count ≡ maxColumns → ⊥) → descriptionFault s at ≡ Refuse x → r .check ≡ Refuse x → ListedAs (spelled s) r
+  bad x h left e a = refused (spelled s) r x a (fault-all s (omega arith) ∙ sym (t .faults) ∙ step (t .room) (t .counts))
     where
       step : (room : ℕ) → count + room ≡ maxColumns → listFaultFrom room s at ≡ Refuse x
       step zero counts = absurd (left (omega arith))
       step (suc room) counts = fault-bad room s at x h e
 
-  pub good : length s ≤ at → 0 < length s → r .check ≡ Pass → r .schema .columns ≡ array → r .schema .count ≡ count → ListedAs s r
+  pub good : length s ≤ at → 0 < length s → r .check ≡ Pass → r .schema .columns ≡ array → r .schema .count ≡ count → ListedAs (spelled s) r
   good h some a b c =
-      let all : t .read ≡ columns s = sym (append-nil (t .read)) ∙ ap (λ (l : List Column). t .read ++ l) (sym (columns-end (t .room) s at h)) ∙ t .says in
+      let all : t .read ≡ spelledColumns s = sym (append-nil (t .read)) ∙ ap (λ (l : List Column). t .read ++ l) (sym (columns-end (t .room) s at h)) ∙ t .says in
       let left : maxColumns - length (t .read) ≡ t .room = omega (arith, t .counts, t .long) in
-      record {
-        check = a ∙ sym (fault-all s some ∙ sym (t .faults) ∙ fault-end (t .room) s at h);
-        schema = λ p. schema-is (b ∙ t .made ∙ rw (← left, all)) (c ∙ sym (t .long) ∙ ap length all);
-      }
-    where
-      schema-is : r .schema .columns ≡ schemaOf (columns s) .columns → r .schema .count ≡ length (columns s) → r .schema ≡ schemaOf (columns s)
-      schema-is p q = ap₂ (λ (l : List Column) (n : ℕ). record { columns = l; count = n }) p q
+      passed (spelled s) r a (fault-all s some ∙ sym (t .faults) ∙ fault-end (t .room) s at h) (b ∙ t .made ∙ rw (← left, all)) (c ∙ sym (t .long) ∙ ap length all)

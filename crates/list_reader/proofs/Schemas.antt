@@ -1,18 +1,21 @@
--- For whoever calls `read_list` and then `check_sheet`: what the first ensures of a list that passes meets what the second
--- requires. Assumes nothing.
+-- What reading a list of any case ends in; and for whoever goes on to `check_sheet`: what reading ensures of a list that passes meets
+-- what that requires. Assumes nothing.
 use Prim.Native.Nat.{ℕ, _-_, _≤_}
-use mathlib.Core.Path.{_≡_, sym, ap, subst, _∙_}
+use mathlib.Core.Path.{_≡_, sym, ap, ap₂, subst, _∙_}
 use mathlib.Core.List.{List}
 use lib.ListN.{length, replicate, List·getD-append}
 use lib.Seq.{take-append-seam}
 use Rattle.format.specs.declared.Column.{Column}
 use Rattle.format.specs.declared.Schema.{Schema}
-use Rattle.format.specs.declared.Check.the-variants.{Pass}
+use Rattle.format.specs.declared.Refusal.{Refusal}
+use Rattle.format.specs.declared.Check.the-variants.{Pass, Refuse}
 use Rattle.format.specs.Limits.{maxColumns, maxWidth}
-use Rattle.format.specs.Columns.{listFault, columns}
+use Rattle.format.specs.Described.{ColumnList, listFault, columns}
 use Rattle.format.specs.Kinds.{valueBytes}
+use Rattle.basics.proofs.Checks.{refuse-pass}
 use Rattle.basics.proofs.Lists.{every-at}
-use Rattle.laws.proofs.Columns.{Narrow, columns-narrow, columns-few}
+use Rattle.laws.proofs.Columns.{Narrow}
+use Rattle.laws.proofs.Described.{columns-narrow, columns-few}
 use Rattle.list_reader.specs.declared.Listed.{Listed}
 use Rattle.format.specs.Schemas.{noColumn, schemaOf, colsOf, Limited}
 use Rattle.list_reader.specs.Listing.{ListedAs, Sound}
@@ -31,7 +34,7 @@ limited-schema cs few narrow = record {
 }
 
 -- what a list that passes gives
-pub sound : (list : List ℕ) (r : Listed) → ListedAs list r → listFault list ≡ Pass → Sound list (r .schema)
+pub sound : (list : ColumnList) (r : Listed) → ListedAs list r → listFault list ≡ Pass → Sound list (r .schema)
 sound list r l e =
     let is = l .schema e in
     let cols : colsOf (r .schema) ≡ columns list = ap colsOf is ∙ cols-schema (columns list) in
@@ -41,3 +44,14 @@ sound list r l e =
       some = rw is (columns-few list e .0);
       limited = rw is (limited-schema (columns list) (columns-few list e .1) (columns-narrow list e));
     }
+
+-- ---- what reading ends in
+
+-- the refusal x is the first fault of the list, and so it was answered
+pub refused : (list : ColumnList) (r : Listed) (x : Refusal) → r .check ≡ Refuse x → listFault list ≡ Refuse x → ListedAs list r
+refused list r x e f = record { check = e ∙ sym f; schema = λ p. absurd (refuse-pass (sym f ∙ p)) }
+
+-- the list passes, and its columns were answered
+pub passed : (list : ColumnList) (r : Listed) → r .check ≡ Pass → listFault list ≡ Pass → r .schema .columns ≡ schemaOf (columns list) .columns
+    → r .schema .count ≡ length (columns list) → ListedAs list r
+passed list r e f p q = record { check = e ∙ sym f; schema = λ _. ap₂ (λ (l : List Column) (n : ℕ). record { columns = l; count = n }) p q }

@@ -1,73 +1,28 @@
-// The column list: checked left to right, and read once into an array of columns.
+// The column list in its three forms, list bytes, columns and codes: checked left to right, and read once into an array of columns.
 ghost use mathlib.Core.Path.{_≡_};
 ghost use Prim.Native.Nat.{_+_, _<_, _≤_};
 ghost use lib.ListN.{length, getD};
-ghost use Rattle.format.specs.Columns.{kindOf, optionsOf, mostOptions, descriptionBytes, widthAt, columnAt, descriptionFault};
+ghost use Rattle.format.specs.Columns.{descriptionBytes, widthAt, columnAt, descriptionFault};
+ghost use Rattle.format.specs.Described.{spelled};
 ghost use Rattle.list_reader.specs.Listing.{ListedAs};
+use crate::numbers::check_numbers;
+use crate::numbers::kind_of;
+use crate::numbers::options_of;
 use format::Check;
 use format::Column;
-use format::Kind;
 use format::Refusal;
 use format::Schema;
-use format::SortOptions;
 use format::no_column;
 use runs::wide;
+
+pub mod codes;
+pub mod columns;
+mod numbers;
 
 // What a list says: its first fault, and the columns of one that has none.
 pub struct Listed {
     pub check: Check,
     pub schema: Schema,
-}
-
-// The kind that a kind byte from 1 to 18 says; fixed binary takes its width along.
-fn kind_of(b: u8, width: usize) -> Kind
-    ensures { λ r. ⌜ r ≡ kindOf b width ⌝ }
-{
-    match b {
-        1 => Kind::Bool,
-        2 => Kind::I8,
-        3 => Kind::I16,
-        4 => Kind::I32,
-        5 => Kind::I64,
-        6 => Kind::U8,
-        7 => Kind::U16,
-        8 => Kind::U32,
-        9 => Kind::U64,
-        10 => Kind::F16,
-        11 => Kind::F32,
-        12 => Kind::F64,
-        13 => Kind::DayTime,
-        14 => Kind::MonthDayNano,
-        15 => Kind::FixedBinary(width),
-        16 => Kind::Variable,
-        17 => Kind::I128,
-        _ => Kind::I256,
-    }
-}
-
-// Bits 0 to 3 of an options byte.
-fn options_of(o: u8) -> SortOptions
-    ensures { λ r. ⌜ r ≡ optionsOf o ⌝ }
-{
-    SortOptions {
-        descending: o % 2 == 1,
-        nulls_first: o / 2 % 2 == 1,
-        required: o / 4 % 2 == 1,
-        fold: o / 8 % 2 == 1,
-    }
-}
-
-// The highest options byte of a kind: only the floats, kinds 10 to 12, have bit 3.
-fn most_options(kind: u8) -> u8
-    ensures { λ r. ⌜ r ≡ mostOptions kind ⌝ }
-{
-    if kind < 10 {
-        return 7;
-    }
-    if kind < 13 {
-        return 15;
-    }
-    7
 }
 
 // The bytes of a description: kind and options, and for kind 15 also the width.
@@ -92,28 +47,16 @@ fn width_at(list: &[u8], at: usize) -> usize
     wide(list[at + 2]) + 256 * wide(list[at + 3])
 }
 
-// The first fault of the description at `at`: 2, 1, 3, 4 in this order.
+// The first fault of the description at `at`.
 fn check_description(list: &[u8], at: usize) -> Check
     requires { ⌜ at < length (now list) ⌝ }
     ensures { λ r. ⌜ r ≡ descriptionFault (now (list .entry)) at ⌝ }
 {
     let kind = list[at];
-    if kind < 1 {
-        return Check::Refuse(Refusal::UnknownKind(at));
-    }
-    if format::LAST_KIND < kind {
-        return Check::Refuse(Refusal::UnknownKind(at));
-    }
     if list.len() - at < description_bytes(kind) {
-        return Check::Refuse(Refusal::ListCut(at));
+        return check_numbers(at, kind, true, 0, 0);
     }
-    if most_options(kind) < list[at + 1] {
-        return Check::Refuse(Refusal::OptionBits(at));
-    }
-    if format::MAX_WIDTH < width_at(list, at) {
-        return Check::Refuse(Refusal::Width(at));
-    }
-    Check::Pass
+    check_numbers(at, kind, false, list[at + 1], width_at(list, at))
 }
 
 // The column whose description stands at `at`.
@@ -130,7 +73,7 @@ fn column_at(list: &[u8], at: usize) -> Column
 }
 
 // What was read, with the answer to it.
-fn answered(check: Check, columns: [Column; format::MAX_COLUMNS], count: usize) -> Listed
+pub(crate) fn answered(check: Check, columns: [Column; format::MAX_COLUMNS], count: usize) -> Listed
     ensures { λ r. ⌜ (r .check ≡ check) × (r .schema .columns ≡ columns) × (r .schema .count ≡ count) ⌝ }
 {
     let schema = Schema {
@@ -145,7 +88,7 @@ fn answered(check: Check, columns: [Column; format::MAX_COLUMNS], count: usize) 
 
 // The list, left to right: at each column 5, then its own faults.
 pub fn read_list(list: &[u8]) -> Listed
-    ensures { λ r. ⌜ ListedAs (now (list .entry)) r ⌝ }
+    ensures { λ r. ⌜ ListedAs (spelled (now (list .entry))) r ⌝ }
 {
     let none = no_column();
     let mut columns = [none; format::MAX_COLUMNS];

@@ -10,9 +10,10 @@ use lib.Seq.{getD-take, length-take-le}
 use borrow.Author.Tests.{lt-ltb, le-ltb, ltb-true, ne-eqb, eqb-true}
 use Rattle.format.specs.declared.Check.the-variants.{Pass}
 use Rattle.format.specs.declared.Column.{Column}
+use Rattle.format.specs.declared.Refusal.the-variants.{ListCut}
 use Rattle.format.specs.Limits.{maxColumns}
-use Rattle.format.specs.Check.{both}
-use Rattle.format.specs.Columns.{descriptionBytes, widthAt, columnAt, descriptionFault, listFaultFrom, columnsFrom, listFault, columns}
+use Rattle.format.specs.Check.{both, failIf}
+use Rattle.format.specs.Columns.{descriptionBytes, widthAt, columnAt, descriptionFault, listFaultFrom, columnsFrom, spelledFault, spelledColumns}
 use Rattle.basics.proofs.Checks.{failIf-pass, both-pass, pass-both}
 use Rattle.laws.proofs.Columns.{bytes-wide, bytes-least, description-passed}
 use Rattle.plates.specs.Prefix.{listEnd, firstList}
@@ -91,14 +92,21 @@ front (suc room) (suc k) s at l e few = go (ltb at (length s)) refl e few (front
               (ap (λ (b : ℕ). columnsFrom room (take p s) (at + descriptionBytes b)) kind ∙ f .first));
         }
 
--- for every k from 1 to the column count
-pub first-list : (list : List ℕ) (k : ℕ) → listFault list ≡ Pass → 1 ≤ k → k ≤ length (columns list)
-    → (listFault (firstList k list) ≡ Pass) × (columns (firstList k list) ≡ take k (columns list))
-unfolding listFault columns
-first-list list zero e some few = absurd (omega arith)
-first-list list (suc k) e some few =
-    let f = front maxColumns (suc k) list 0 (omega arith) (failIf-pass (eqb (length list) 0) _ _ e .1) few in
+-- with room for any number of columns, so that nothing computes through all of them
+first-within : (room : ℕ) (list : List ℕ) (k : ℕ) → failIf (eqb (length list) 0) (ListCut 0) (listFaultFrom room list 0) ≡ Pass → 1 ≤ k
+    → k ≤ length (columnsFrom room list 0)
+    → (failIf (eqb (length (firstList k list)) 0) (ListCut 0) (listFaultFrom room (firstList k list) 0) ≡ Pass)
+    × (columnsFrom room (firstList k list) 0 ≡ take k (columnsFrom room list 0))
+first-within room list zero e some few = absurd (omega arith)
+first-within room list (suc k) e some few =
+    let f = front room (suc k) list 0 (omega arith) (failIf-pass (eqb (length list) 0) _ _ e .1) few in
     let p : ℕ = listEnd (suc k) list 0 in
     let filled : eqb (length (take p list)) 0 ≡ false
     = ne-eqb (length (take p list)) 0 (λ z. omega (arith, z, length-take-le p list (f .inside), f .after)) in
     (rw filled (f .passes), f .first)
+
+-- for every k from 1 to the column count
+pub first-list : (list : List ℕ) (k : ℕ) → spelledFault list ≡ Pass → 1 ≤ k → k ≤ length (spelledColumns list)
+    → (spelledFault (firstList k list) ≡ Pass) × (spelledColumns (firstList k list) ≡ take k (spelledColumns list))
+unfolding spelledFault spelledColumns
+first-list list k e some few = first-within maxColumns list k e some few

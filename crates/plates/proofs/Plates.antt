@@ -16,7 +16,7 @@ use Rattle.format.specs.declared.Check.the-variants.{Pass, Refuse}
 use Rattle.format.specs.declared.Column.{Column}
 use Rattle.format.specs.declared.Refusal.{Refusal}
 use Rattle.format.specs.Check.{both}
-use Rattle.format.specs.Columns.{columns}
+use Rattle.format.specs.Described.{ColumnList, columns}
 use Rattle.format.specs.Fits.{RowFits, HasValues}
 use Rattle.format.specs.Lists.{Bytes}
 use Rattle.format.specs.Order.{Begins, cmp}
@@ -41,7 +41,7 @@ use Rattle.demands.proofs.RowOrder.{row-front}
 use Rattle.plates.proofs.SideBySide.{side-by-side}
 
 -- ---- one batch
-module _ {list : List ℕ} {b : Batch} (w : Written list b) where
+module _ {list : ColumnList} {b : Batch} (w : Written list b) where
   -- its rows have values
   row-values : (r : ℕ) → r < b .n → HasValues (columns list) (rowIn b r)
   row-values r l = record { values = valuesIn list b r; fit = values-fit w r l; spell = sym (row-is w r l) }
@@ -58,7 +58,7 @@ module _ {list : List ℕ} {b : Batch} (w : Written list b) where
   written-together s k = side-by-side (columns list) (b .n) (rowIn b) row-values s k
 
 -- ---- two batches
-pub written-agree : {list : List ℕ} {b d : Batch} → Written list b → Written list d → (k r q : ℕ) → r < b .n → q < d .n
+pub written-agree : {list : ColumnList} {b d : Batch} → Written list b → Written list d → (k r q : ℕ) → r < b .n → q < d .n
     → firstValues list b k r ≡ firstValues list d k q ↔ fieldsIn list b k r ≡ fieldsIn list d k q
 written-agree {list} {b} {d} v w k r q lr lq =
     let p = fields-agree k (columns list) (valuesIn list b r) (valuesIn list d q) (values-fit v r lr) (values-fit w q lq) in
@@ -69,7 +69,7 @@ written-agree {list} {b} {d} v w k r q lr lq =
     (λ e. first ∙ p .0 e ∙ sym second, λ e. p .1 (sym first ∙ e ∙ second))
 
 -- ---- a batch, and one of keys under the first k columns
-module _ {list short : List ℕ} {b d : Batch} (v : Written list b) (w : Written short d) (k r q : ℕ) (lr : r < b .n) (lq : q < d .n)
+module _ {list short : ColumnList} {b d : Batch} (v : Written list b) (w : Written short d) (k r q : ℕ) (lr : r < b .n) (lq : q < d .n)
     (first : columns short ≡ take k (columns list)) where
   abbrev cols : List Column
   cols = columns list
@@ -104,7 +104,7 @@ module _ {list short : List ℕ} {b d : Batch} (v : Written list b) (w : Written
       (λ h. rw (key-is, row-is v r lr) (p .0 h), λ h. p .1 (rw (key-is, row-is v r lr) at h))
 
 -- ---- rows that decode accepts, whoever sorted them
-pub accepted-together : (list : List ℕ) (n : ℕ) (bytes offsets : List ℕ) (room : ℕ) → Bytes bytes → decodeCheck list n bytes offsets room ≡ Pass
+pub accepted-together : (list : ColumnList) (n : ℕ) (bytes offsets : List ℕ) (room : ℕ) → Bytes bytes → decodeCheck list n bytes offsets room ≡ Pass
     → Sorted n (rowBytes bytes offsets) → (k : ℕ) → Together n (λ r. firstFields k (columns list) (rowBytes bytes offsets r))
 accepted-together list n bytes offsets room h e s k = side-by-side (columns list) n (rowBytes bytes offsets) values s k
   where
@@ -126,7 +126,7 @@ first-refused x y e = rw e
 pub second-refused : (x y : Check) {r : Refusal} → x ≡ Pass → y ≡ Refuse r → both x y ≡ Refuse r
 second-refused x y p e = rw (p, e)
 
-module _ {list : List ℕ} {b d : Batch} where
+module _ {list : ColumnList} {b d : Batch} where
   pub agree-refused : (x : Refusal) → both (batchFault list b) (batchFault list d) ≡ Refuse x → FieldsAgree list b d (Refuse x)
   agree-refused x e = record {
     answers = sym e;
@@ -143,7 +143,7 @@ module _ {list : List ℕ} {b d : Batch} where
     together = λ p. written-together v;
   }
 
-module _ {list short : List ℕ} {b d : Batch} (r q : ℕ) where
+module _ {list short : ColumnList} {b d : Batch} (r q : ℕ) where
   -- where one of them is refused, or a row is not there, nothing is compared
   none : (x : Ordered) → x ≡ ordered (both (batchFault list b) (batchFault short d)) (ltb r (b .n) && ltb q (d .n)) (keyOrder b d r q)
       → ((k : ℕ) → KeyThere list short b d k r q → ⊥) → KeyOrdered list short b d r q x

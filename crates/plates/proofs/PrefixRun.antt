@@ -5,7 +5,7 @@ use mathlib.Core.Path.{_≡_, refl}
 use mathlib.Core.Option.{some}
 use mathlib.Core.List.{List, [], _∷_, _++_}
 use lib.ListN.{replicate}
-use Rattle.format.specs.Columns.{columns}
+use Rattle.format.specs.Columns.{spelledColumns}
 use Rattle.format.specs.Kinds.{Slot}
 use Rattle.format.specs.Prefix.{firstFields, valuesLength}
 use Rattle.format.specs.Row.{row}
@@ -18,11 +18,11 @@ list = 7 ∷ 2 ∷ 16 ∷ 1 ∷ []
 abbrev values : List Slot
 values = some (2 ∷ 1 ∷ []) ∷ some (97 ∷ []) ∷ []
 
-pub first-and-both : (firstFields 1 (columns list) (row (columns list) values) ≡ 1 ∷ 1 ∷ 2 ∷ [])
-    × (firstFields 2 (columns list) (row (columns list) values) ≡ 1 ∷ 1 ∷ 2 ∷ 0xfd ∷ 0x9e ∷ replicate 7 0xff ++ 0xfe ∷ [])
-    × (valuesLength 1 (columns list) values ≡ 3)
-    × (valuesLength 2 (columns list) values ≡ 13)
-unfolding columns
+pub first-and-both : (firstFields 1 (spelledColumns list) (row (spelledColumns list) values) ≡ 1 ∷ 1 ∷ 2 ∷ [])
+    × (firstFields 2 (spelledColumns list) (row (spelledColumns list) values) ≡ 1 ∷ 1 ∷ 2 ∷ 0xfd ∷ 0x9e ∷ replicate 7 0xff ++ 0xfe ∷ [])
+    × (valuesLength 1 (spelledColumns list) values ≡ 3)
+    × (valuesLength 2 (spelledColumns list) values ≡ 13)
+unfolding spelledColumns
 first-and-both = (refl, refl, refl, refl)
 
 -- the width of kind 15 belongs to its description

@@ -12,7 +12,8 @@ use Rattle.format.specs.declared.Check.{Check}
 use Rattle.format.specs.declared.Check.the-variants.{Pass}
 use Rattle.format.specs.Check.{both}
 use Rattle.format.specs.Kinds.{Slot}
-use Rattle.format.specs.Columns.{descriptionBytes, columns}
+use Rattle.format.specs.Columns.{descriptionBytes}
+use Rattle.format.specs.Described.{ColumnList, columns}
 use Rattle.format.specs.Order.{Begins, cmp}
 use Rattle.format.specs.Prefix.{firstFields, valuesLength}
 use Rattle.format.specs.Row.{row}
@@ -22,10 +23,10 @@ use Rattle.demands.specs.declared.order.Ordered.{Ordered}
 use Rattle.demands.specs.Order.{Batch, batchFault, rowIn, valuesIn, ordered}
 
 -- the first k fields of row r of a batch, and the first k values of row r of its sheet
-abbrev pub fieldsIn : List ℕ → Batch → ℕ → ℕ → List ℕ
+abbrev pub fieldsIn : ColumnList → Batch → ℕ → ℕ → List ℕ
 fieldsIn list b k r = firstFields k (columns list) (rowIn b r)
 
-abbrev pub firstValues : List ℕ → Batch → ℕ → ℕ → List Slot
+abbrev pub firstValues : ColumnList → Batch → ℕ → ℕ → List Slot
 firstValues list b k r = take k (valuesIn list b r)
 
 -- of n rows none is below the one before it
@@ -37,12 +38,12 @@ abbrev pub Together : {A : Type 0} → ℕ → (ℕ → A) → Type 0
 Together n f = (i j l : ℕ) → i ≤ j → j ≤ l → l < n → f i ≡ f l → f j ≡ f i
 
 -- the first k fields are the row of the first k values under the first k columns, and as long as these values say
-pub record Fields (list : List ℕ) (b : Batch) (k r : ℕ) : Type 0 where
+pub record Fields (list : ColumnList) (b : Batch) (k r : ℕ) : Type 0 where
   pub spell : fieldsIn list b k r ≡ row (take k (columns list)) (firstValues list b k r)
   pub long : length (fieldsIn list b k r) ≡ valuesLength k (columns list) (valuesIn list b r)
 
 -- two sheets encoded under one list
-pub record FieldsAgree (list : List ℕ) (b d : Batch) (x : Check) : Type 0 where
+pub record FieldsAgree (list : ColumnList) (b d : Batch) (x : Check) : Type 0 where
   pub answers : x ≡ both (batchFault list b) (batchFault list d)
   pub agree : x ≡ Pass → (k r q : ℕ) → r < b .n → q < d .n → firstValues list b k r ≡ firstValues list d k q ↔ fieldsIn list b k r ≡ fieldsIn list d k q
   pub fields : x ≡ Pass → (k r : ℕ) → r < b .n → Fields list b k r
@@ -68,14 +69,14 @@ abbrev pub keyOrder : Batch → Batch → ℕ → ℕ → ℤ
 keyOrder b d r q = compareAnswer (take (length (rowIn d q)) (rowIn b r)) (rowIn d q)
 
 -- both sheets are encoded, the second under the first k columns, and both rows are there
-pub record KeyThere (list short : List ℕ) (b d : Batch) (k r q : ℕ) : Type 0 where
+pub record KeyThere (list short : ColumnList) (b d : Batch) (k r q : ℕ) : Type 0 where
   pub passes : both (batchFault list b) (batchFault short d) ≡ Pass
   pub first : columns short ≡ take k (columns list)
   pub row : r < b .n
   pub key : q < d .n
 
 -- such a key stands to the row as to its first k values, and is its first k fields, and begins it, exactly where it has those values
-pub record KeyOrdered (list short : List ℕ) (b d : Batch) (r q : ℕ) (x : Ordered) : Type 0 where
+pub record KeyOrdered (list short : ColumnList) (b d : Batch) (r q : ℕ) (x : Ordered) : Type 0 where
   pub answers : x ≡ ordered (both (batchFault list b) (batchFault short d)) (ltb r (b .n) && ltb q (d .n)) (keyOrder b d r q)
   pub order : (k : ℕ) → KeyThere list short b d k r q
       → keyOrder b d r q ≡ sign (rowOrder (take k (columns list)) (firstValues list b k r) (valuesIn short d q))

@@ -2,6 +2,7 @@
 ghost use mathlib.Core.Path.{_≡_};
 ghost use Prim.Native.Nat.{_≤_};
 ghost use lib.ListN.{length, take};
+ghost use Rattle.format.specs.Described.{spelled};
 ghost use Rattle.format.specs.Entries.{rowBytes, compareAnswer};
 ghost use Rattle.joiner.specs.Rows.{Lies};
 ghost use Rattle.demands.specs.Order.{batch};
@@ -24,7 +25,7 @@ pub fn encode_agree(
     others: &mut [u8],
     ends: &mut [u64],
 ) -> Check
-    ensures { λ x. ⌜ FieldsAgree (now (list .entry))
+    ensures { λ x. ⌜ FieldsAgree (spelled (now (list .entry)))
         (batch n (now (sheet .entry)) (now (rows .entry)) (now (offsets .entry)) (now (rows .exit)) (now (offsets .exit)))
         (batch m (now (other .entry)) (now (others .entry)) (now (ends .entry)) (now (others .exit)) (now (ends .exit)))
         x ⌝ }
@@ -83,7 +84,7 @@ pub fn encode_key(
     ends: &mut [u64],
     q: u64,
 ) -> Ordered
-    ensures { λ x. ⌜ KeyOrdered (now (list .entry)) (now (short .entry))
+    ensures { λ x. ⌜ KeyOrdered (spelled (now (list .entry))) (spelled (now (short .entry)))
         (batch n (now (sheet .entry)) (now (rows .entry)) (now (offsets .entry)) (now (rows .exit)) (now (offsets .exit)))
         (batch m (now (other .entry)) (now (keys .entry)) (now (ends .entry)) (now (keys .exit)) (now (ends .exit)))
         r q x ⌝ }

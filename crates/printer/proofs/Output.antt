@@ -18,7 +18,7 @@ use Rattle.format.specs.declared.Answer.{Answer}
 use Rattle.format.specs.declared.Answer.the-variants.{Done, Refused}
 use Rattle.format.specs.Limits.{maxRows}
 use Rattle.format.specs.Lists.{low, joined, endsFrom, over}
-use Rattle.format.specs.Columns.{columns}
+use Rattle.format.specs.Described.{ColumnList, spelled, columns}
 use Rattle.format.specs.Sheet.{sheetSlots}
 use Rattle.format.specs.Numbers.{refusalNumbers}
 use Rattle.format.specs.Entries.{answer, sheetRows, sheetTotal, measureCheck, encodeCheck, encodeAnswer, cutRows}
@@ -40,14 +40,15 @@ use Rattle.laws.proofs.Numbers.{numbers-injective}
 -- ---- a sheet
 
 -- one that passes has few rows, and few bytes in them
-rows-few : (list : List ℕ) (n : ℕ) (sheet : List ℕ) (k m : ℕ) → encodeCheck list n sheet k m ≡ Pass → (n ≤ maxRows) × (sheetTotal n (columns list) sheet ≤ k)
+rows-few : (list : ColumnList) (n : ℕ) (sheet : List ℕ) (k m : ℕ) → encodeCheck list n sheet k m ≡ Pass
+    → (n ≤ maxRows) × (sheetTotal n (columns list) sheet ≤ k)
 unfolding encodeCheck
 rows-few list n sheet k m e = (
   encoded list n sheet k m e .1 .few,
   enough k (sheetTotal n (columns list) sheet) _ _ (both-pass (measureCheck list n sheet) _ e .1) .0,
 )
 
-pub sheet-short : (list : List ℕ) (n : ℕ) (sheet : List ℕ) → length (sheetText list n sheet) ≤ textRoom
+pub sheet-short : (list : ColumnList) (n : ℕ) (sheet : List ℕ) → length (sheetText list n sheet) ≤ textRoom
 sheet-short list n sheet = by-check (encodeCheck list n sheet rowRoom offsetRoom) refl
   where
     by-check : (k : Check) → encodeCheck list n sheet rowRoom offsetRoom ≡ k → length (lines k (sheetRows n (columns list) sheet)) ≤ textRoom
@@ -67,7 +68,8 @@ rows = replicate {A = ℕ} rowRoom 0
 abbrev offsets : List ℕ
 offsets = replicate {A = ℕ} offsetRoom 0
 
-module _ (list : List ℕ) (n : ℕ) (sheet : List ℕ) (given : Answer) (rows′ offsets′ : List ℕ) (h : Encoded list n sheet rows offsets given rows′ offsets′) where
+module _ (list : ColumnList) (n : ℕ) (sheet : List ℕ) (given : Answer) (rows′ offsets′ : List ℕ)
+    (h : Encoded list n sheet rows offsets given rows′ offsets′) where
   rows-long : length rows ≡ rowRoom
   rows-long = length-replicate {A = ℕ} rowRoom 0
 
@@ -118,7 +120,7 @@ cut-output : (s : List ℕ) → headerCut s ≡ true → refusedLine (refusalNum
 unfolding output
 cut-output s e = rw e
 
-whole-output : (s : List ℕ) → headerCut s ≡ false → sheetText (listIn s) (countIn s) (sheetIn s) ≡ output s
+whole-output : (s : List ℕ) → headerCut s ≡ false → sheetText (spelled (listIn s)) (countIn s) (sheetIn s) ≡ output s
 unfolding output
 whole-output s e = rw e
 
@@ -142,12 +144,12 @@ module _ (s : List ℕ) (few : length s ≤ inputRoom) where
 
     -- none is
     pub sheet-output : 2 + k + 2 ≤ length s → (n : ℕ) → n ≡ low (take 2 (drop (2 + k) s))
-        → sheetText (take (2 + k - 2) (drop 2 s)) n (take (length s - (2 + k + 2)) (drop (2 + k + 2) s)) ≡ output s
+        → sheetText (spelled (take (2 + k - 2) (drop 2 s))) n (take (length s - (2 + k + 2)) (drop (2 + k + 2) s)) ≡ output s
     sheet-output l n f =
         let same : 2 + k - 2 ≡ two s 0 = omega (arith, listed) in
         let start : 2 + k + 2 ≡ 2 + two s 0 + 2 = omega (arith, listed) in
-        ap (λ (list : List ℕ). sheetText list n (take (length s - (2 + k + 2)) (drop (2 + k + 2) s))) (ap (λ (m : ℕ). take m (drop 2 s)) same)
-        ∙ ap₂ (λ (m : ℕ) (sheet : List ℕ). sheetText (listIn s) m sheet)
+        ap (λ (list : List ℕ). sheetText (spelled list) n (take (length s - (2 + k + 2)) (drop (2 + k + 2) s))) (ap (λ (m : ℕ). take m (drop 2 s)) same)
+        ∙ ap₂ (λ (m : ℕ) (sheet : List ℕ). sheetText (spelled (listIn s)) m sheet)
         (f ∙ ap (λ (m : ℕ). low (take 2 (drop (2 + m) s))) listed ∙ two-is s (2 + two s 0) (omega arith))
         (part-to-end s (2 + k + 2) ∙ ap (λ (m : ℕ). drop m s) start)
         ∙ whole-output s (rw (le-ltb inputRoom (length s) few, le-ltb (length s) 2 h, le-ltb (length s) (2 + two s 0 + 2) (omega arith)))
@@ -157,9 +159,9 @@ output-short : (s : List ℕ) → length (output s) ≤ textRoom
 unfolding output
 output-short s = by-test (headerCut s)
   where
-    by-test : (b : Bool) → length (cond b (refusedLine (refusalNumbers Input)) (sheetText (listIn s) (countIn s) (sheetIn s))) ≤ textRoom
+    by-test : (b : Bool) → length (cond b (refusedLine (refusalNumbers Input)) (sheetText (spelled (listIn s)) (countIn s) (sheetIn s))) ≤ textRoom
     by-test true = omega (arith, refused-short (refusalNumbers Input))
-    by-test false = sheet-short (listIn s) (countIn s) (sheetIn s)
+    by-test false = sheet-short (spelled (listIn s)) (countIn s) (sheetIn s)
 
 -- ---- the text in front of the buffer, and the bytes past it
 module _ (text out out′ : List ℕ) (r : ℕ) (w : Wrote text 0 out out′ r) (fits : length text ≤ length out) where

@@ -5,7 +5,7 @@ use mathlib.Core.Bool.{Bool, true, cond}
 use mathlib.Core.List.{List, [], _∷_, _++_}
 use lib.ListN.{length, take, drop}
 use Rattle.format.specs.declared.Refusal.the-variants.{Input}
-use Rattle.format.specs.Columns.{columns}
+use Rattle.format.specs.Described.{ColumnList, columns}
 use Rattle.format.specs.Numbers.{refusalNumbers}
 use Rattle.format.specs.Entries.{encodeCheck, sheetRows}
 use Rattle.format.specs.Program.{inputRoom, rowRoom, offsetRoom, hex, decimal, refusedLine, lines, output}
@@ -27,7 +27,7 @@ abbrev pub numberText : ℕ → ℕ → List ℕ
 numberText n after = decimal 20 n ++ (after ∷ [])
 
 -- the lines of a sheet: its rows, or the refusal
-abbrev pub sheetText : List ℕ → ℕ → List ℕ → List ℕ
+abbrev pub sheetText : ColumnList → ℕ → List ℕ → List ℕ
 sheetText list n sheet = lines (encodeCheck list n sheet rowRoom offsetRoom) (sheetRows n (columns list) sheet)
 
 -- what was read of standard input: no more than there is room for, and where more follows, as much

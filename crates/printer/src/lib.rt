@@ -3,6 +3,7 @@ ghost use Prim.Native.Nat.{_≤_};
 ghost use lib.ListN.{length};
 ghost use Rattle.format.specs.Program.{output};
 ghost use Rattle.basics.specs.Wrote.{Wrote};
+ghost use Rattle.format.specs.Described.{spelled};
 ghost use Rattle.printer.specs.Printed.{textRoom, sheetText, Printed};
 use crate::text::put_refused;
 use crate::text::put_rows;
@@ -24,7 +25,7 @@ pub const TEXT_ROOM: usize = 69632;
 // A sheet encoded: its rows, or the refusal.
 fn print_sheet(list: &[u8], n: u64, sheet: &[u8], out: &mut [u8]) -> usize
     requires { ⌜ textRoom ≤ length (now out) ⌝ }
-    ensures { λ r. ⌜ Wrote (sheetText (now (list .entry)) n (now (sheet .entry))) 0 (now (out .entry)) (now (out .exit)) r ⌝ }
+    ensures { λ r. ⌜ Wrote (sheetText (spelled (now (list .entry))) n (now (sheet .entry))) 0 (now (out .entry)) (now (out .exit)) r ⌝ }
 {
     let mut rows = [0u8; ROW_ROOM];
     let mut offsets = [0u64; format::MAX_OFFSETS];

@@ -1,6 +1,2 @@
--- What the walks of the station keep, and how each way out of an entry follows.
-pub mod Begun
-pub mod Measuring
-pub mod Encoding
-pub mod Decoding
+-- How each way out of `join` follows.
 pub mod Joining

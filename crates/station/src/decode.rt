@@ -1,63 +1,13 @@
 // Decoding: the cleared sheet of a batch of rows.
-ghost use mathlib.Core.Path.{_≡_};
+ghost use Rattle.format.specs.Described.{spelled};
 ghost use Rattle.format.specs.Promises.{Decoded};
-ghost use Rattle.station.specs.Decoding.{sheetRoomFault, SheetReady, SheetLeft};
-use crate::check::answer;
-use crate::list::begin;
+use decoder::decode_listed;
 use format::Answer;
-use format::Check;
-use format::Refusal;
-use format::Schema;
-use row_reader::check_rows;
-use sheet_writer::write_sheet;
-
-// 24.
-fn room_fault(bytes: usize, room: usize) -> Check
-    ensures { λ r. ⌜ r ≡ sheetRoomFault bytes room ⌝ }
-{
-    if room < bytes {
-        return Check::Refuse(Refusal::SheetRoom(bytes));
-    }
-    Check::Pass
-}
-
-// The sheet of checked rows where nothing is at fault, and its null total; where something is, no byte changes.
-fn write_passed(
-    fault: Check,
-    schema: Schema,
-    n: usize,
-    rows: &[u8],
-    offsets: &[u64],
-    sheet: &mut [u8],
-) -> u64
-    requires { ⌜ SheetReady fault schema n (now rows) (now offsets) (now sheet) ⌝ }
-    ensures { λ r. ⌜ SheetLeft fault schema n (now (rows .entry)) (now (offsets .entry)) (now (sheet .entry)) (now (sheet .exit)) r ⌝ }
-{
-    if let Check::Refuse(_) = fault {
-        return 0;
-    }
-    let written = write_sheet(schema, n, rows, offsets, sheet);
-    written.nulls
-}
+use list_reader::read_list;
 
 // List, 6, 14, 15, 12, rows, 24, then the sheet: sheet bytes and the null total, or the refusal, which writes nothing.
 pub fn decode(list: &[u8], n: u64, rows: &[u8], offsets: &[u64], sheet: &mut [u8]) -> Answer
-    ensures { λ r. ⌜ Decoded (now (list .entry)) n (now (rows .entry)) (now (offsets .entry)) (now (sheet .entry)) r (now (sheet .exit)) ⌝ }
+    ensures { λ r. ⌜ Decoded (spelled (now (list .entry))) n (now (rows .entry)) (now (offsets .entry)) (now (sheet .entry)) r (now (sheet .exit)) ⌝ }
 {
-    let room = sheet.len();
-    let listed = begin(list, n);
-    let check = listed.check;
-    if let Check::Refuse(r) = check {
-        return Answer::Refused(r);
-    }
-    let schema = listed.schema;
-    let checked = check_rows(schema, n as usize, rows, offsets);
-    let found = checked.check;
-    if let Check::Refuse(r) = found {
-        return Answer::Refused(r);
-    }
-    let bytes = checked.bytes;
-    let fault = room_fault(bytes, room);
-    let nulls = write_passed(fault, schema, n as usize, rows, offsets, sheet);
-    answer(fault, bytes as u64, nulls)
+    decode_listed(read_list(list), n, rows, offsets, sheet)
 }

@@ -1,73 +1,14 @@
 // Encoding: the rows of a sheet into the row buffer, and where each begins and the last ends into the offsets.
-ghost use mathlib.Core.Path.{_≡_};
-ghost use Prim.Native.Nat.{_≤_};
-ghost use Rattle.format.specs.Limits.{maxRows};
+ghost use Rattle.format.specs.Described.{spelled};
 ghost use Rattle.format.specs.Promises.{Encoded};
-ghost use Rattle.station.specs.Encoding.{roomFault, RowsReady, RowsLeft};
-use crate::check::answer;
-use crate::check::both;
-use crate::check::total_fault;
-use crate::measure::measure_list;
+use encoder::encode::encode_listed;
 use format::Answer;
-use format::Check;
-use format::Refusal;
-use format::Schema;
-use row_writer::write_rows;
-use sheet_reader::sheet::Facts;
-
-// 13, 14.
-fn room_fault(total: u64, room: u64, n: u64, ends: u64) -> Check
-    requires { ⌜ n ≤ maxRows ⌝ }
-    ensures { λ r. ⌜ r ≡ roomFault total room n ends ⌝ }
-{
-    let count = n + 1;
-    if room < total {
-        return Check::Refuse(Refusal::RowRoom(total));
-    }
-    if ends < count {
-        return Check::Refuse(Refusal::OffsetRoom(count));
-    }
-    Check::Pass
-}
-
-// The rows and the offsets of a checked sheet where nothing is at fault; where something is, no byte changes.
-fn write_passed(
-    fault: Check,
-    schema: Schema,
-    n: usize,
-    sheet: &[u8],
-    facts: [Facts; format::MAX_COLUMNS],
-    rows: &mut [u8],
-    offsets: &mut [u64],
-)
-    requires { ⌜ RowsReady fault schema n (now sheet) facts (now rows) (now offsets) ⌝ }
-    ensures { λ _. ⌜ RowsLeft fault schema n (now (sheet .entry)) (now (rows .entry)) (now (offsets .entry)) (now (rows .exit)) (now (offsets .exit)) ⌝ }
-{
-    if let Check::Refuse(_) = fault {
-        return;
-    }
-    write_rows(schema, n, sheet, facts, rows, offsets);
-}
+use list_reader::read_list;
 
 // List, 6, sheet, 12, 13, 14, then the rows: total row bytes and the null total, or the refusal, which writes nothing.
 pub fn encode(list: &[u8], n: u64, sheet: &[u8], rows: &mut [u8], offsets: &mut [u64]) -> Answer
-    ensures { λ r. ⌜ Encoded (now (list .entry)) n (now (sheet .entry)) (now (rows .entry)) (now (offsets .entry))
+    ensures { λ r. ⌜ Encoded (spelled (now (list .entry))) n (now (sheet .entry)) (now (rows .entry)) (now (offsets .entry))
         r (now (rows .exit)) (now (offsets .exit)) ⌝ }
 {
-    let row_room = rows.len() as u64;
-    let offset_room = offsets.len() as u64;
-    let m = measure_list(list, n, sheet);
-    let check = m.check;
-    if let Check::Refuse(r) = check {
-        return Answer::Refused(r);
-    }
-    let total = m.total;
-    let nulls = m.nulls;
-    let schema = m.schema;
-    let facts = m.facts;
-    let many = total_fault(total);
-    let room = room_fault(total, row_room, n, offset_room);
-    let fault = both(many, room);
-    write_passed(fault, schema, n as usize, sheet, facts, rows, offsets);
-    answer(fault, total, nulls)
+    encode_listed(read_list(list), n, sheet, rows, offsets)
 }

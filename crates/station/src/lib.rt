@@ -1,5 +1,4 @@
 // The row station: the public entries, a module each, and nothing else that is public.
-mod check;
 pub mod compare;
 pub mod decode;
 pub mod encode;

@@ -1,88 +1,13 @@
 // Measuring: how many bytes the rows of a sheet take.
-ghost use mathlib.Core.Path.{_≡_};
-ghost use Rattle.format.specs.declared.Check.the-variants.{Refuse};
+ghost use Rattle.format.specs.Described.{spelled};
 ghost use Rattle.format.specs.Promises.{Measured};
-ghost use Rattle.station.specs.Measuring.{Measures};
-use crate::check::answer;
-use crate::check::both;
-use crate::check::total_fault;
-use crate::list::begin;
+use encoder::measure::measure_listed;
 use format::Answer;
-use format::Check;
-use format::Refusal;
-use format::Schema;
-use format::no_column;
-use sheet_reader::measure::measure_sheet;
-use sheet_reader::sheet::Facts;
-use sheet_reader::sheet::check_sheet;
-
-// What a batch says: its first fault, and of one that has none its columns and their facts, the total and the null total.
-pub(crate) struct Measuring {
-    pub(crate) check: Check,
-    pub(crate) schema: Schema,
-    pub(crate) facts: [Facts; format::MAX_COLUMNS],
-    pub(crate) total: u64,
-    pub(crate) nulls: u64,
-}
-
-// A batch that is refused says no more.
-fn refused(refusal: Refusal) -> Measuring
-    ensures { λ r. ⌜ r .check ≡ Refuse refusal ⌝ }
-{
-    let none = no_column();
-    let blank = Facts {
-        column: none,
-        base: 0,
-    };
-    let columns = [none; format::MAX_COLUMNS];
-    let facts = [blank; format::MAX_COLUMNS];
-    let schema = Schema {
-        columns: columns,
-        count: 0,
-    };
-    Measuring {
-        check: Check::Refuse(refusal),
-        schema: schema,
-        facts: facts,
-        total: 0,
-        nulls: 0,
-    }
-}
-
-// List, 6, sheet; and the total, of which 12 is not asked here.
-pub(crate) fn measure_list(list: &[u8], n: u64, sheet: &[u8]) -> Measuring
-    ensures { λ r. ⌜ Measures (now (list .entry)) n (now (sheet .entry)) r ⌝ }
-{
-    let listed = begin(list, n);
-    let check = listed.check;
-    if let Check::Refuse(r) = check {
-        return refused(r);
-    }
-    let schema = listed.schema;
-    let sheeted = check_sheet(schema, n as usize, sheet);
-    let check = sheeted.check;
-    if let Check::Refuse(r) = check {
-        return refused(r);
-    }
-    let facts = sheeted.facts;
-    let total = measure_sheet(schema, n as usize, sheet, facts);
-    Measuring {
-        check: Check::Pass,
-        schema: schema,
-        facts: facts,
-        total: total,
-        nulls: sheeted.nulls,
-    }
-}
+use list_reader::read_list;
 
 // Total row bytes and the null total, or the refusal.
 pub fn measure(list: &[u8], n: u64, sheet: &[u8]) -> Answer
-    ensures { λ r. ⌜ Measured (now (list .entry)) n (now (sheet .entry)) r ⌝ }
+    ensures { λ r. ⌜ Measured (spelled (now (list .entry))) n (now (sheet .entry)) r ⌝ }
 {
-    let m = measure_list(list, n, sheet);
-    let check = m.check;
-    let total = m.total;
-    let many = total_fault(total);
-    let fault = both(check, many);
-    answer(fault, total, m.nulls)
+    measure_listed(read_list(list), n, sheet)
 }

@@ -1,4 +1,2 @@
--- What the C entries use of the lent offsets, and which edition they are.
-pub mod Offsets
-pub mod Order
+-- Which edition the C entries are.
 pub mod Version

@@ -1,19 +1,20 @@
-// The C entries: a slice is a pointer and a length, and offsets and answers are lent as bytes, eight a number, low byte
-// first. Thin over crate `station`; include/station.h says how to call them.
-ghost use Rattle.format.specs.Promises.{LentListChecked, LentMeasured, LentEncoded, LentDecoded, LentJoined, Compared};
-use crate::bytes::put_answer;
-use crate::bytes::used_offsets;
-use crate::decode::decode_sized;
-use crate::encode::encode_sized;
-use crate::order::MAX_ORDER;
-use crate::order::join_bytes;
-use crate::order::used_entries;
+// The C entries: a slice is a pointer and a length, offsets and answers are lent as bytes, eight a number, low byte first, and
+// descriptions as four bytes a column. Thin over crates `station` and `sized`; include/station.h says how to call them.
+ghost use Rattle.format.specs.Described.{spelled, coded};
+ghost use Rattle.format.specs.Promises.{LentListChecked, LentListRead, LentMeasured, LentEncoded, LentDecoded, LentJoined, Compared};
+use encoder::measure::measure_listed;
 use format::MAX_OFFSETS;
+use lent_bytes::put_answer;
+use lent_bytes::used_offsets;
+use list_reader::codes::read_codes;
+use list_reader::read_list;
+use sized::codes::list_codes;
+use sized::decode::decode_sized;
+use sized::encode::encode_sized;
+use sized::order::MAX_ORDER;
+use sized::order::join_bytes;
+use sized::order::used_entries;
 
-mod bytes;
-mod decode;
-mod encode;
-mod order;
 mod version;
 
 // An answer is four numbers; one that cannot hold them, and no lent byte changes.
@@ -30,15 +31,38 @@ pub extern "C" fn station_check_list(list: &[u8], answer: &mut [u8])
     put_answer(answer, station::list::check_list(list));
 }
 
+// Checks a column list, and writes its descriptions.
+#[no_mangle]
+pub extern "C" fn station_read_list(list: &[u8], descriptions: &mut [u8], answer: &mut [u8])
+    ensures { λ _. ⌜ LentListRead (now (list .entry)) (now (descriptions .entry)) (now (answer .entry)) (now (descriptions .exit)) (now (answer .exit)) ⌝ }
+{
+    if answer.len() < ANSWER_BYTES {
+        return;
+    }
+    let r = list_codes(list, descriptions);
+    put_answer(answer, r);
+}
+
 // Checks list and sheet, and adds up the row bytes.
 #[no_mangle]
 pub extern "C" fn station_measure(list: &[u8], n: u64, sheet: &[u8], answer: &mut [u8])
-    ensures { λ _. ⌜ LentMeasured (now (list .entry)) n (now (sheet .entry)) (now (answer .entry)) (now (answer .exit)) ⌝ }
+    ensures { λ _. ⌜ LentMeasured (spelled (now (list .entry))) n (now (sheet .entry)) (now (answer .entry)) (now (answer .exit)) ⌝ }
 {
     if answer.len() < ANSWER_BYTES {
         return;
     }
     put_answer(answer, station::measure::measure(list, n, sheet));
+}
+
+// The same under descriptions.
+#[no_mangle]
+pub extern "C" fn station_measure_read(descriptions: &[u8], n: u64, sheet: &[u8], answer: &mut [u8])
+    ensures { λ _. ⌜ LentMeasured (coded (now (descriptions .entry))) n (now (sheet .entry)) (now (answer .entry)) (now (answer .exit)) ⌝ }
+{
+    if answer.len() < ANSWER_BYTES {
+        return;
+    }
+    put_answer(answer, measure_listed(read_codes(descriptions), n, sheet));
 }
 
 // Writes the rows of a sheet, and their offsets.
@@ -51,14 +75,34 @@ pub extern "C" fn station_encode(
     offsets: &mut [u8],
     answer: &mut [u8],
 )
-    ensures { λ _. ⌜ LentEncoded (now (list .entry)) n (now (sheet .entry)) (now (rows .entry)) (now (offsets .entry)) (now (answer .entry))
+    ensures { λ _. ⌜ LentEncoded (spelled (now (list .entry))) n (now (sheet .entry)) (now (rows .entry)) (now (offsets .entry)) (now (answer .entry))
         (now (rows .exit)) (now (offsets .exit)) (now (answer .exit)) ⌝ }
 {
     if answer.len() < ANSWER_BYTES {
         return;
     }
     let k = used_offsets(n, offsets.len());
-    encode_sized(list, n, sheet, rows, offsets, answer, k);
+    encode_sized(read_list(list), n, sheet, rows, offsets, answer, k);
+}
+
+// The same under descriptions.
+#[no_mangle]
+pub extern "C" fn station_encode_read(
+    descriptions: &[u8],
+    n: u64,
+    sheet: &[u8],
+    rows: &mut [u8],
+    offsets: &mut [u8],
+    answer: &mut [u8],
+)
+    ensures { λ _. ⌜ LentEncoded (coded (now (descriptions .entry))) n (now (sheet .entry)) (now (rows .entry)) (now (offsets .entry)) (now (answer .entry))
+        (now (rows .exit)) (now (offsets .exit)) (now (answer .exit)) ⌝ }
+{
+    if answer.len() < ANSWER_BYTES {
+        return;
+    }
+    let k = used_offsets(n, offsets.len());
+    encode_sized(read_codes(descriptions), n, sheet, rows, offsets, answer, k);
 }
 
 // Checks rows, and writes their cleared sheet.
@@ -71,14 +115,34 @@ pub extern "C" fn station_decode(
     sheet: &mut [u8],
     answer: &mut [u8],
 )
-    ensures { λ _. ⌜ LentDecoded (now (list .entry)) n (now (rows .entry)) (now (offsets .entry)) (now (sheet .entry)) (now (answer .entry))
+    ensures { λ _. ⌜ LentDecoded (spelled (now (list .entry))) n (now (rows .entry)) (now (offsets .entry)) (now (sheet .entry)) (now (answer .entry))
         (now (sheet .exit)) (now (answer .exit)) ⌝ }
 {
     if answer.len() < ANSWER_BYTES {
         return;
     }
     let k = used_offsets(n, offsets.len());
-    decode_sized(list, n, rows, offsets, sheet, answer, k);
+    decode_sized(read_list(list), n, rows, offsets, sheet, answer, k);
+}
+
+// The same under descriptions.
+#[no_mangle]
+pub extern "C" fn station_decode_read(
+    descriptions: &[u8],
+    n: u64,
+    rows: &[u8],
+    offsets: &[u8],
+    sheet: &mut [u8],
+    answer: &mut [u8],
+)
+    ensures { λ _. ⌜ LentDecoded (coded (now (descriptions .entry))) n (now (rows .entry)) (now (offsets .entry)) (now (sheet .entry)) (now (answer .entry))
+        (now (sheet .exit)) (now (answer .exit)) ⌝ }
+{
+    if answer.len() < ANSWER_BYTES {
+        return;
+    }
+    let k = used_offsets(n, offsets.len());
+    decode_sized(read_codes(descriptions), n, rows, offsets, sheet, answer, k);
 }
 
 // Writes the joined order of two sorted passes.

@@ -3,7 +3,8 @@
 //! bytes), position (f64) and exposure (months, days, nanoseconds); of two decimals (i128 and i256);
 //! and of three floats, which the station then folds as well, and the crate is given folded. For each
 //! one input, cleared buffers, the four works in turn in one run. Then the station's join of two
-//! passes of 4,096 such rows against a merge of them in Rust, and against sorting.
+//! passes of 4,096 such rows against a merge of them in Rust, and against sorting. Then small sheets
+//! under one list, with the list's bytes in every call and with the list read once.
 
 use arrow_row::driver::{self, Array, Field};
 use oracle::columns::Column;
@@ -18,7 +19,8 @@ use std::process::{Command, ExitCode};
 use std::time::Instant;
 
 const USAGE: &str = "bench [--rounds N] [--nulls] [--descending] [--callgrind] \
-     [--table catalogue|decimals|floats|folded|passes] [--only rust-encode|station-encode|rust-decode|station-decode]";
+     [--table catalogue|decimals|floats|folded|passes|sheets] [--only rust-encode|station-encode|rust-decode|station-decode\
+     |list-measure|read-measure|list-encode|read-encode|list-decode|read-decode] [--rows N] [--columns N]";
 const ROWS: usize = 4096;
 const NAME_BYTES: usize = 12;
 
@@ -40,6 +42,23 @@ const WORKS: [&str; 4] = [
 
 /// The works on two passes.
 const JOINS: [&str; 3] = ["rust merge", "rust sort", "station"];
+
+/// The rows and the columns of small sheets.
+const SMALL_ROWS: [usize; 3] = [1, 8, 64];
+const SMALL_COLUMNS: [usize; 3] = [4, 16, 64];
+
+/// The works on small sheets: with the list in every call, and with the list read once.
+const SMALL: [&str; 6] = [
+    "list-measure",
+    "read-measure",
+    "list-encode",
+    "read-encode",
+    "list-decode",
+    "read-decode",
+];
+
+/// Calls that are timed together.
+const CALLS: usize = 64;
 
 /// The input in both forms, and the buffers.
 struct Bench {
@@ -292,6 +311,95 @@ fn measure_join(options: &Options) {
     );
 }
 
+/// A small sheet, its list, and what was read from it.
+struct SmallBench {
+    list: Vec<u8>,
+    columns: station::Columns,
+    n: u64,
+    sheet: Vec<u8>,
+    rows: Vec<u8>,
+    offsets: Vec<u64>,
+    sheet_buffer: Vec<u8>,
+}
+
+impl SmallBench {
+    /// So many rows of so many columns, of the catalogue's kinds over and over.
+    fn new(rows: usize, columns: usize, order: u8, nulls: Nulls) -> SmallBench {
+        let kinds = TABLES[0].1.iter().cycle().take(columns);
+        let columns = kinds.map(|kind| Column::new(*kind, order)).collect();
+        let table = make::table_with(&mut Rng::new(9), rows, columns, nulls, &[NAME_BYTES]);
+        let encoded = crate_side::encode(&table);
+        SmallBench {
+            list: table.list(),
+            columns: station::Columns::read(&table.list()).expect("accepted"),
+            n: rows as u64,
+            sheet: table.sheet(),
+            sheet_buffer: vec![0; table.cleared().sheet().len()],
+            rows: encoded.0,
+            offsets: encoded.1,
+        }
+    }
+
+    fn run(&mut self, work: &str) {
+        let (list, columns, n) = (&self.list, &self.columns, self.n);
+        let (sheet, rows, offsets) = (black_box(&self.sheet), &mut self.rows, &mut self.offsets);
+        let answer = match work {
+            "list-measure" => station::measure(list, n, sheet),
+            "read-measure" => columns.measure(n, sheet),
+            "list-encode" => station::encode(list, n, sheet, rows, offsets),
+            "read-encode" => columns.encode(n, sheet, rows, offsets),
+            "list-decode" => station::decode(list, n, rows, offsets, &mut self.sheet_buffer),
+            _ => columns.decode(n, rows, offsets, &mut self.sheet_buffer),
+        };
+        answer.expect("accepted");
+    }
+
+    /// The nanoseconds of one call.
+    fn time(&mut self, work: &str) -> u64 {
+        let start = Instant::now();
+        (0..CALLS).for_each(|_| self.run(work));
+        start.elapsed().as_nanos() as u64 / CALLS as u64
+    }
+}
+
+/// Small sheets of each size: a line for each, with the list and with what was read from it.
+fn measure_small(options: &Options) {
+    let (order, nulls) = columns_said(options);
+    let rounds = options.number("--rounds").unwrap_or(501) as usize;
+    if let Some(work) = options.word("--only") {
+        let [rows, columns] = ["--rows", "--columns"].map(|word| options.number(word).unwrap_or(1));
+        let mut bench = SmallBench::new(rows as usize, columns as usize, order, nulls);
+        return (0..rounds).for_each(|_| bench.run(work));
+    }
+    println!("sheets: one list, in each call and read once, medians of {rounds} rounds");
+    for (rows, columns) in SMALL_ROWS
+        .into_iter()
+        .flat_map(|rows| SMALL_COLUMNS.map(|columns| (rows, columns)))
+    {
+        let mut bench = SmallBench::new(rows, columns, order, nulls);
+        let mut times: [Vec<u64>; 6] = Default::default();
+        for (round, turn) in (0..rounds).flat_map(|round| (0..6).map(move |turn| (round, turn))) {
+            let work = turn ^ (round & 1);
+            times[work].push(bench.time(SMALL[work]));
+        }
+        let size = format!("n {rows:2}, {columns:2} columns");
+        print_small(&size, "ns a call", times.map(median));
+        if options.has("--callgrind") {
+            let (rows, columns) = (rows.to_string(), columns.to_string());
+            let words = ["--table", "sheets", "--rows", &rows, "--columns", &columns];
+            let counts = SMALL.map(|work| instructions(work, &words).unwrap_or(0));
+            print_small(&size, "instructions a call", counts);
+        }
+    }
+}
+
+fn print_small(size: &str, unit: &str, figures: [u64; 6]) {
+    let pairs = figures.chunks(2).zip(["measure", "encode", "decode"]);
+    let pairs = pairs.map(|(pair, name)| format!("{name} list {:7} read {:7}", pair[0], pair[1]));
+    let pairs: Vec<String> = pairs.collect();
+    println!("{size}  {}  {unit}", pairs.join("  "));
+}
+
 /// The instructions of one work, counted by callgrind: many rounds less one round.
 fn instructions(work: &str, words: &[&str]) -> Option<u64> {
     let counted = |rounds: u64| {
@@ -327,6 +435,10 @@ fn print_pairs(unit: &str, figures: [f64; 4]) {
 fn main() -> ExitCode {
     let options = Options::read(USAGE);
     let wanted = options.word("--table");
+    if wanted == Some("sheets") {
+        measure_small(&options);
+        return ExitCode::SUCCESS;
+    }
     let mut of = BTreeMap::new();
     for (name, kinds, option) in TABLES {
         if wanted.is_none_or(|wanted| wanted == name) {
@@ -342,6 +454,9 @@ fn main() -> ExitCode {
     }
     if wanted.is_none_or(|wanted| wanted == "passes") && !options.has("--only") {
         measure_join(&options);
+    }
+    if wanted.is_none() && !options.has("--only") {
+        measure_small(&options);
     }
     ExitCode::SUCCESS
 }

@@ -4,7 +4,7 @@ use oracle::judge::Judge;
 use oracle::options::Options;
 use oracle::rng::Rng;
 use oracle::yard::Yard;
-use oracle::{document, joins, misreads, refusals, sweeps, trap};
+use oracle::{document, joins, misreads, reads, refusals, sweeps, trap};
 use std::process::ExitCode;
 
 fn main() -> ExitCode {
@@ -39,10 +39,13 @@ fn main() -> ExitCode {
     refusals::rooms(&mut judge, &mut rng);
     refusals::empty(&mut judge);
     refusals::damaged(&mut judge, &mut rng, sheets);
+    reads::lists(&mut judge);
+    reads::descriptions(&mut judge, &mut rng);
+    reads::damaged(&mut judge, &mut rng, sheets);
     joins::joined(&mut judge, &mut rng, sheets / 10);
     joins::refused(&mut judge, &mut rng);
     joins::damaged(&mut judge, &mut rng, sheets);
 
     // Every answer of the entries must have come up.
-    judge.finish((0..25).chain(26..29))
+    judge.finish((0..25).chain(26..30))
 }

@@ -52,7 +52,7 @@ fn held(path: &Path, text: &str) -> bool {
 /// Document 01's cases to run, in one column of variable bytes with nulls first.
 fn document() -> Vec<String> {
     let column = Column::new(VARIABLE, 2);
-    let list = column.description();
+    let list = column.spelled();
     let encode = |name: &str, values: &[Option<&[u8]>]| {
         let encoded = encoded_by_crate(&one_slot_each(column, values));
         encode_words(&format!("encode {name}:"), &Ok(encoded), 20, 4)

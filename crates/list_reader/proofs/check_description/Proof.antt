@@ -1,67 +1,31 @@
--- `list_reader::check_description` meets its contract: each return is the definition's case for the tests that led there.
--- Assumes nothing.
+-- `list_reader::check_description` meets its contract: its numbers are judged, and where its body is cut options and width do not
+-- matter. Assumes nothing.
 use borrow.Author.Needs.{needs}
 use borrow.Author.Tests.{lt-ltb, le-ltb}
 use Rattle.list_reader.proofs.check_description.Statement.{statement}
 use Rattle.list_reader.proofs.check_description.Tie as tie
 
 returns : tie.Need-returns
-returns c = simp (lt-ltb _ _ (c .if1 .taken))
+returns c =
+    let shorter = c .before in
+    rw (lt-ltb _ _ (rw (shorter .before .description-bytes .ensures .0) at (shorter .if1 .taken))) (c .check-numbers .ensures)
 
 returns-2 : tie.Need-returns-2
-returns-2 c = simp (le-ltb _ _ (c .before .if1 .left), lt-ltb _ _ (c .if2 .taken))
-
-returns-3 : tie.Need-returns-3
-returns-3 c =
-    simp (
-      le-ltb _ _ (c .before .before .before .if1 .left),
-      le-ltb _ _ (c .before .before .if2 .left),
-      lt-ltb _ _ (rw (c .before .description-bytes .ensures .0) at (c .if3 .taken)),
-    )
-
-returns-4 : tie.Need-returns-4
-returns-4 c =
-    simp (
-      le-ltb _ _ (c .before .before .before .before .before .before .if1 .left),
-      le-ltb _ _ (c .before .before .before .before .before .if2 .left),
-      le-ltb _ _ (rw (c .before .before .before .before .description-bytes .ensures .0) at (c .before .before .before .if3 .left)),
-      lt-ltb _ _ (rw (c .before .before .most-options .ensures) at (c .if4 .taken)),
-    )
-
-returns-5 : tie.Need-returns-5
-returns-5 c =
-    simp (
-      le-ltb _ _ (c .before .before .before .before .before .before .before .before .if1 .left),
-      le-ltb _ _ (c .before .before .before .before .before .before .before .if2 .left),
-      le-ltb _ _ (rw (c .before .before .before .before .before .before .description-bytes .ensures .0) at (c .before .before .before .before .before .if3 .left)),
-      le-ltb _ _ (rw (c .before .before .before .before .most-options .ensures) at (c .before .before .if4 .left)),
-      lt-ltb _ _ (rw (c .before .width-at .ensures) at (c .if5 .taken)),
-    )
-
-returns-6 : tie.Need-returns-6
-returns-6 c =
-    simp (
-      le-ltb _ _ (c .before .before .before .before .before .before .before .before .if1 .left),
-      le-ltb _ _ (c .before .before .before .before .before .before .before .if2 .left),
-      le-ltb _ _ (rw (c .before .before .before .before .before .before .description-bytes .ensures .0) at (c .before .before .before .before .before .if3 .left)),
-      le-ltb _ _ (rw (c .before .before .before .before .most-options .ensures) at (c .before .before .if4 .left)),
-      le-ltb _ _ (rw (c .before .width-at .ensures) at (c .if5 .left)),
-    )
+returns-2 c =
+    let whole = c .before .before .before in
+    rw (le-ltb _ _ (rw (whole .before .description-bytes .ensures .0) at (whole .if1 .left)), ← c .before .width-at .ensures) (c .check-numbers2 .ensures)
 
 pub check-description-spec : {M : Type 1} → statement M
 check-description-spec =
     tie.close
     (tie.spec
     (λ c. search needs)
+    (λ c. search needs)
+    (λ c κs. search needs)
+    (λ c κs. search needs)
     returns
-    returns-2
-    (λ c. search needs)
-    (λ c κs. search needs)
-    returns-3
-    (λ c κs. search needs)
     (λ c. search needs)
     (λ c. search needs)
-    returns-4
     (λ c κs. search needs)
-    returns-5
-    returns-6)
+    (λ c κs. search needs)
+    returns-2)

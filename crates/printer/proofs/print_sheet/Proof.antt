@@ -4,6 +4,7 @@ use mathlib.Core.Path.{ap}
 use native.Mathlib.Omega.{arith}
 use lib.ListN.{length}
 use Rattle.printer.proofs.Written.{wrote-as}
+use Rattle.format.specs.Described.{spelled}
 use Rattle.printer.proofs.Output.{sheet-short, refused-text, rows-cuts, rows-text}
 use Rattle.printer.proofs.print_sheet.Statement.{statement}
 use Rattle.printer.proofs.print_sheet.Tie as tie
@@ -23,7 +24,7 @@ put-rows-requires c κs =
     let start = told .before .before .before .before .before .before .before .before .before .before in
     let text = rows-text _ _ _ _ _ _ (e .ensures) _ _ d in (
       rows-cuts _ _ _ _ _ _ (e .ensures) _ _ d,
-      omega (arith, ap length text, sheet-short (start .args .list .now) (start .args .n) (start .args .sheet .now), start .pre),
+      omega (arith, ap length text, sheet-short (spelled (start .args .list .now)) (start .args .n) (start .args .sheet .now), start .pre),
     )
 
 returns-2 : tie.Need-returns-2

@@ -44,7 +44,7 @@ Start = tie.Start Inv-loop2 μ-loop2 Inv-loop μ-loop
 -- there are as many columns as the schema says
 many : (c : Start) → length (colsOf (c .args .schema)) ≡ c .args .schema .count
 many c =
-    let sixteen : length (c .args .schema .columns) ≡ maxColumns = sym (length-map (c .args .schema .columns) _) ∙ c .good .0 .1 .1 .0 .1 .0 .1 in
+    let all-columns : length (c .args .schema .columns) ≡ maxColumns = sym (length-map (c .args .schema .columns) _) ∙ c .good .0 .1 .1 .0 .1 .0 .1 in
     length-take-le (c .args .schema .count) (c .args .schema .columns) (omega (arith, c .pre .1 .0))
 
 -- the rows of the sheet are those by the facts

@@ -5,10 +5,10 @@ use mathlib.Core.Path.{subst}
 use native.Mathlib.Omega.{arith}
 use lib.ListN.{length}
 use Rattle.basics.proofs.Bytes.{bytes-of}
-use Rattle.station_c.specs.Offsets.{Used}
-use Rattle.station_c.specs.Order.{UsedEntries}
-use Rattle.station_c.proofs.Entries.{part-long}
-use Rattle.station_c.proofs.Joins.{join-short, join-long}
+use Rattle.lent_bytes.specs.Offsets.{Used}
+use Rattle.sized.specs.Order.{UsedEntries}
+use Rattle.sized.proofs.Entries.{part-long}
+use Rattle.sized.proofs.Joins.{join-short, join-long}
 use Rattle.station_c.proofs.station_join.Statement.{statement}
 use Rattle.station_c.proofs.station_join.Tie as tie
 

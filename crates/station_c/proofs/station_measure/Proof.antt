@@ -1,14 +1,14 @@
 -- `station_c::station_measure` meets its contract. Assumes nothing.
 use borrow.Author.Needs.{needs}
 use native.Mathlib.Omega.{arith}
-use Rattle.station_c.proofs.Entries.{measure-short, measure-long}
+use Rattle.sized.proofs.Entries.{measure-short, measure-long}
 use Rattle.station_c.proofs.station_measure.Statement.{statement}
 use Rattle.station_c.proofs.station_measure.Tie as tie
 
 returns : tie.Need-returns
 returns c =
     let args = c .before .before .before .before .args in
-    measure-short (args .answer .now) (omega arith) (args .list .now) (args .n) (args .sheet .now)
+    measure-short (args .answer .now) (omega arith) _ (args .n) (args .sheet .now)
 
 put-answer-requires : tie.Need-put-answer-requires
 put-answer-requires c κs = let at-long = c .before .before in at-long .if1 .left

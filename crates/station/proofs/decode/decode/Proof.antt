@@ -1,74 +1,13 @@
--- `station::decode::decode` meets its contract: each refusal is that of the checks that led there, and else 24 decides what is answered
--- and written. The ways out stand first, then what the calls ask. Assumes nothing.
+-- `station::decode::decode` meets its contract: the list that was read says so, and what `decode_listed` ensures of every such list holds of it.
+-- Assumes nothing.
 use borrow.Author.Needs.{needs}
-use Rattle.station.proofs.Decoding.{bad-begin, bad-rows, ready, asked}
 use Rattle.station.proofs.decode.decode.Statement.{statement}
 use Rattle.station.proofs.decode.decode.Tie as tie
 
 returns : tie.Need-returns
 returns c =
-    let at-begin = c .before .before .before in
-    bad-begin _ _ _ _ _ _ (at-begin .begin .ensures) _ (c .before .check .given .1)
-
--- ---- list and row count pass
-abbrev listed : tie.After-check-rows → tie.After-enum-told
-listed c = c .before .before
-
-abbrev begun : tie.After-enum-told → tie.After-begin
-begun c = c .before .before
-
-returns-2 : tie.Need-returns-2
-returns-2 c =
-    let at-check-rows = c .before .before .before in
-    let at-listed = listed at-check-rows in
-    bad-rows _ _ _ _ _ _ (begun at-listed .begin .ensures) (at-listed .enum-told .given .1) _ (at-check-rows .check-rows .ensures) _
-    (c .before .found .given .1)
-
--- ---- the rows pass
-abbrev checked : tie.After-enum-told2 → tie.After-check-rows
-checked c = c .before .before
-
-returns-3 : tie.Need-returns-3
-returns-3 c =
-    let at-write-passed = c .before .before .before in
-    let at-room-fault = at-write-passed .before .before in
-    let at-pass = at-room-fault .before in
-    let at-check-rows = checked at-pass in
-    let at-listed = listed at-check-rows in
-    rw (c .answer .ensures)
-    (asked _ _ _ _ _ _ (begun at-listed .begin .ensures) (at-listed .enum-told .given .1) _ (at-check-rows .check-rows .ensures)
-    (at-pass .enum-told2 .given .1) _ (at-room-fault .room-fault .ensures) _ _ (at-write-passed .write-passed .ensures))
-
-check-rows-requires : tie.Need-check-rows-requires
-check-rows-requires c κs =
-    let at-listed = c .before in
-    let good = begun at-listed .begin .ensures in
-    let pass = at-listed .enum-told .given .1 in
-    (good .few pass, good .sound pass .limited)
-
-write-passed-requires : tie.Need-write-passed-requires
-write-passed-requires c κs =
-    let at-room-fault = c .before in
-    let at-pass = at-room-fault .before in
-    let at-check-rows = checked at-pass in
-    let at-listed = listed at-check-rows in
-    ready _ _ _ _ _ _ (begun at-listed .begin .ensures) (at-listed .enum-told .given .1) _ (at-check-rows .check-rows .ensures)
-    (at-pass .enum-told2 .given .1) _ (at-room-fault .room-fault .ensures)
+    let called = c .before .before in
+    called .decode-listed .ensures _ (called .before .before .read-list .ensures)
 
 pub decode-spec : {M : Type 1} → statement M
-decode-spec =
-    tie.close
-    (tie.spec
-    (λ c κs. search needs)
-    (λ c. search needs)
-    returns
-    (λ c. search needs)
-    check-rows-requires
-    (λ c. search needs)
-    returns-2
-    (λ c. search needs)
-    (λ c κs. search needs)
-    write-passed-requires
-    (λ c κs. search needs)
-    (λ c. search needs)
-    returns-3)
+decode-spec = tie.close (tie.spec (λ c κs. search needs) (λ c κs. search needs) (λ c. search needs) returns)

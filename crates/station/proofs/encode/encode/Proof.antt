@@ -1,76 +1,13 @@
--- `station::encode::encode` meets its contract: the batch is refused, or 12, 13 and 14 decide what is answered and written. The ways
--- out stand first, then what the calls ask. Assumes nothing.
+-- `station::encode::encode` meets its contract: the list that was read says so, and what `encode_listed` ensures of every such list holds of it.
+-- Assumes nothing.
 use borrow.Author.Needs.{needs}
-use mathlib.Core.Path.{_≡_}
-use lib.ListN.{length}
-use Rattle.format.specs.declared.Check.{Check}
-use Rattle.format.specs.Check.{both}
-use Rattle.format.specs.Entries.{totalFault}
-use Rattle.station.specs.Encoding.{roomFault}
-use Rattle.station.proofs.Encoding.{in-order, ready, bad-batch, asked}
 use Rattle.station.proofs.encode.encode.Statement.{statement}
 use Rattle.station.proofs.encode.encode.Tie as tie
 
 returns : tie.Need-returns
 returns c =
-    let at-measure-list = c .before .before .before in
-    bad-batch _ _ _ _ _ _ (at-measure-list .measure-list .ensures) _ (c .before .check .given .1)
-
--- ---- the batch passes
-abbrev passed : tie.After-total-fault → tie.After-enum-told
-passed c = c .before .before .before
-
-abbrev batch : tie.After-enum-told → tie.After-measure-list
-batch c = c .before .before
-
-abbrev start : tie.After-measure-list → tie.Start
-start c = c .before .before .before .before .before
-
--- 12, 13 and 14, in order
-abbrev asks : tie.After-both → Check
-asks c =
-    let at-measure-list = batch (passed (c .before .before)) in
-    let args = start at-measure-list .args in
-    let total = at-measure-list .measure-list .result .total in
-    both (totalFault total) (roomFault total (length (args .rows .now)) (args .n) (length (args .offsets .now)))
-
-fault : (c : tie.After-both) → c .both .result ≡ asks c
-fault c =
-    let at-room-fault = c .before in
-    in-order _ _ _ _ _ (at-room-fault .before .total-fault .ensures) (at-room-fault .room-fault .ensures) (c .both .ensures)
-
-returns-2 : tie.Need-returns-2
-returns-2 c =
-    let at-write-passed = c .before .before .before .before .before in
-    let at-both = at-write-passed .before .before .before in
-    let at-pass = passed (at-both .before .before) in
-    rw (c .answer .ensures)
-    (asked _ _ _ _ _ _ (batch at-pass .measure-list .ensures) (at-pass .enum-told .given .1) _ (fault at-both) _ _ (at-write-passed .write-passed .ensures))
-
-room-fault-requires : tie.Need-room-fault-requires
-room-fault-requires c κs =
-    let at-pass = passed c in
-    batch at-pass .measure-list .ensures .found (at-pass .enum-told .given .1) .few
-
-write-passed-requires : tie.Need-write-passed-requires
-write-passed-requires c κs =
-    let at-both = c .before .before in
-    let at-pass = passed (at-both .before .before) in
-    ready _ _ _ _ (batch at-pass .measure-list .ensures .found (at-pass .enum-told .given .1)) _ _ _ (fault at-both)
+    let called = c .before .before .before .before in
+    called .encode-listed .ensures _ (called .before .before .before .read-list .ensures)
 
 pub encode-spec : {M : Type 1} → statement M
-encode-spec =
-    tie.close
-    (tie.spec
-    (λ c κs. search needs)
-    (λ c. search needs)
-    returns
-    (λ c. search needs)
-    (λ c κs. search needs)
-    room-fault-requires
-    (λ c κs. search needs)
-    write-passed-requires
-    (λ c κs. search needs)
-    (λ c. search needs)
-    (λ c. search needs)
-    returns-2)
+encode-spec = tie.close (tie.spec (λ c κs. search needs) (λ c κs. search needs) (λ c. search needs) (λ c. search needs) returns)

@@ -9,7 +9,8 @@ use Rattle.format.specs.declared.Schema.{Schema}
 use Rattle.format.specs.declared.Check.{Check}
 use Rattle.format.specs.declared.Check.the-variants.{Pass, Refuse}
 use Rattle.format.specs.declared.Answer.the-variants.{Done, Refused}
-use Rattle.format.specs.Columns.{columns}
+use Rattle.format.specs.Columns.{spelledColumns}
+use Rattle.format.specs.Described.{spelled}
 use Rattle.format.specs.Entries.{answer, checkListAnswer}
 use Rattle.format.specs.Promises.{ListChecked}
 use Rattle.format.specs.Numbers.{numbersOf}
@@ -18,15 +19,15 @@ use Rattle.list_reader.specs.Listing.{ListedAs}
 use Rattle.station.proofs.list.check_list.Statement.{statement}
 use Rattle.station.proofs.list.check_list.Tie as tie
 
-done : (list : List ℕ) (r : Listed) → ListedAs list r → r .check ≡ Pass → ListChecked list (Done (r .schema .count) 0)
+done : (list : List ℕ) (r : Listed) → ListedAs (spelled list) r → r .check ≡ Pass → ListChecked list (Done (r .schema .count) 0)
 unfolding checkListAnswer
 done list r l e =
     let passes = sym (l .check) ∙ e in
-    record { answers = ap numbersOf (ap (λ (s : Schema). Done (s .count) 0) (l .schema passes) ∙ ap (λ (x : Check). answer x (length (columns list)) 0) (sym passes)) }
+    record { answers = ap numbersOf (ap (λ (s : Schema). Done (s .count) 0) (l .schema passes) ∙ ap (λ (x : Check). answer x (length (spelledColumns list)) 0) (sym passes)) }
 
-refused : (list : List ℕ) (r : Listed) (x : Refusal) → ListedAs list r → r .check ≡ Refuse x → ListChecked list (Refused x)
+refused : (list : List ℕ) (r : Listed) (x : Refusal) → ListedAs (spelled list) r → r .check ≡ Refuse x → ListChecked list (Refused x)
 unfolding checkListAnswer
-refused list r x l e = record { answers = ap (λ (y : Check). numbersOf (answer y (length (columns list)) 0)) (sym e ∙ l .check) }
+refused list r x l e = record { answers = ap (λ (y : Check). numbersOf (answer y (length (spelledColumns list)) 0)) (sym e ∙ l .check) }
 
 returns : tie.Need-returns
 returns c =

@@ -1,0 +1,2 @@
+-- How each way out of decoding follows.
+pub mod Decoding

@@ -1,0 +1,2 @@
+-- What the parts of decoding promise one another.
+pub mod Decoding

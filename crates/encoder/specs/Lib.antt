@@ -1,0 +1,3 @@
+-- What the parts of measuring and encoding promise one another.
+pub mod Measuring
+pub mod Encoding

@@ -1,0 +1,2 @@
+-- Numbers in bytes, stored and read.
+pub mod NumberBytes

@@ -1,0 +1,2 @@
+-- What a call uses of the lent offsets.
+pub mod Offsets

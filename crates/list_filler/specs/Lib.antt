@@ -1,0 +1,2 @@
+-- What the parts of read_list promise one another.
+pub mod Filling

@@ -1,0 +1,1 @@
+// No code: what reading a column list once gives, as theorems on the definitions of crate format, in proofs/.

@@ -1,0 +1,161 @@
+// Encode with the smallest array of numbers that will do: each size has a function of its own, so that a call clears no more.
+ghost use Prim.Native.Nat.{_+_, _≤_};
+ghost use lib.ListN.{length};
+ghost use Rattle.format.specs.Limits.{maxRows};
+ghost use Rattle.format.specs.Promises.{LentEncoded};
+ghost use Rattle.list_reader.specs.Listing.{OfList, OfEach};
+ghost use Rattle.sized.specs.Stored.{Ready, Held, EncodedBytes};
+use encoder::encode::encode_listed;
+use format::Answer;
+use format::MAX_OFFSETS;
+use lent_bytes::put_answer;
+use lent_bytes::write_offsets;
+use list_reader::Listed;
+
+// Encode with offsets in bytes: a success stores the ends of the rows, for which there is room among the numbers; a refusal
+// stores nothing. What the lent bytes held is not looked at.
+fn encode_bytes(
+    listed: Listed,
+    n: u64,
+    sheet: &[u8],
+    rows: &mut [u8],
+    offsets: &mut [u8],
+    numbers: &mut [u64],
+) -> Answer
+    requires { ⌜ OfList listed ⌝ }
+    requires { ⌜ Held n (length (now numbers)) (length (now offsets)) ⌝ }
+    ensures { λ r. ⌜ OfEach listed (λ list. EncodedBytes list n (now (sheet .entry)) (now (rows .entry)) (now (offsets .entry))
+        (length (now (numbers .entry))) r (now (rows .exit)) (now (offsets .exit))) ⌝ }
+{
+    let r = encode_listed(listed, n, sheet, rows, numbers);
+    if let Answer::Refused(_) = r {
+        return r;
+    }
+    write_offsets(numbers, offsets);
+    r
+}
+
+// The first k of the numbers that are lent are used.
+fn encode_lent(
+    listed: Listed,
+    n: u64,
+    sheet: &[u8],
+    rows: &mut [u8],
+    offsets: &mut [u8],
+    answer: &mut [u8],
+    numbers: &mut [u64],
+    k: usize,
+)
+    requires { ⌜ Ready listed n (now offsets) (now answer) k ⌝ }
+    requires { ⌜ k ≤ length (now numbers) ⌝ }
+    ensures { λ _. ⌜ OfEach listed (λ list. LentEncoded list n (now (sheet .entry)) (now (rows .entry)) (now (offsets .entry)) (now (answer .entry))
+        (now (rows .exit)) (now (offsets .exit)) (now (answer .exit))) ⌝ }
+{
+    let r = encode_bytes(listed, n, sheet, rows, offsets, &mut numbers[..k]);
+    put_answer(answer, r);
+}
+
+// The same in an array of 9 numbers.
+fn encode_few(
+    listed: Listed,
+    n: u64,
+    sheet: &[u8],
+    rows: &mut [u8],
+    offsets: &mut [u8],
+    answer: &mut [u8],
+    k: usize,
+)
+    requires { ⌜ Ready listed n (now offsets) (now answer) k ⌝ }
+    requires { ⌜ k ≤ 9 ⌝ }
+    ensures { λ _. ⌜ OfEach listed (λ list. LentEncoded list n (now (sheet .entry)) (now (rows .entry)) (now (offsets .entry)) (now (answer .entry))
+        (now (rows .exit)) (now (offsets .exit)) (now (answer .exit))) ⌝ }
+{
+    let mut numbers = [0u64; 9];
+    encode_lent(listed, n, sheet, rows, offsets, answer, &mut numbers, k);
+}
+
+// The same in an array of 65 numbers.
+fn encode_some(
+    listed: Listed,
+    n: u64,
+    sheet: &[u8],
+    rows: &mut [u8],
+    offsets: &mut [u8],
+    answer: &mut [u8],
+    k: usize,
+)
+    requires { ⌜ Ready listed n (now offsets) (now answer) k ⌝ }
+    requires { ⌜ k ≤ 65 ⌝ }
+    ensures { λ _. ⌜ OfEach listed (λ list. LentEncoded list n (now (sheet .entry)) (now (rows .entry)) (now (offsets .entry)) (now (answer .entry))
+        (now (rows .exit)) (now (offsets .exit)) (now (answer .exit))) ⌝ }
+{
+    let mut numbers = [0u64; 65];
+    encode_lent(listed, n, sheet, rows, offsets, answer, &mut numbers, k);
+}
+
+// The same in an array of 513 numbers.
+fn encode_more(
+    listed: Listed,
+    n: u64,
+    sheet: &[u8],
+    rows: &mut [u8],
+    offsets: &mut [u8],
+    answer: &mut [u8],
+    k: usize,
+)
+    requires { ⌜ Ready listed n (now offsets) (now answer) k ⌝ }
+    requires { ⌜ k ≤ 513 ⌝ }
+    ensures { λ _. ⌜ OfEach listed (λ list. LentEncoded list n (now (sheet .entry)) (now (rows .entry)) (now (offsets .entry)) (now (answer .entry))
+        (now (rows .exit)) (now (offsets .exit)) (now (answer .exit))) ⌝ }
+{
+    let mut numbers = [0u64; 513];
+    encode_lent(listed, n, sheet, rows, offsets, answer, &mut numbers, k);
+}
+
+// The same in an array of 4,097 numbers.
+fn encode_many(
+    listed: Listed,
+    n: u64,
+    sheet: &[u8],
+    rows: &mut [u8],
+    offsets: &mut [u8],
+    answer: &mut [u8],
+    k: usize,
+)
+    requires { ⌜ Ready listed n (now offsets) (now answer) k ⌝ }
+    requires { ⌜ k ≤ maxRows + 1 ⌝ }
+    ensures { λ _. ⌜ OfEach listed (λ list. LentEncoded list n (now (sheet .entry)) (now (rows .entry)) (now (offsets .entry)) (now (answer .entry))
+        (now (rows .exit)) (now (offsets .exit)) (now (answer .exit))) ⌝ }
+{
+    let mut numbers = [0u64; MAX_OFFSETS];
+    encode_lent(listed, n, sheet, rows, offsets, answer, &mut numbers, k);
+}
+
+// Encode with the k offsets that are used.
+pub fn encode_sized(
+    listed: Listed,
+    n: u64,
+    sheet: &[u8],
+    rows: &mut [u8],
+    offsets: &mut [u8],
+    answer: &mut [u8],
+    k: usize,
+)
+    requires { ⌜ Ready listed n (now offsets) (now answer) k ⌝ }
+    ensures { λ _. ⌜ OfEach listed (λ list. LentEncoded list n (now (sheet .entry)) (now (rows .entry)) (now (offsets .entry)) (now (answer .entry))
+        (now (rows .exit)) (now (offsets .exit)) (now (answer .exit))) ⌝ }
+{
+    if k <= 9 {
+        encode_few(listed, n, sheet, rows, offsets, answer, k);
+        return;
+    }
+    if k <= 65 {
+        encode_some(listed, n, sheet, rows, offsets, answer, k);
+        return;
+    }
+    if k <= 513 {
+        encode_more(listed, n, sheet, rows, offsets, answer, k);
+        return;
+    }
+    encode_many(listed, n, sheet, rows, offsets, answer, k);
+}
