@@ -40,7 +40,7 @@ over-next f (col ∷ cols) (suc c) l =
     q
 
 -- every field has a byte
-over-length : (cols : List Column) → length cols ≤ overAll fewest cols
+pub over-length : (cols : List Column) → length cols ≤ overAll fewest cols
 over-length [] = omega arith
 over-length (col ∷ cols) = omega (arith, over-length cols, one (columnShape col))
   where

@@ -1,0 +1,6 @@
+-- What the row cutter's functions rest on.
+pub mod Stepping
+pub mod Walking
+pub mod Rules
+pub mod Summing
+pub mod Entering

@@ -1,0 +1,3 @@
+-- What the row cutter's functions promise of each other.
+pub mod Places
+pub mod Sums
