@@ -8,6 +8,7 @@ mod room;
 mod walk;
 
 pub use batch::check_rows;
+pub use field::read_field;
 pub use offsets::check_offsets;
 
 // What a check of rows answers: the first fault, and the bytes that rows without one decode to. The walk over the fields
