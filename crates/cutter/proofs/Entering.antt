@@ -20,7 +20,7 @@ use Rattle.format.specs.declared.Cutter.{Cutter}
 use Rattle.format.specs.Check.{both, failIf}
 use Rattle.format.specs.Lists.{over}
 use Rattle.format.specs.Numbers.{numbersOf}
-use Rattle.format.specs.Columns.{listFault, columns}
+use Rattle.format.specs.Described.{ColumnList, listFault, columns}
 use Rattle.format.specs.Entries.{answer, written}
 use Rattle.format.specs.CutterRule.{keeps}
 use Rattle.format.specs.Cutter.{begun, refused, unless, fed, endsIn, startedWith, startAnswer, startState, cutFault, cutAnswer, cutState, cutEnds, finishFault, finishAnswer}
@@ -33,7 +33,7 @@ use Rattle.cutter.specs.Places.{stateAt, placeOf, walkedTo, Walks}
 
 -- ---- start
 
-module _ (list : List ℕ) (l : Listed) (is : ListedAs list l) (s : Cutter) where
+module _ (list : ColumnList) (l : Listed) (is : ListedAs list l) (s : Cutter) where
   pub start-refused : (r : Refusal) → l .check ≡ Refuse r → s ≡ refused r → Started list (Refused r) s
   unfolding startAnswer startState
   start-refused r e q =

@@ -18,8 +18,8 @@ use Rattle.format.specs.Schemas.{noColumn}
 use Rattle.format.specs.CutterRule.{keeps}
 use Rattle.format.specs.Cutter.{refused, fed, newEnd, endsIn}
 use Rattle.basics.proofs.Bytes.{bytes-take}
-use Rattle.cutter_laws.proofs.Cutting.{Whole, Kept, fed-keeps}
-use Rattle.cutter_laws.proofs.RuleKept.{Stands, stands-of, rows-most, step-keeps}
+use Rattle.cutter_laws.specs.Calls.{Kept}
+use Rattle.cutter_laws.proofs.RuleKept.{Stands, stands-of, rows-most, fed-keeps}
 use Rattle.cutter_laws.proofs.Piece.{Upto, upto-none, upto-more, upto-end, upto-refused}
 use Rattle.cutter.specs.declared.Place.{Place}
 use Rattle.cutter.specs.declared.Stepped.{Stepped}
@@ -85,7 +85,7 @@ module _ (schema : Schema) (p : Place) (piece ends₀ : List ℕ) where
       (w : Walking at n i ends) where
     -- the state keeps the rule
     here-kept : Kept (stateAt schema at)
-    here-kept = subst Kept (w .upto .state) (fed-keeps step-keeps (stateAt schema p) (take i piece) (bytes-take i piece bytes) (held, kept))
+    here-kept = subst Kept (w .upto .state) (fed-keeps (stateAt schema p) (take i piece) (bytes-take i piece bytes) (held, kept))
 
     here-stands : Stands (stateAt schema at)
     unfolding keeps

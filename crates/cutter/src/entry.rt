@@ -2,6 +2,7 @@
 ghost use mathlib.Core.Path.{_≡_};
 ghost use Rattle.format.specs.Cutter.{refused as refusedOf};
 ghost use Rattle.format.specs.Promises.{Started, PieceCut, Finished};
+ghost use Rattle.list_reader.specs.Listing.{OfEach};
 ghost use Rattle.cutter.specs.Places.{stateAt};
 use crate::Cutting;
 use crate::Place;
@@ -17,7 +18,7 @@ use format::RowFault;
 use format::Schema;
 use format::Spot;
 use format::no_column;
-use list_reader::read_list;
+use list_reader::Listed;
 
 // A refused state holds its refusal and nothing else.
 fn refused(refusal: Refusal) -> Cutter
@@ -56,11 +57,10 @@ fn state_at(schema: Schema, place: Place) -> Cutter
     }
 }
 
-// Before the first byte; on a list fault the state is refused.
-pub fn start(list: &[u8]) -> Cutting
-    ensures { λ r. ⌜ Started (now (list .entry)) (r .answer) (r .state) ⌝ }
+// Before the first byte, under a list that was read; on a list fault the state is refused.
+pub fn start_listed(listed: Listed) -> Cutting
+    ensures { λ r. ⌜ OfEach listed (λ list. Started list (r .answer) (r .state)) ⌝ }
 {
-    let listed = read_list(list);
     let check = listed.check;
     let schema = listed.schema;
     if let Check::Refuse(r) = check {

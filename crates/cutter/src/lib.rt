@@ -15,7 +15,7 @@ mod walk;
 
 pub use entry::cut;
 pub use entry::finish;
-pub use entry::start;
+pub use entry::start_listed;
 
 // What a start or a call answers, and the state that it leaves.
 pub struct Cutting {
