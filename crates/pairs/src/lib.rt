@@ -95,6 +95,24 @@ pub fn compare_pairs_listed(
     Answer::Done(pairs as u64, 0)
 }
 
+// The same with all row numbers in a list.
+pub fn compare_numbers_listed(
+    listed: Listed,
+    n0: u64,
+    sheet0: &[u8],
+    n1: u64,
+    sheet1: &[u8],
+    pairs: &[u64],
+    answers: &mut [u8],
+) -> Answer
+    requires { ⌜ OfList listed ⌝ }
+    ensures { λ r. ⌜ OfEach listed (λ list. PairsCompared list n0 (now (sheet0 .entry)) n1 (now (sheet1 .entry)) (now (pairs .entry))
+        (now (answers .entry)) r (now (answers .exit))) ⌝ }
+{
+    let bytes = [0u8; 0];
+    compare_pairs_listed(listed, n0, sheet0, n1, sheet1, pairs, &bytes, answers)
+}
+
 fn wide(x: u8) -> u64
     ensures { λ r. ⌜ r ≡ x ⌝ }
 {

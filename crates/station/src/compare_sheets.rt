@@ -3,7 +3,7 @@ ghost use Rattle.format.specs.Described.{spelled};
 ghost use Rattle.format.specs.Promises.{SheetsCompared, PairsCompared};
 use format::Answer;
 use list_reader::read_list;
-use pairs::compare_pairs_listed;
+use pairs::compare_numbers_listed;
 use pairs::compare_sheets_listed;
 
 // List; 6 and the sheet, first sheet first; 32: then 0, 1 or 2 for below, equal or above, and 0; or the refusal.
@@ -34,15 +34,5 @@ pub fn compare_pairs(
     ensures { λ r. ⌜ PairsCompared (spelled (now (list .entry))) n0 (now (sheet0 .entry)) n1 (now (sheet1 .entry)) (now (pairs .entry)) (now (answers .entry))
         r (now (answers .exit)) ⌝ }
 {
-    let bytes = [0u8; 0];
-    compare_pairs_listed(
-        read_list(list),
-        n0,
-        sheet0,
-        n1,
-        sheet1,
-        pairs,
-        &bytes,
-        answers,
-    )
+    compare_numbers_listed(read_list(list), n0, sheet0, n1, sheet1, pairs, answers)
 }

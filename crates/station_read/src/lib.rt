@@ -1,12 +1,14 @@
 // The public entries on lent columns: those of crate station, with exactly the columns handed on in place of list bytes.
 ghost use Rattle.format.specs.Described.{described as described·};
-ghost use Rattle.format.specs.Promises.{Measured, Encoded, Decoded, LookedUp};
+ghost use Rattle.format.specs.Promises.{Measured, Encoded, Decoded, LookedUp, SheetsCompared, PairsCompared};
 use decoder::decode_listed;
 use encoder::encode::encode_listed;
 use encoder::measure::measure_listed;
 use format::Answer;
 use format::Column;
 use lent_columns::described;
+use pairs::compare_numbers_listed;
+use pairs::compare_sheets_listed;
 use searcher::look_up_listed;
 
 // Total row bytes and the null total, or the refusal.
@@ -55,4 +57,35 @@ pub fn look_up_read(
     ensures { λ r. ⌜ LookedUp (described· (now (columns .entry))) k (now (key .entry)) n (now (rows .entry)) (now (offsets .entry)) r ⌝ }
 {
     look_up_listed(described(columns), k, key, n, rows, offsets)
+}
+
+// 0, 1 or 2 for below, equal or above, and 0; or the refusal.
+pub fn compare_sheets_read(
+    columns: &[Column],
+    n0: u64,
+    sheet0: &[u8],
+    row0: u64,
+    n1: u64,
+    sheet1: &[u8],
+    row1: u64,
+) -> Answer
+    ensures { λ r. ⌜ SheetsCompared (described· (now (columns .entry))) n0 (now (sheet0 .entry)) row0 n1 (now (sheet1 .entry)) row1 r ⌝ }
+{
+    compare_sheets_listed(described(columns), n0, sheet0, row0, n1, sheet1, row1)
+}
+
+// The same for many pairs, two row numbers each: the pairs and 0, or the refusal, which writes nothing.
+pub fn compare_pairs_read(
+    columns: &[Column],
+    n0: u64,
+    sheet0: &[u8],
+    n1: u64,
+    sheet1: &[u8],
+    pairs: &[u64],
+    answers: &mut [u8],
+) -> Answer
+    ensures { λ r. ⌜ PairsCompared (described· (now (columns .entry))) n0 (now (sheet0 .entry)) n1 (now (sheet1 .entry)) (now (pairs .entry)) (now (answers .entry))
+        r (now (answers .exit)) ⌝ }
+{
+    compare_numbers_listed(described(columns), n0, sheet0, n1, sheet1, pairs, answers)
 }
