@@ -29,7 +29,8 @@ use Rattle.list_reader.specs.declared.Listed.{Listed}
 use Rattle.list_reader.specs.Listing.{ListedAs}
 use Rattle.cutter.specs.declared.Place.{Place}
 use Rattle.cutter.specs.declared.Walked.{Walked}
-use Rattle.cutter.specs.Places.{stateAt, placeOf, walkedTo, Walks}
+use Rattle.cutter.specs.Places.{stateAt, placeOf}
+use Rattle.cutter.specs.Walks.{walkedTo, Walks}
 
 -- ---- start
 

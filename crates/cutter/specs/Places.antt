@@ -7,13 +7,11 @@ use lib.Dec.{ltb}
 use lib.ListN.{length, take, drop}
 use Rattle.format.specs.declared.Column.{Column}
 use Rattle.format.specs.declared.Schema.{Schema}
-use Rattle.format.specs.declared.Check.{Check}
-use Rattle.format.specs.declared.Check.the-variants.{Pass, Refuse}
+use Rattle.format.specs.declared.Check.the-variants.{Pass}
 use Rattle.format.specs.declared.Spot.{Spot}
 use Rattle.format.specs.declared.Spot.the-variants.{Start, Nulls, Value, Block}
 use Rattle.format.specs.declared.Cutter.{Cutter}
 use Rattle.format.specs.Limits.{maxColumns, maxWidth, maxSlot, maxTotal}
-use Rattle.format.specs.Lists.{over}
 use Rattle.format.specs.Kinds.{Shape, fixed, variable}
 use Rattle.format.specs.CutterRule.{before, columnIn}
 use Rattle.format.specs.Cutter.{refused, taken, newEnd, fed, endsIn}
@@ -21,8 +19,6 @@ use Rattle.cutter_moves.specs.Moves.{Stood}
 use Rattle.cutter.specs.declared.Place.{Place}
 use Rattle.cutter.specs.declared.Stepped.{Stepped}
 use Rattle.cutter.specs.declared.Stepped.the-variants.{Going, Ended, Stopped}
-use Rattle.cutter.specs.declared.Advance.{Advance}
-use Rattle.cutter.specs.declared.Walked.{Walked}
 
 -- the state with these columns, which no refusal stands in
 abbrev pub stateAt : Schema → Place → Cutter
@@ -94,6 +90,11 @@ pub record Steps (column : Column) (count : ℕ) (p : Place) (b : ℕ) (r : Step
 
 -- ---- some bytes of a piece, from byte i on: a byte, or a field
 
+-- what they do, and how many they are
+pub record Advance : Type 0 where
+  pub turn : Stepped
+  pub by : ℕ
+
 pub record Advances (column : Column) (count : ℕ) (p : Place) (piece : List ℕ) (i : ℕ) (r : Advance) : Type 0 where
   pub state : (schema : Schema) → schema .count ≡ count → columnIn (stateAt schema p) ≡ column
       → fed (stateAt schema p) (take (r .by) (drop i piece)) ≡ after schema (r .turn)
@@ -101,16 +102,3 @@ pub record Advances (column : Column) (count : ℕ) (p : Place) (piece : List �
       → endsIn (stateAt schema p) (take (r .by) (drop i piece)) ≡ shown (r .turn)
   pub some : 1 ≤ r .by
   pub inside : i + r .by ≤ length piece
-
--- ---- a piece
-
--- the state after a walk over it
-abbrev pub walkedTo : Check → Schema → Place → Cutter
-walkedTo Pass schema p = stateAt schema p
-walkedTo (Refuse r) schema p = refused r
-
--- the state after it, how many rows end in it, and the lent list at exit
-pub record Walks (schema : Schema) (p : Place) (piece ends : List ℕ) (r : Walked) (ends′ : List ℕ) : Type 0 where
-  pub state : fed (stateAt schema p) piece ≡ walkedTo (r .check) schema (r .place)
-  pub many : r .ends ≡ length (endsIn (stateAt schema p) piece)
-  pub list : ends′ ≡ over (endsIn (stateAt schema p) piece) ends

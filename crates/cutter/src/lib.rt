@@ -39,17 +39,13 @@ pub enum Stepped {
     Stopped(Refusal),
 }
 
-// The same of so many bytes of a piece.
-pub struct Advance {
-    pub turn: Stepped,
-    pub by: usize,
-}
-
-// What the walk over a piece answers: the refusal that stopped it, where it stands if none did, and how many rows ended.
+// What the walk over a piece answers: the refusal that stopped it, where it stands if none did, how many ends are in the list, and how many
+// bytes it read.
 pub struct Walked {
     pub check: Check,
     pub place: Place,
     pub ends: usize,
+    pub read: usize,
 }
 
 // Of the columns, if they are such as a list may have: the fewest and the most bytes of their fields together, of those before the one
