@@ -25,7 +25,7 @@ pub fn total_fault(total: u64) -> Check
     ensures { λ r. ⌜ r ≡ totalFault total ⌝ }
 {
     if format::MAX_TOTAL < total {
-        return Check::Refuse(Refusal::ManyBytes(total));
+        return Check::Refuse(Refusal::ManyBytes(total, 0));
     }
     Check::Pass
 }

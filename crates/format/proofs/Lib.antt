@@ -7,3 +7,4 @@ pub mod EntryExamples
 pub mod JoinExamples
 pub mod LookupExamples
 pub mod CompareExamples
+pub mod CutterExamples

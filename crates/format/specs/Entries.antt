@@ -40,7 +40,7 @@ rowCountFault n = failIf (ltb maxRows n) (ManyRows n) Pass
 
 -- 12
 abbrev pub totalFault : ℕ → Check
-totalFault total = failIf (ltb maxTotal total) (ManyBytes total) Pass
+totalFault total = failIf (ltb maxTotal total) (ManyBytes total 0) Pass
 
 -- 14
 abbrev pub offsetRoomFault : ℕ → ℕ → Check

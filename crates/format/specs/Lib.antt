@@ -24,6 +24,9 @@ pub mod Batch
 pub mod Join
 pub mod Lookup
 pub mod CompareSheets
+pub mod CutterRule
+pub mod Cutter
+pub mod Lent
+pub mod CutterBytes
 pub mod Promises
 pub mod Program
-pub mod Lent

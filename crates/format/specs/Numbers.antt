@@ -5,7 +5,7 @@ use lib.Dec.{leb, eqb}
 use Rattle.format.specs.declared.RowFault.{RowFault}
 use Rattle.format.specs.declared.RowFault.the-variants.{Cut, Lead, NullRest, BoolByte, EndByte, Padding, Extra, TooLong, Unfolded}
 use Rattle.format.specs.declared.Refusal.{Refusal}
-use Rattle.format.specs.declared.Refusal.the-variants.{ListCut, UnknownKind, OptionBits, Width, ManyColumns, ManyRows, ColumnCut, SpareBit, Ends, LongSlot, BytesAfter, ManyBytes, RowRoom, OffsetRoom, Offsets, Row, SheetRoom, Input, OutOfOrder, Missing, ColumnRoom, KeyColumns, SheetRow}
+use Rattle.format.specs.declared.Refusal.the-variants.{ListCut, UnknownKind, OptionBits, Width, ManyColumns, ManyRows, ColumnCut, SpareBit, Ends, LongSlot, BytesAfter, ManyBytes, RowRoom, OffsetRoom, Offsets, Row, SheetRoom, Input, OutOfOrder, Missing, ColumnRoom, KeyColumns, SheetRow, BrokenState}
 use Rattle.format.specs.declared.Answer.{Answer}
 use Rattle.format.specs.declared.Answer.the-variants.{Done, Refused}
 use Rattle.format.specs.declared.Returned.{Returned}
@@ -41,7 +41,7 @@ refusalNumbers (SpareBit c) = three 8 c 0
 refusalNumbers (Ends c r) = three 9 c r
 refusalNumbers (LongSlot c r) = three 10 c r
 refusalNumbers (BytesAfter place) = three 11 place 0
-refusalNumbers (ManyBytes total) = three 12 total 0
+refusalNumbers (ManyBytes total rows) = three 12 total rows
 refusalNumbers (RowRoom total) = three 13 total 0
 refusalNumbers (OffsetRoom count) = three 14 count 0
 refusalNumbers (Offsets i) = three 15 i 0
@@ -53,6 +53,7 @@ refusalNumbers (Missing c r) = three 27 c r
 refusalNumbers (ColumnRoom count) = three 29 count 0
 refusalNumbers (KeyColumns k) = three 31 k 0
 refusalNumbers (SheetRow sheet r) = three 32 sheet r
+refusalNumbers BrokenState = three 33 0 0
 
 -- refusals by what a row holds: 16 to 23, and 28
 abbrev pub byContent : Refusal → Bool

@@ -7,6 +7,7 @@ use lib.IntN.{ℤ}
 use lib.ListN.{length}
 use Rattle.format.specs.declared.Column.{Column}
 use Rattle.format.specs.declared.Answer.{Answer}
+use Rattle.format.specs.declared.Cutter.{Cutter}
 use Rattle.format.specs.Described.{ColumnList}
 use Rattle.format.specs.Numbers.{numbersOf}
 use Rattle.format.specs.Entries.{checkListAnswer, readListAnswer, readListColumns, measureAnswer, encodeAnswer, encodeRows, encodeOffsets, decodeAnswer, decodeSheet, compareAnswer}
@@ -14,6 +15,8 @@ use Rattle.format.specs.Join.{joinAnswer, joinList}
 use Rattle.format.specs.Lookup.{lookupAnswer}
 use Rattle.format.specs.Lent.{lentJoin, lentJoinList, lentLookup, lentCompareSheets, lentComparePairs, lentComparePairsRanks}
 use Rattle.format.specs.CompareSheets.{compareSheetsAnswer, comparePairsAnswer, comparePairsRanks}
+use Rattle.format.specs.Cutter.{startAnswer, startState, cutAnswer, cutState, cutEnds, finishAnswer}
+use Rattle.format.specs.CutterBytes.{lentStart, lentStartState, lentCut, lentCutState, lentCutEnds, lentFinish}
 use Rattle.format.specs.Lent.{lentCheckList, lentReadList, lentReadListCodes, lentMeasure, lentEncode, lentEncodeRows, lentEncodeOffsets, lentDecode, lentDecodeSheet}
 
 -- check_list
@@ -48,6 +51,21 @@ pub record Joined (n₀ : ℕ) (rows₀ offsets₀ : List ℕ) (n₁ : ℕ) (row
 -- look_up, under a list of any case
 pub record LookedUp (list : ColumnList) (k : ℕ) (key : List ℕ) (n : ℕ) (rows offsets : List ℕ) (r : Answer) : Type 0 where
   pub answers : numbersOf r ≡ numbersOf (lookupAnswer list k key n rows offsets)
+
+-- cutter start: the state that is handed out
+pub record Started (list : ColumnList) (r : Answer) (s : Cutter) : Type 0 where
+  pub answers : numbersOf r ≡ numbersOf (startAnswer list)
+  pub state : s ≡ startState list
+
+-- cutter call: the state at entry and at exit, the lent list of ends at entry and at exit
+pub record PieceCut (s : Cutter) (piece ends : List ℕ) (r : Answer) (s′ : Cutter) (ends′ : List ℕ) : Type 0 where
+  pub answers : numbersOf r ≡ numbersOf (cutAnswer s piece (length ends))
+  pub state : s′ ≡ cutState s piece (length ends)
+  pub row-ends : ends′ ≡ cutEnds s piece ends
+
+-- cutter finish
+pub record Finished (s : Cutter) (r : Answer) : Type 0 where
+  pub answers : numbersOf r ≡ numbersOf (finishAnswer s)
 
 -- compare
 pub record Compared (a b : List ℕ) (r : ℤ) : Type 0 where
@@ -105,3 +123,18 @@ pub record LentSheetsCompared (list : ColumnList) (n₀ : ℕ) (sheet₀ : List 
 pub record LentPairsCompared (list : ColumnList) (n₀ : ℕ) (sheet₀ : List ℕ) (n₁ : ℕ) (sheet₁ pairs found lent found′ lent′ : List ℕ) : Type 0 where
   pub answers : lent′ ≡ lentComparePairs list n₀ sheet₀ n₁ sheet₁ pairs (length found) lent
   pub ranks : found′ ≡ lentComparePairsRanks list n₀ sheet₀ n₁ sheet₁ pairs found lent
+
+-- station_cutter_start
+pub record LentStarted (list : ColumnList) (state lent state′ lent′ : List ℕ) : Type 0 where
+  pub answers : lent′ ≡ lentStart list state lent
+  pub states : state′ ≡ lentStartState list state lent
+
+-- station_cut
+pub record LentPieceCut (state piece ends lent state′ ends′ lent′ : List ℕ) : Type 0 where
+  pub answers : lent′ ≡ lentCut state piece ends lent
+  pub states : state′ ≡ lentCutState state piece ends lent
+  pub row-ends : ends′ ≡ lentCutEnds state piece ends lent
+
+-- station_cutter_finish
+pub record LentFinished (state lent lent′ : List ℕ) : Type 0 where
+  pub answers : lent′ ≡ lentFinish state lent

@@ -78,8 +78,8 @@ pub enum RowFault {
     Unfolded,
 }
 
-// The reasons in the order of their numbers, each with what is reported of it; 16 to 23 and 28 are one case, with row, column and
-// place in the row.
+// The reasons in the order of their numbers, each with what is reported of it; 12 has the rows ended where a stream is cut, and else
+// 0; 16 to 23 and 28 are one case, with row, column and place in the row.
 pub enum Refusal {
     ListCut(usize),
     UnknownKind(usize),
@@ -92,7 +92,7 @@ pub enum Refusal {
     Ends(usize, usize),
     LongSlot(usize, usize),
     BytesAfter(usize),
-    ManyBytes(u64),
+    ManyBytes(u64, u64),
     RowRoom(u64),
     OffsetRoom(u64),
     Offsets(usize),
@@ -104,6 +104,7 @@ pub enum Refusal {
     ColumnRoom(usize),
     KeyColumns(usize),
     SheetRow(usize, u64),
+    BrokenState,
 }
 
 // What a check answers that gives nothing else.
@@ -116,6 +117,28 @@ pub enum Check {
 pub enum Answer {
     Done(u64, u64),
     Refused(Refusal),
+}
+
+// Where in its field a row cutter stands: before the lead byte; after a fixed null's lead, with the bytes seen and the place in the row
+// of the first that is not zero (0: none yet); after a fixed value's 01, with the bytes seen and, where the column folds, the number
+// that they spell high byte first; in a block, with its number, the bytes of it seen, and a bit for each of those that is not zero.
+pub enum Spot {
+    Start,
+    Nulls(usize, u64),
+    Value(usize, u64),
+    Block(usize, usize, u64),
+}
+
+// A row cutter's state: the columns; the refusal that stands; rows ended, bytes of the stream, bytes of the row that is being read, its
+// column, and where in that field.
+pub struct Cutter {
+    pub schema: Schema,
+    pub refusal: Check,
+    pub rows: u64,
+    pub bytes: u64,
+    pub row: u64,
+    pub column: usize,
+    pub spot: Spot,
 }
 
 // What a field reader answers of the part of the row that is left: a null or a value with the field's length, and how many
@@ -224,7 +247,7 @@ pub fn refusal_numbers(r: Refusal) -> Returned
         Refusal::Ends(c, row) => Returned(9, c as u64, row as u64, 0),
         Refusal::LongSlot(c, row) => Returned(10, c as u64, row as u64, 0),
         Refusal::BytesAfter(place) => Returned(11, place as u64, 0, 0),
-        Refusal::ManyBytes(total) => Returned(12, total, 0, 0),
+        Refusal::ManyBytes(total, rows) => Returned(12, total, rows, 0),
         Refusal::RowRoom(total) => Returned(13, total, 0, 0),
         Refusal::OffsetRoom(count) => Returned(14, count, 0, 0),
         Refusal::Offsets(i) => Returned(15, i as u64, 0, 0),
@@ -238,6 +261,7 @@ pub fn refusal_numbers(r: Refusal) -> Returned
         Refusal::ColumnRoom(count) => Returned(29, count as u64, 0, 0),
         Refusal::KeyColumns(k) => Returned(31, k as u64, 0, 0),
         Refusal::SheetRow(sheet, row) => Returned(32, sheet as u64, row, 0),
+        Refusal::BrokenState => Returned(33, 0, 0, 0),
     }
 }
 

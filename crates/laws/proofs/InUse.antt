@@ -20,7 +20,7 @@ abbrev pub Held : Schema → Type 0
 Held schema = Is (row the-type) schema (vals the-type the-laws schema)
 
 -- its array has room for every column
-columns-room : (schema : Schema) → Held schema → length (schema .columns) ≡ maxColumns
+pub columns-room : (schema : Schema) → Held schema → length (schema .columns) ≡ maxColumns
 columns-room schema held =
     let fields = held .1 .1 in
     let elements = fields .0 .1 in

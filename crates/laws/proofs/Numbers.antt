@@ -7,7 +7,7 @@ use lib.Dec.{eqb}
 use lib.ListN.{getD}
 use Rattle.format.specs.declared.RowFault.the-variants.{Cut, Lead, NullRest, BoolByte, EndByte, Padding, Extra, TooLong, Unfolded}
 use Rattle.format.specs.declared.Refusal.{Refusal}
-use Rattle.format.specs.declared.Refusal.the-variants.{ListCut, UnknownKind, OptionBits, Width, ManyColumns, ManyRows, ColumnCut, SpareBit, Ends, LongSlot, BytesAfter, ManyBytes, RowRoom, OffsetRoom, Offsets, Row, SheetRoom, Input, OutOfOrder, Missing, ColumnRoom, KeyColumns, SheetRow}
+use Rattle.format.specs.declared.Refusal.the-variants.{ListCut, UnknownKind, OptionBits, Width, ManyColumns, ManyRows, ColumnCut, SpareBit, Ends, LongSlot, BytesAfter, ManyBytes, RowRoom, OffsetRoom, Offsets, Row, SheetRoom, Input, OutOfOrder, Missing, ColumnRoom, KeyColumns, SheetRow, BrokenState}
 use Rattle.format.specs.declared.Answer.{Answer}
 use Rattle.format.specs.declared.Answer.the-variants.{Done, Refused}
 use Rattle.format.specs.declared.Returned.{Returned}
@@ -18,11 +18,11 @@ abbrev refusals : List (ℕ → ℕ → ℕ → Refusal)
 refusals =
     (λ a b p. ListCut a) ∷ (λ a b p. UnknownKind a) ∷ (λ a b p. OptionBits a) ∷ (λ a b p. Width a) ∷ (λ a b p. ManyColumns a)
     ∷ (λ a b p. ManyRows a) ∷ (λ a b p. ColumnCut a) ∷ (λ a b p. SpareBit a) ∷ (λ a b p. Ends a b) ∷ (λ a b p. LongSlot a b)
-    ∷ (λ a b p. BytesAfter a) ∷ (λ a b p. ManyBytes a) ∷ (λ a b p. RowRoom a) ∷ (λ a b p. OffsetRoom a) ∷ (λ a b p. Offsets a)
+    ∷ (λ a b p. BytesAfter a) ∷ (λ a b p. ManyBytes a b) ∷ (λ a b p. RowRoom a) ∷ (λ a b p. OffsetRoom a) ∷ (λ a b p. Offsets a)
     ∷ (λ a b p. Row Cut a b p) ∷ (λ a b p. Row Lead a b p) ∷ (λ a b p. Row NullRest a b p) ∷ (λ a b p. Row BoolByte a b p)
     ∷ (λ a b p. Row EndByte a b p) ∷ (λ a b p. Row Padding a b p) ∷ (λ a b p. Row Extra a b p) ∷ (λ a b p. Row TooLong a b p)
     ∷ (λ a b p. SheetRoom a) ∷ (λ a b p. Input) ∷ (λ a b p. OutOfOrder a b) ∷ (λ a b p. Missing a b) ∷ (λ a b p. Row Unfolded a b p)
-    ∷ (λ a b p. ColumnRoom a) ∷ (λ a b p. Input) ∷ (λ a b p. KeyColumns a) ∷ (λ a b p. SheetRow a b) ∷ []
+    ∷ (λ a b p. ColumnRoom a) ∷ (λ a b p. Input) ∷ (λ a b p. KeyColumns a) ∷ (λ a b p. SheetRow a b) ∷ (λ a b p. BrokenState) ∷ []
 
 -- the answer of four numbers
 abbrev answerOf : Returned → Answer
@@ -41,7 +41,7 @@ numbers-back (Refused (SpareBit c)) = refl
 numbers-back (Refused (Ends c r)) = refl
 numbers-back (Refused (LongSlot c r)) = refl
 numbers-back (Refused (BytesAfter place)) = refl
-numbers-back (Refused (ManyBytes total)) = refl
+numbers-back (Refused (ManyBytes total rows)) = refl
 numbers-back (Refused (RowRoom total)) = refl
 numbers-back (Refused (OffsetRoom count)) = refl
 numbers-back (Refused (Offsets i)) = refl
@@ -61,6 +61,7 @@ numbers-back (Refused (Missing c r)) = refl
 numbers-back (Refused (ColumnRoom count)) = refl
 numbers-back (Refused (KeyColumns k)) = refl
 numbers-back (Refused (SheetRow sheet r)) = refl
+numbers-back (Refused BrokenState) = refl
 
 pub numbers-injective : (a b : Answer) → numbersOf a ≡ numbersOf b → a ≡ b
 numbers-injective a b e = sym (numbers-back a) ∙ ap answerOf e ∙ numbers-back b

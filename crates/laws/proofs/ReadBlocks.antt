@@ -27,7 +27,7 @@ drop-past p e t n h = subst (λ (m : ℕ). drop (suc m) (p ++ e ∷ t) ≡ t) h 
     go (x ∷ p) = go p
 
 -- what is read of a string that is cut after p and one byte
-cut : (size : ℕ → ℕ) (limit n k c : ℕ) (p : List ℕ) (e : ℕ) (t : List ℕ) → length p ≡ size k
+pub cut : (size : ℕ → ℕ) (limit n k c : ℕ) (p : List ℕ) (e : ℕ) (t : List ℕ) → length p ≡ size k
     → readBlocks size limit (suc n) k c (p ++ e ∷ t) ≡ readBlock (size k) limit c p e t (readBlocks size limit n (suc k) (c + size k) t)
 cut size limit n k c p e t h =
     rw (lt-leb (length (p ++ e ∷ t)) (size k) (omega (arith, length-append p (e ∷ t))))

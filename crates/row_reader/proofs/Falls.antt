@@ -71,7 +71,7 @@ module _ (n : ℕ) (bytes offsets : List ℕ) where
 
         module _ (inside : getD offsets n 0 ≤ length bytes) where
           -- 12
-          pub heavy : maxTotal < getD offsets n 0 → Refuse (ManyBytes (getD offsets n 0)) ≡ offsetsFault n bytes offsets
+          pub heavy : maxTotal < getD offsets n 0 → Refuse (ManyBytes (getD offsets n 0) 0) ≡ offsetsFault n bytes offsets
           heavy h =
               rw (le-ltb (length offsets) (suc n) (omega arith), eq-eqb (getD offsets 0 0) 0 first, rose)
               (rw (le-ltb (length bytes) (getD offsets n 0) inside, lt-ltb maxTotal (getD offsets n 0) h))

@@ -9,6 +9,7 @@ mod room;
 mod walk;
 
 pub use batch::check_rows;
+pub use field::read_field;
 pub use offsets::check_offsets;
 pub use walk::check_fields;
 

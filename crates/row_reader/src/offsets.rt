@@ -30,7 +30,7 @@ pub fn check_offsets(n: usize, rows: &[u8], offsets: &[u64]) -> Check
         return Check::Refuse(Refusal::Offsets(n));
     }
     if MAX_TOTAL < last {
-        return Check::Refuse(Refusal::ManyBytes(last));
+        return Check::Refuse(Refusal::ManyBytes(last, 0));
     }
     Check::Pass
 }

@@ -1,0 +1,4 @@
+-- What the row cutter's functions promise of each other.
+pub mod Places
+pub mod Walks
+pub mod Sums

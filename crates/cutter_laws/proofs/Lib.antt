@@ -1,0 +1,19 @@
+-- Laws of the row cutter.
+pub mod Cutting
+pub mod RuleMoves
+pub mod RuleKept
+pub mod StartKept
+pub mod Walk
+pub mod FixedWalk
+pub mod Marks
+pub mod VariableWalk
+pub mod FieldFed
+pub mod Piece
+pub mod RowFed
+pub mod StreamCut
+pub mod Calls
+pub mod Streams
+pub mod Coding
+pub mod StateBack
+pub mod LentStates
+pub mod Unique

@@ -1,0 +1,3 @@
+-- What the moves rest on.
+pub mod Arms
+pub mod Marks
