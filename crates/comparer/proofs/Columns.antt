@@ -19,8 +19,8 @@ use Rattle.sheet_reader.specs.declared.sheet.Facts.{Facts}
 use Rattle.sheet_reader.specs.Sheets.{noFacts, Known}
 use Rattle.sheet_reader.proofs.Values.{foldedIn, slotOf, slots-known}
 use Rattle.format.specs.CompareSheets.{rank, firstRow, secondRow, pairRanks}
-use Rattle.comparer.specs.Orders.{InSheets}
-use Rattle.comparer.proofs.Found.{Found, found-none, found-more, found-closed, found-last}
+use Rattle.row_pairs.specs.Pairs.{InSheets}
+use Rattle.number_order.proofs.Found.{Found, found-none, found-more, found-closed, found-last}
 
 -- the first that is no tie
 abbrev pub firstOf : List Ordering → Ordering

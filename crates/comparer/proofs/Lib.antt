@@ -1,11 +1,2 @@
--- The order of keys, which the theorems on the order of rows cite too; and what the proofs of this crate share.
-pub mod KeyLaws
-pub mod KeyOrder
-pub mod Found
-pub mod Spelled
-pub mod Intervals
-pub mod WordSteps
-pub mod Arms
-pub mod Values
+-- The loop over columns, and the loop over pairs.
 pub mod Columns
-pub mod Pairs

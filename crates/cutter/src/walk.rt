@@ -14,6 +14,7 @@ use crate::Place;
 use crate::Stepped;
 use crate::Walked;
 use crate::step::step;
+use field_reader::read_field;
 use format::Check;
 use format::FieldRead;
 use format::MAX_TOTAL;
@@ -21,7 +22,6 @@ use format::Refusal;
 use format::RowFault;
 use format::Schema;
 use format::Spot;
-use row_reader::read_field;
 
 // Whether a walk that goes to the end of a field stands there.
 fn stops_at(field: bool, spot: Spot) -> bool

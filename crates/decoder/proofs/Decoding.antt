@@ -23,7 +23,7 @@ use Rattle.basics.proofs.Append.{over-sets}
 use Rattle.basics.proofs.Checks.{refuse-pass, enough, both-pass}
 use Rattle.list_reader.specs.declared.Listed.{Listed}
 use Rattle.row_reader.specs.declared.Checked.{Checked}
-use Rattle.row_reader.specs.Walk.{Checks}
+use Rattle.batch_reader.specs.Batch.{Checks}
 use Rattle.sheet_writer.specs.declared.Written.{Written}
 use Rattle.sheet_writer.specs.Cursors.{Clears}
 use Rattle.checks.specs.Begun.{Begun}

@@ -3,6 +3,7 @@ ghost use mathlib.Core.Path.{_≡_};
 ghost use Rattle.format.specs.Promises.{Decoded};
 ghost use Rattle.list_reader.specs.Listing.{OfList, OfEach};
 ghost use Rattle.decoder.specs.Decoding.{sheetRoomFault, SheetReady, SheetLeft};
+use batch_reader::check_rows;
 use checks::answer;
 use checks::begin;
 use format::Answer;
@@ -10,7 +11,6 @@ use format::Check;
 use format::Refusal;
 use format::Schema;
 use list_reader::Listed;
-use row_reader::check_rows;
 use sheet_writer::write_sheet;
 
 // 24.

@@ -23,7 +23,7 @@ use Rattle.basics.proofs.Sorts.{Signs, ShapeSigns, signs}
 use Rattle.laws.proofs.Fields.{bytes-variable, Led, led-variable}
 use Rattle.demands.proofs.Invert.{ranks-directed}
 use Rattle.laws.proofs.Unkey.{length-key}
-use Rattle.comparer.proofs.KeyOrder.{key-order}
+use Rattle.number_order.proofs.KeyOrder.{key-order}
 use Rattle.demands.proofs.Sep.{Ranks, ranks-self, ranks-append, ranks-even, ranks-cmp, ranks-front, ranks-begins, ranks-begun}
 use Rattle.demands.proofs.VariableOrder.{variable-ranks}
 use Rattle.demands.proofs.Orders.{lt≢eq, gt≢eq}

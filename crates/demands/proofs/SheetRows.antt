@@ -22,7 +22,7 @@ use Rattle.format.specs.CompareSheets.{rank, rowsRank, countedFault, sheetsFaul
 use Rattle.basics.proofs.Checks.{failIf-pass, both-pass, answer-done}
 use Rattle.basics.proofs.Lists.{each-same}
 use Rattle.laws.proofs.Sheets.{sheet-fits}
-use Rattle.comparer.proofs.Pairs.{pairs-passed}
+use Rattle.row_pairs.proofs.Pairs.{pairs-passed}
 use Rattle.demands.proofs.RowOrder.{row-order}
 use Rattle.demands.proofs.Turning.{row-fits}
 

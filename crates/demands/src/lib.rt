@@ -1,5 +1,4 @@
-// The user's demands on the real entries: each function calls them on lent buffers, and what it ensures is the demand itself. None
-// asks anything of its caller. The theorems behind them, and those that speak of the definitions alone, stand in proofs/.
+// The user's demands, as definitions in specs/ and theorems in proofs/. The functions that call the real entries and ensure them are the
+// crates `round_trip` and `two_sheets`; here are the types of what they answer.
 pub mod order;
-pub mod round_trip;
 pub mod slices;

@@ -8,7 +8,7 @@ ghost use Rattle.format.specs.Batch.{orderFault, passFault};
 use crate::rows::row_below;
 use format::Check;
 use format::Refusal;
-use row_reader::check_offsets;
+use offsets::check_offsets;
 
 // 26: the first row of n that is below the one before it.
 pub fn check_order(pass: usize, n: usize, rows: &[u8], offsets: &[u64]) -> Check

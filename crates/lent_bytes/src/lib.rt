@@ -10,6 +10,10 @@ use format::Answer;
 use number::low64;
 use number::put64;
 
+mod entries;
+
+pub use entries::used_entries;
+
 // The four numbers of an answer, in front of the lent bytes.
 pub fn put_answer(lent: &mut [u8], answer: Answer)
     requires { ⌜ answerRoom ≤ length (now lent) ⌝ }

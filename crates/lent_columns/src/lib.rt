@@ -6,11 +6,11 @@ ghost use lib.ListN.{length, take, drop};
 ghost use Rattle.format.specs.Limits.{maxColumns};
 ghost use Rattle.format.specs.Described.{described as described·};
 ghost use Rattle.list_reader.specs.Listing.{ListedAs};
+use column_reader::blank;
+use column_reader::judge;
+use column_reader::used_columns;
 use format::Column;
 use list_reader::Listed;
-use list_reader::columns::blank;
-use list_reader::columns::judge;
-use list_reader::columns::used_columns;
 
 // The first k columns, and after them what stands in the array.
 fn copied(

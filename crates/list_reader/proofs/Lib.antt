@@ -1,8 +1,5 @@
--- What the proofs of this crate share: what a list that was read is like; what holds at the head of each loop over a list, and what each
--- way out of a turn gives.
+-- What the proofs of the list's readers share: what a list that was read is like; what holds at the head of the loop over descriptions
+-- in codes and columns; and that of the loop over list bytes.
 pub mod Schemas
-pub mod ListTurns
 pub mod Judged
-pub mod CodeTurns
-pub mod CodesPut
-pub mod ColumnTurns
+pub mod ListTurns

@@ -1,23 +1,20 @@
-// The column list in its three forms, list bytes, columns and codes: checked left to right, and read once into an array of columns.
+// The column list as bytes: checked left to right, and read once into an array of columns. The crates `column_reader` and `code_reader`
+// do the same with its other two forms.
 ghost use mathlib.Core.Path.{_≡_};
 ghost use Prim.Native.Nat.{_+_, _<_, _≤_};
 ghost use lib.ListN.{length, getD};
 ghost use Rattle.format.specs.Columns.{descriptionBytes, widthAt, columnAt, descriptionFault};
 ghost use Rattle.format.specs.Described.{spelled};
 ghost use Rattle.list_reader.specs.Listing.{ListedAs};
-use crate::numbers::check_numbers;
-use crate::numbers::kind_of;
-use crate::numbers::options_of;
+use descriptions::check_numbers;
+use descriptions::kind_of;
+use descriptions::options_of;
 use format::Check;
 use format::Column;
 use format::Refusal;
 use format::Schema;
 use format::no_column;
 use runs::wide;
-
-pub mod codes;
-pub mod columns;
-mod numbers;
 
 // What a list says: its first fault, and the columns of one that has none.
 pub struct Listed {
@@ -73,7 +70,7 @@ fn column_at(list: &[u8], at: usize) -> Column
 }
 
 // What was read, with the answer to it.
-pub(crate) fn answered(check: Check, columns: [Column; format::MAX_COLUMNS], count: usize) -> Listed
+pub fn answered(check: Check, columns: [Column; format::MAX_COLUMNS], count: usize) -> Listed
     ensures { λ r. ⌜ (r .check ≡ check) × (r .schema .columns ≡ columns) × (r .schema .count ≡ count) ⌝ }
 {
     let schema = Schema {

@@ -1,7 +1,3 @@
--- Laws of the program's text: pieces one after another, rows, numbers, the refused line, and the whole.
-pub mod Written
-pub mod Decimal
-pub mod Rows
-pub mod Refused
+-- Laws of the program's text: the output, case by case, and that what is promised decides it.
 pub mod Output
 pub mod Unique

@@ -3,38 +3,18 @@ ghost use Prim.Native.Nat.{_≤_};
 ghost use lib.ListN.{length};
 ghost use Rattle.format.specs.Program.{output};
 ghost use Rattle.basics.specs.Wrote.{Wrote};
-ghost use Rattle.format.specs.Described.{spelled};
-ghost use Rattle.printer.specs.Printed.{textRoom, sheetText, Printed};
-use crate::text::put_refused;
-use crate::text::put_rows;
-use format::Answer;
+ghost use Rattle.sheet_text.specs.SheetText.{textRoom};
+ghost use Rattle.printer.specs.Printed.{Printed};
 use format::Refusal;
 use number::low16;
-
-mod text;
+use sheet_text::print_sheet;
+use texts::put_refused;
 
 // The most that is read of standard input.
 pub const INPUT_ROOM: usize = 32768;
 
-// The row buffer.
-const ROW_ROOM: usize = 32768;
-
 // The most that is printed: 32,768 row bytes in hex and 4,096 newlines.
 pub const TEXT_ROOM: usize = 69632;
-
-// A sheet encoded: its rows, or the refusal.
-fn print_sheet(list: &[u8], n: u64, sheet: &[u8], out: &mut [u8]) -> usize
-    requires { ⌜ textRoom ≤ length (now out) ⌝ }
-    ensures { λ r. ⌜ Wrote (sheetText (spelled (now (list .entry))) n (now (sheet .entry))) 0 (now (out .entry)) (now (out .exit)) r ⌝ }
-{
-    let mut rows = [0u8; ROW_ROOM];
-    let mut offsets = [0u64; format::MAX_OFFSETS];
-    let answer = station::encode::encode(list, n, sheet, &mut rows, &mut offsets);
-    if let Answer::Refused(r) = answer {
-        return put_refused(r, out);
-    }
-    put_rows(&rows, &offsets, n as usize, out)
-}
 
 // The whole input: list length, list, row count, and the sheet to the end. 25, an input over 32,768 bytes or a cut header, comes
 // before all else.

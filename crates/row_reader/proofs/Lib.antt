@@ -1,8 +1,3 @@
--- The laws that the proofs of the walk cite.
-pub mod Falls
+-- The laws that the proof of the walk cites.
 pub mod Taken
 pub mod Turns
-pub mod Arms
-pub mod FrameSums
-pub mod Batches
-pub mod Stored

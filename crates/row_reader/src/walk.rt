@@ -1,37 +1,21 @@
 // The walk over rows and columns.
-ghost use mathlib.Core.Path.{_≡_};
 ghost use Prim.Native.Nat.{_≤_};
-ghost use Rattle.format.specs.Kinds.{Slot};
 ghost use Rattle.format.specs.Limits.{maxRows};
 ghost use Rattle.format.specs.Schemas.{Limited, colsOf};
-ghost use Rattle.format.specs.Sheet.{layout};
 ghost use Rattle.format.specs.Passed.{AllLie};
 ghost use Rattle.format.specs.Entries.{cutRows};
-ghost use Rattle.format.specs.Cleared.{slotLength, added};
 ghost use Rattle.row_reader.specs.Walk.{Finds};
 use crate::Checked;
-use crate::field::read_field;
-use crate::field::read_short;
-use crate::lengths::plain_lengths;
-use crate::lengths::plain_there;
+use field_reader::added_bytes;
+use field_reader::read_field;
+use field_reader::read_short;
 use format::Check;
-use format::Column;
 use format::FieldRead;
-use format::Kind;
 use format::Refusal;
 use format::RowFault;
 use format::Schema;
-
-// The bytes that a value of so many bytes adds to its column: its own in a variable column, none in a fixed one.
-fn added_bytes(column: Column, value: usize) -> usize
-    ensures { λ r. ⌜ ((s : Slot) → slotLength s ≡ value → r ≡ added (layout column) s) ⌝ }
-{
-    let kind = column.kind;
-    match kind {
-        Kind::Variable => value,
-        _ => 0,
-    }
-}
+use plain_fields::plain_lengths;
+use plain_fields::plain_there;
 
 // The first fault in row order, then column order; each field is read from the part of the row that the previous one left,
 // but where a plain field or a short value stands there.

@@ -26,7 +26,8 @@ use Rattle.laws.proofs.Cuts.{offsets-passed}
 use Rattle.laws.proofs.InUse.{Held, in-use}
 use Rattle.checks.proofs.Begun.{both-grouped}
 use Rattle.row_reader.specs.declared.Checked.{Checked}
-use Rattle.row_reader.specs.Walk.{Finds, Checks}
+use Rattle.row_reader.specs.Walk.{Finds}
+use Rattle.batch_reader.specs.Batch.{Checks}
 
 -- ---- the key
 

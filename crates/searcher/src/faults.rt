@@ -6,12 +6,12 @@ ghost use Rattle.format.specs.Schemas.{Limited, colsOf};
 ghost use Rattle.format.specs.Read.{rowFault};
 ghost use Rattle.format.specs.Batch.{sortedFault};
 ghost use Rattle.format.specs.Lookup.{keyColumnsFault};
+use batch_reader::check_rows;
 use format::Check;
 use format::Refusal;
 use format::Schema;
 use joiner::check_order;
 use row_reader::check_fields;
-use row_reader::check_rows;
 
 // 31, then the key as row 0 of the first k columns.
 pub(crate) fn check_key(schema: Schema, k: u64, key: &[u8]) -> Check

@@ -1,65 +1,30 @@
 -- What the C entries make of the lent bytes, from what they are told of the answer and of the offsets used. Assumes nothing.
-use Prim.Native.Nat.{ℕ, suc, _/_, _<_, _≤_}
-use mathlib.Core.Path.{_≡_, refl, sym, ap, subst, _∙_}
-use mathlib.Core.List.{List, append-nil}
+use Prim.Native.Nat.{ℕ, _/_, _<_, _≤_}
+use mathlib.Core.Path.{_≡_, sym, ap, subst, _∙_}
+use mathlib.Core.List.{List}
 use native.Mathlib.Omega.{arith}
-use lib.ListN.{length, take, replicate, length-replicate, drop-of-length-le}
+use lib.ListN.{length, take, replicate, length-replicate}
 use lib.Seq.{length-take-le}
 use borrow.Author.Tests.{lt-ltb, le-ltb}
-use Rattle.format.specs.declared.Refusal.{Refusal}
-use Rattle.format.specs.declared.Check.{Check}
-use Rattle.format.specs.declared.Check.the-variants.{Pass, Refuse}
 use Rattle.format.specs.declared.Answer.{Answer}
-use Rattle.format.specs.declared.Answer.the-variants.{Done, Refused}
 use Rattle.format.specs.declared.Returned.{Returned}
-use Rattle.format.specs.Lists.{Bytes, endsFrom, over}
+use Rattle.format.specs.Lists.{Bytes, over}
 use Rattle.format.specs.Columns.{spelledColumns}
-use Rattle.format.specs.Described.{ColumnList, columns, codes}
-use Rattle.format.specs.Sheet.{sheetSlots}
+use Rattle.format.specs.Described.{ColumnList, codes}
 use Rattle.format.specs.Numbers.{numbersOf}
-use Rattle.format.specs.Entries.{answer, written, sheetRows, encodeCheck, readListCheck, readListAnswer}
+use Rattle.format.specs.Entries.{written, readListCheck, readListAnswer}
 use Rattle.format.specs.Entries.{checkListAnswer, measureAnswer, encodeAnswer, encodeRows, encodeOffsets, decodeAnswer, decodeSheet}
 use Rattle.format.specs.Lent.{eights, eightBytes, numberBytes, answerRoom, answerBytes, unlessShort, codeRoom, lentReadList, lentReadListCodes}
 use Rattle.format.specs.Lent.{lentCheckList, lentMeasure, lentEncode, lentEncodeRows, lentEncodeOffsets, lentDecode, lentDecodeSheet}
-use Rattle.format.specs.Promises.{ListChecked, Measured, Encoded, Decoded, LentListChecked, LentListRead, LentMeasured, LentEncoded, LentDecoded}
-use Rattle.basics.proofs.Lists.{length-ends}
-use Rattle.laws.proofs.Numbers.{numbers-injective}
-use Rattle.laws.proofs.Accept.{encode-done, encode-offsets}
-use Rattle.laws.proofs.Turned.{rows-many}
+use Rattle.format.specs.Promises.{ListChecked, Measured, Decoded, LentListChecked, LentListRead, LentMeasured, LentEncoded, LentDecoded}
 use Rattle.lent_bytes.specs.Offsets.{firstEights, Used}
-use Rattle.sized.specs.Stored.{EncodedBytes, ReadCodes}
+use Rattle.encoded_bytes.specs.Stored.{EncodedBytes}
+use Rattle.sized.specs.Stored.{ReadCodes}
 use Rattle.sized.proofs.Enough.{encode-answer, encode-rows, encode-ends, decode-answer, decode-sheet}
 
 -- ---- the first k of m numbers are k
 pub part-long : (m k : ℕ) → k ≤ m → k ≡ length (take k (replicate {A = ℕ} m 0))
 part-long m k h = sym (length-take-le k (replicate {A = ℕ} m 0) (omega (arith, length-replicate {A = ℕ} m 0)))
-
--- ---- encode with offsets in bytes
-pub answer-refused : (m : Check) (a b : ℕ) (x : Refusal) → answer m a b ≡ Refused x → m ≡ Refuse x
-answer-refused Pass a b x e = absurd (let z : _≡_ {A = ℕ} 0 1 = cc in omega arith)
-answer-refused (Refuse y) a b x e = cc
-
-module _ (list : ColumnList) (n : ℕ) (sheet rows offsets numbers : List ℕ) (r : Answer) (rows′ numbers′ : List ℕ)
-    (h : Encoded list n sheet rows numbers r rows′ numbers′) where
-  abbrev ends : List ℕ
-  ends = endsFrom 0 (sheetRows n (columns list) sheet)
-
-  -- a refusal stores nothing
-  pub none-stored : (x : Refusal) → r ≡ Refused x → EncodedBytes list n sheet rows offsets (length numbers) r rows′ offsets
-  unfolding encodeAnswer
-  none-stored x e =
-      let refuses = answer-refused (encodeCheck list n sheet (length rows) (length numbers)) _ _ x (sym (numbers-injective _ _ (h .answers)) ∙ e) in
-      record { answers = h .answers; row-bytes = h .row-bytes; row-ends = rw refuses }
-
-  -- a success stores the ends: there is room for no more numbers
-  pub ends-stored : (x y : ℕ) → r ≡ Done x y → length numbers ≤ suc n → (offsets′ : List ℕ) → offsets′ ≡ over (eightBytes numbers′) offsets
-      → EncodedBytes list n sheet rows offsets (length numbers) r rows′ offsets′
-  ends-stored x y e most offsets′ w =
-      let passes = encode-done list n sheet (length rows) (length numbers) x y (sym (numbers-injective _ _ (h .answers)) ∙ e) .0 in
-      let many = rows-many n (columns list) (sheetSlots n (columns list) sheet) in
-      let short : length numbers ≤ length ends = omega (arith, length-ends 0 (sheetRows n (columns list) sheet), many) in
-      let all : numbers′ ≡ ends = h .row-ends ∙ encode-offsets list n sheet rows numbers passes ∙ rw (drop-of-length-le numbers short) (append-nil ends) in
-      record { answers = h .answers; row-bytes = h .row-bytes; row-ends = w ∙ rw (passes, all) refl }
 
 -- ---- decode with the offsets that were read
 pub bytes-decoded : (list : ColumnList) (n : ℕ) (rows offsets sheet : List ℕ) (k : ℕ) (os : List ℕ) (r : Answer) (sheet′ : List ℕ) → os ≡ firstEights k offsets

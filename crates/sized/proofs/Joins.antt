@@ -28,9 +28,11 @@ use Rattle.basics.proofs.Lists.{length-each}
 use Rattle.laws.proofs.Numbers.{numbers-injective}
 use Rattle.joiner.proofs.Sorting.{length-order}
 use Rattle.lent_bytes.specs.Offsets.{eightAt, firstEights, Used}
-use Rattle.sized.specs.Order.{UsedEntries, JoinedBytes}
+use Rattle.lent_bytes.specs.Entries.{UsedEntries}
+use Rattle.encoded_bytes.proofs.Stores.{answer-refused}
+use Rattle.sized.specs.Order.{JoinedBytes}
 use Rattle.sized.proofs.Enough.{le-or-lt, front, agree, offsets-fault, cuts}
-use Rattle.sized.proofs.Entries.{answer-refused, short-answer, short-kept, long-answer, long-new}
+use Rattle.sized.proofs.Entries.{short-answer, short-kept, long-answer, long-new}
 
 -- an order has an entry a row
 length-new : (n₀ : ℕ) (rows₀ offsets₀ : List ℕ) (n₁ : ℕ) (rows₁ offsets₁ : List ℕ)

@@ -1,21 +1,13 @@
--- The lent order: a call looks at and writes the first few entries only.
-use Prim.Native.Nat.{ℕ, _+_, _*_, _<_, _≤_}
+-- Join on lent bytes, of which a call uses the first few only.
+use Prim.Native.Nat.{ℕ, _+_, _*_, _≤_}
 use mathlib.Core.Path.{_≡_}
 use mathlib.Core.List.{List}
 use lib.ListN.{length}
 use Rattle.format.specs.declared.Answer.{Answer}
-use Rattle.format.specs.Limits.{maxRows}
 use Rattle.format.specs.Numbers.{numbersOf}
 use Rattle.format.specs.Entries.{written, cutRows}
 use Rattle.format.specs.Join.{joinOrder, joinCheck, joinAnswer}
 use Rattle.format.specs.Lent.{eightBytes}
-
--- k of the entries that there is room for are enough for the rows of both passes, and no more: where k are too few, there are no more
-pub record UsedEntries (n₀ n₁ room k : ℕ) : Type 0 where
-  pub there : k ≤ room
-  pub few : k ≤ 2 * maxRows
-  pub most : k ≤ n₀ + n₁
-  pub enough : n₀ ≤ maxRows → n₁ ≤ maxRows → k < n₀ + n₁ → k ≡ room
 
 -- the numbers that are read and written lie within the lent bytes, and there are no more entries than rows
 pub record Holds (n₀ n₁ : ℕ) (offsets₀ offsets₁ order first second list : List ℕ) : Type 0 where

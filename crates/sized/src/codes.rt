@@ -1,9 +1,9 @@
 // read_list into codes, four bytes a column.
 ghost use Rattle.sized.specs.Stored.{ReadCodes};
 use checks::column_room;
+use code_writer::put_codes;
 use format::Answer;
 use format::Check;
-use list_reader::codes::put_codes;
 use list_reader::read_list;
 
 // List, 29, then the codes: the column count and 0, or the refusal, which writes nothing. A tail shorter than four bytes is no room.

@@ -3,37 +3,12 @@ ghost use Prim.Native.Nat.{_+_, _≤_};
 ghost use lib.ListN.{length};
 ghost use Rattle.format.specs.Limits.{maxRows};
 ghost use Rattle.format.specs.Promises.{LentEncoded};
-ghost use Rattle.list_reader.specs.Listing.{OfList, OfEach};
-ghost use Rattle.sized.specs.Stored.{Ready, Held, EncodedBytes};
-use encoder::encode::encode_listed;
-use format::Answer;
+ghost use Rattle.list_reader.specs.Listing.{OfEach};
+ghost use Rattle.sized.specs.Stored.{Ready};
+use encoded_bytes::encode_bytes;
 use format::MAX_OFFSETS;
 use lent_bytes::put_answer;
-use lent_bytes::write_offsets;
 use list_reader::Listed;
-
-// Encode with offsets in bytes: a success stores the ends of the rows, for which there is room among the numbers; a refusal
-// stores nothing. What the lent bytes held is not looked at.
-fn encode_bytes(
-    listed: Listed,
-    n: u64,
-    sheet: &[u8],
-    rows: &mut [u8],
-    offsets: &mut [u8],
-    numbers: &mut [u64],
-) -> Answer
-    requires { ⌜ OfList listed ⌝ }
-    requires { ⌜ Held n (length (now numbers)) (length (now offsets)) ⌝ }
-    ensures { λ r. ⌜ OfEach listed (λ list. EncodedBytes list n (now (sheet .entry)) (now (rows .entry)) (now (offsets .entry))
-        (length (now (numbers .entry))) r (now (rows .exit)) (now (offsets .exit))) ⌝ }
-{
-    let r = encode_listed(listed, n, sheet, rows, numbers);
-    if let Answer::Refused(_) = r {
-        return r;
-    }
-    write_offsets(numbers, offsets);
-    r
-}
 
 // The first k of the numbers that are lent are used.
 fn encode_lent(

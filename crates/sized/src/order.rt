@@ -1,9 +1,7 @@
 // The joined order in lent bytes, eight bytes an entry, low byte first.
-ghost use mathlib.Core.Path.{_≡_};
-ghost use Prim.Native.Nat.{_/_};
 ghost use lib.ListN.{length};
 ghost use Rattle.lent_bytes.specs.Offsets.{firstEights};
-ghost use Rattle.sized.specs.Order.{UsedEntries, Holds, JoinedBytes};
+ghost use Rattle.sized.specs.Order.{Holds, JoinedBytes};
 use format::Answer;
 use format::MAX_ROWS;
 use lent_bytes::read_offsets;
@@ -11,24 +9,6 @@ use lent_bytes::write_offsets;
 
 // No order has more entries: the rows of two passes.
 pub const MAX_ORDER: usize = 2 * MAX_ROWS as usize;
-
-// How many of the entries in so many lent bytes two passes use: one a row, or all if there are fewer, and none of too many rows.
-pub fn used_entries(n0: u64, n1: u64, bytes: usize) -> usize
-    ensures { λ k. ⌜ UsedEntries n0 n1 (bytes / 8) k ⌝ }
-{
-    if MAX_ROWS < n0 {
-        return 0;
-    }
-    if MAX_ROWS < n1 {
-        return 0;
-    }
-    let count = n0 + n1;
-    let room = bytes / 8;
-    if (room as u64) < count {
-        return room;
-    }
-    count as usize
-}
 
 // Join with offsets and order in bytes: as many offsets are read as there is room for among the first and the second numbers; a success
 // stores the order, for which there is room in the list; a refusal stores nothing.

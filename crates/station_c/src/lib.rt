@@ -2,11 +2,12 @@
 // descriptions as four bytes a column. Thin over crates `station` and `sized`; include/station.h says how to call them.
 ghost use Rattle.format.specs.Described.{spelled, coded};
 ghost use Rattle.format.specs.Promises.{LentListChecked, LentListRead, LentMeasured, LentEncoded, LentDecoded, LentJoined, LentLookedUp, LentSheetsCompared, LentPairsCompared, Compared};
+use code_reader::read_codes;
 use encoder::measure::measure_listed;
 use format::MAX_OFFSETS;
 use lent_bytes::put_answer;
+use lent_bytes::used_entries;
 use lent_bytes::used_offsets;
-use list_reader::codes::read_codes;
 use list_reader::read_list;
 use pairs::compare_pairs_listed;
 use pairs::compare_sheets_listed;
@@ -16,7 +17,6 @@ use sized::encode::encode_sized;
 use sized::look_up::look_up_sized;
 use sized::order::MAX_ORDER;
 use sized::order::join_bytes;
-use sized::order::used_entries;
 
 mod version;
 

@@ -48,18 +48,18 @@ use Rattle.list_reader.specs.declared.Listed.{Listed}
 use Rattle.list_reader.specs.Listing.{ListedAs, Used, OfArray}
 use Rattle.list_reader.proofs.Listed as Out
 use Rattle.list_reader.proofs.Listed.Laws as Out′
-use Rattle.list_reader.proofs.columns.used_columns as used
-use Rattle.list_reader.proofs.columns.used_columns.Symbol as used-def
-use Rattle.list_reader.proofs.columns.used_columns.Symbol.{name as #used}
-use Rattle.list_reader.proofs.columns.used_columns.Met as used-thm
-use Rattle.list_reader.proofs.columns.blank as blank
-use Rattle.list_reader.proofs.columns.blank.Symbol as blank-def
-use Rattle.list_reader.proofs.columns.blank.Symbol.{name as #blank}
-use Rattle.list_reader.proofs.columns.blank.Met as blank-thm
-use Rattle.list_reader.proofs.columns.judge as judge
-use Rattle.list_reader.proofs.columns.judge.Symbol as judge-def
-use Rattle.list_reader.proofs.columns.judge.Symbol.{name as #judge}
-use Rattle.list_reader.proofs.columns.judge.Met as judge-thm
+use Rattle.column_reader.proofs.used_columns as used
+use Rattle.column_reader.proofs.used_columns.Symbol as used-def
+use Rattle.column_reader.proofs.used_columns.Symbol.{name as #used}
+use Rattle.column_reader.proofs.used_columns.Met as used-thm
+use Rattle.column_reader.proofs.blank as blank
+use Rattle.column_reader.proofs.blank.Symbol as blank-def
+use Rattle.column_reader.proofs.blank.Symbol.{name as #blank}
+use Rattle.column_reader.proofs.blank.Met as blank-thm
+use Rattle.column_reader.proofs.judge as judge
+use Rattle.column_reader.proofs.judge.Symbol as judge-def
+use Rattle.column_reader.proofs.judge.Symbol.{name as #judge}
+use Rattle.column_reader.proofs.judge.Met as judge-thm
 use Rattle.lent_columns.proofs.Copying.{made, array-made}
 use Rattle.lent_columns.proofs.copied as copied
 use Rattle.lent_columns.proofs.copied.Symbol as copied-def
@@ -242,7 +242,7 @@ described-spec 𝓤 H 𝓜 𝓖 𝓡 =
     entered 𝓤 H (tripleOf 𝓤 H (𝓖 .A) described.signature (described.spec 𝓤 H (𝓖 .A) (𝓜 .mem) (𝓡 .run)))
     (tables 𝓤 H 𝓜 𝓡 code.env .C) (tables 𝓤 H 𝓜 𝓡 code.env .Λ) #described code.function (code.unfolded 𝓤 H 𝓜 𝓡)
     (described-meets 𝓤 H (𝓖 .A) (givenOf 𝓤 H 𝓜 𝓖) (𝓜 .mem) (𝓡 .run) (tablesOf 𝓤 H 𝓜 (tables 𝓤 H 𝓜 𝓡 code.env))
-    (cited 𝓤 H (Counts 𝓤 H (𝓖 .A) (𝓜 .mem) (𝓡 .run)) 𝓜 𝓡 code.env #used used-def.routine code.calls-list-reader·columns·used-columns (used-thm.met 𝓤 H 𝓜 𝓖 𝓡))
-    (cited 𝓤 H (Blanks 𝓤 H (𝓖 .A) (𝓜 .mem) (𝓡 .run)) 𝓜 𝓡 code.env #blank blank-def.routine code.calls-list-reader·columns·blank (blank-thm.met 𝓤 H 𝓜 𝓖 𝓡))
+    (cited 𝓤 H (Counts 𝓤 H (𝓖 .A) (𝓜 .mem) (𝓡 .run)) 𝓜 𝓡 code.env #used used-def.routine code.calls-column-reader·used-columns (used-thm.met 𝓤 H 𝓜 𝓖 𝓡))
+    (cited 𝓤 H (Blanks 𝓤 H (𝓖 .A) (𝓜 .mem) (𝓡 .run)) 𝓜 𝓡 code.env #blank blank-def.routine code.calls-column-reader·blank (blank-thm.met 𝓤 H 𝓜 𝓖 𝓡))
     (cited 𝓤 H (Copies 𝓤 H (𝓖 .A) (𝓜 .mem) (𝓡 .run)) 𝓜 𝓡 code.env #copied copied-def.routine code.calls-lent-columns·copied (copied-thm.met 𝓤 H 𝓜 𝓖 𝓡))
-    (cited 𝓤 H (Judges 𝓤 H (𝓖 .A) (𝓜 .mem) (𝓡 .run)) 𝓜 𝓡 code.env #judge judge-def.routine code.calls-list-reader·columns·judge (judge-thm.met 𝓤 H 𝓜 𝓖 𝓡)))
+    (cited 𝓤 H (Judges 𝓤 H (𝓖 .A) (𝓜 .mem) (𝓡 .run)) 𝓜 𝓡 code.env #judge judge-def.routine code.calls-column-reader·judge (judge-thm.met 𝓤 H 𝓜 𝓖 𝓡)))

@@ -9,8 +9,8 @@ use Rattle.format.specs.declared.Check.the-variants.{Pass}
 use Rattle.format.specs.Schemas.{colsOf}
 use Rattle.format.specs.CompareSheets.{countedFault, pairsFault, pairCount}
 use Rattle.list_reader.specs.Listing.{Sound}
-use Rattle.comparer.specs.Orders.{pairRows}
-use Rattle.comparer.proofs.Pairs.{pairs-passed}
+use Rattle.row_pairs.specs.Pairs.{pairRows}
+use Rattle.row_pairs.proofs.Pairs.{pairs-passed}
 use Rattle.pairs.proofs.Comparing.{bad-list, good-list, bad-first, bad-second, bad-pair, short, compared}
 use Rattle.pairs.proofs.compare_pairs_listed.Statement.{statement}
 use Rattle.pairs.proofs.compare_pairs_listed.Tie as tie

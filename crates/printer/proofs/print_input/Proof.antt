@@ -2,7 +2,7 @@
 -- the sheet. Assumes nothing.
 use borrow.Author.Needs.{needs}
 use native.Mathlib.Omega.{arith}
-use Rattle.printer.proofs.Written.{wrote-as}
+use Rattle.texts.proofs.Written.{wrote-as}
 use Rattle.printer.proofs.Output.{long-output, length-output, list-output, sheet-output}
 use Rattle.printer.proofs.print_input.Statement.{statement}
 use Rattle.printer.proofs.print_input.Tie as tie

@@ -6,7 +6,7 @@ use native.Mathlib.Omega.{arith}
 use lib.ListN.{length}
 use Rattle.basics.proofs.Bytes.{bytes-of}
 use Rattle.lent_bytes.specs.Offsets.{Used}
-use Rattle.sized.specs.Order.{UsedEntries}
+use Rattle.lent_bytes.specs.Entries.{UsedEntries}
 use Rattle.sized.proofs.Entries.{part-long}
 use Rattle.sized.proofs.Joins.{join-short, join-long}
 use Rattle.station_c.proofs.station_join.Statement.{statement}

@@ -1,0 +1,2 @@
+-- What the check of a batch answers.
+pub mod Batch

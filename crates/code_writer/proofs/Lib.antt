@@ -1,0 +1,2 @@
+-- Codes, written one after the other.
+pub mod CodesPut

@@ -1,0 +1,2 @@
+-- What encode stores in lent bytes.
+pub mod Stores

@@ -1,0 +1,2 @@
+-- What encode does with the lent bytes that it uses.
+pub mod Stored

@@ -1,0 +1,2 @@
+-- The law that the proofs of the field readers cite.
+pub mod Arms

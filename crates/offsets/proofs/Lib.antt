@@ -1,0 +1,2 @@
+-- The law that the proof of the check of offsets cites.
+pub mod Falls

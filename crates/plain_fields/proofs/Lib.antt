@@ -1,0 +1,3 @@
+-- The laws that the proofs of plain fields cite.
+pub mod Arms
+pub mod Stored

@@ -1,0 +1,2 @@
+-- What the proofs on pairs of rows share.
+pub mod Pairs

@@ -1,0 +1,3 @@
+-- What the proofs on two values and two slots share.
+pub mod Arms
+pub mod Values
