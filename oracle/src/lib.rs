@@ -20,6 +20,7 @@ pub mod misreads;
 pub mod model;
 pub mod options;
 pub mod order;
+pub mod plain;
 pub mod reads;
 pub mod record;
 pub mod refusals;
