@@ -201,5 +201,6 @@ module _ {whole val : List ℕ} {d : Bool} {out₀ : List ℕ} {at : ℕ} {out :
   pub later-room : at + length whole ≤ length out₀ → place + length (evenBlocks 32 (drop i val)) ≤ length out
   later-room fits = omega (arith, four .long, four .same, length-directed d whole, length-directed d others)
 
-  pub spread-later : (out′ : List ℕ) (next : ℕ) → Wrote (directed d (evenBlocks 32 (drop i val))) place out out′ next → Wrote (directed d whole) at out₀ out′ next
+  pub spread-later : (out′ : List ℕ) (next : ℕ) → Wrote (directed d (evenBlocks 32 (drop i val))) place out out′ next
+      → Wrote (directed d whole) at out₀ out′ next
   spread-later out′ next p = walk-last four p
