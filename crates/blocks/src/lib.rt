@@ -8,7 +8,7 @@ ghost use Rattle.format.specs.Field.{blockSize, paddedLength};
 pub const BLOCK_SIZE: usize = 32;
 
 // The first 32 bytes are split into as many blocks, so that short values take less room.
-const MINI_BLOCK_COUNT: usize = 4;
+pub const MINI_BLOCK_COUNT: usize = 4;
 
 // The size of each of those.
 pub const MINI_BLOCK_SIZE: usize = BLOCK_SIZE / MINI_BLOCK_COUNT;

@@ -28,7 +28,7 @@ fn put_null(column: Column, rows: &mut [u8], at: usize) -> usize
     }
 }
 
-// Variable bytes: the value of row r lies between ends r and r + 1.
+// Variable bytes: the value of row r lies between ends r and r + 1. The ends stand before it, so that eight bytes do.
 fn put_variable(
     values: &[u8],
     n: usize,
@@ -45,7 +45,7 @@ fn put_variable(
     let data = 4 * (n + 1);
     let from = data + end_at(values, r);
     let to = data + end_at(values, r + 1);
-    variable_writer::encode_one(rows, at, &values[from..to], options)
+    variable_writer::encode_one(rows, at, &values[..to], from, options)
 }
 
 // The value of row r, out of the values of the column, folded where the column folds. Two tests before encode's match, and not a match around it: the

@@ -8,7 +8,7 @@ use lib.ListN.{length, take, drop, replicate, length-drop}
 use lib.Seq.{drop-drop, drop-nil, take-all, take-nil}
 use Rattle.format.specs.Field.{block}
 use Rattle.format.specs.Lists.{Bytes, low, lowBytes}
-use Rattle.number.proofs.Words.{read, spelled}
+use Rattle.number.proofs.Words.{spelled}
 use Rattle.number.proofs.Tops.{word-top}
 
 -- the first n of x, and zeros past its end
@@ -75,16 +75,3 @@ pub word-last : (w x : ℕ) (l : List ℕ) (i : ℕ) → i ≤ length l → leng
 word-last w x l i h k m b e =
     word-top w x l i (length l) h (omega arith) m (omega arith) b e
     ∙ ap low (take-all (length l - i) (drop i l) (omega (arith, length-drop i l)))
-
--- all of l: a word at its start and one at its end, which may overlap
-pub words-last : (w lo hi x : ℕ) (l : List ℕ) → w ≤ length l → length l ≤ w + w → Bytes l → lo ≡ low (take w l)
-    → hi ≡ low (take w (drop (length l - w) l)) → x ≡ lo + 256 ^ w * (hi / 2 ^ (8 * (w + w - length l))) → x ≡ low l
-words-last w lo hi x l h k b e f g =
-    read w w l 0 x lo (hi / 2 ^ (8 * (w + w - length l))) (omega arith) g e high
-    ∙ ap low (take-all (w + w) l k)
-  where
-    high : hi / 2 ^ (8 * (w + w - length l)) ≡ low (take w (drop (0 + w) l))
-    high =
-        ap (λ (n : ℕ). hi / 2 ^ (8 * n)) {x = w + w - length l} {y = w - (length l - (0 + w))} (omega arith)
-        ∙ word-last w hi l (0 + w) (omega arith) (omega arith) h b f
-        ∙ ap low (sym (take-all w (drop (0 + w) l) (omega (arith, length-drop (0 + w) l))))

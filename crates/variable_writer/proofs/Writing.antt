@@ -1,26 +1,28 @@
 -- Writing a block word by word, and a run of blocks. Assumes nothing.
-use Prim.Native.Nat.{ℕ, _+_, _-_, _<_, _≤_}
+use Prim.Native.Nat.{ℕ, suc, _+_, _-_, _<_, _≤_}
 use mathlib.Core.Path.{_≡_, refl, sym, ap, ap₂, _∙_, subst}
 use mathlib.Core.Bool.{Bool}
 use mathlib.Core.List.{List, [], _∷_, _++_, append-nil, append-assoc}
 use native.Mathlib.Nat.{zero-add, sub-zero, sub-eq-zero-of-le}
+use native.Mathlib.Numerals.{add-one}
 use native.Mathlib.Omega.{arith}
 use lib.ListN.{length, take, drop, replicate, length-append, length-drop}
 use lib.Seq.{sets, length-take-le, drop-drop}
-use Rattle.format.specs.Field.{block, directed}
+use Rattle.format.specs.Field.{block, blockSize, directed}
 use Rattle.format.specs.Lists.{Bytes, low, lowBytes}
 use Rattle.basics.specs.Wrote.{Wrote}
 use Rattle.basics.proofs.Append.{sets-append, Walk, walk-start, walk-at, walk-piece, walk-room}
 use Rattle.basics.proofs.Bytes.{bytes-drop}
 use Rattle.laws.proofs.Directed.{length-directed, directed-append}
+use Rattle.laws.proofs.Stream.{stream, stream-last, stream-more}
 use Rattle.basics.proofs.LowBytes.{length-lowBytes}
-use Rattle.runs.proofs.Written.{walk-wrote}
+use Rattle.runs.proofs.Written.{walk-last, walk-wrote}
 use Rattle.variable_writer.specs.Even.{evenBlocks}
 use Rattle.variable_writer.proofs.Padded.{padded, length-padded, padded-step, block-padded, word-padded}
-use Rattle.variable_writer.proofs.Even.{even, even-is, even-last, even-more}
+use Rattle.variable_writer.proofs.Even.{agree, later}
 
 -- one run of bytes after another
-pub sets-directed : (d : Bool) (f g l : List ℕ) (i : ℕ) → sets l i (directed d (f ++ g)) ≡ sets (sets l i (directed d f)) (i + length f) (directed d g)
+sets-directed : (d : Bool) (f g l : List ℕ) (i : ℕ) → sets l i (directed d (f ++ g)) ≡ sets (sets l i (directed d f)) (i + length f) (directed d g)
 sets-directed d f g l i =
     ap (sets l i) (directed-append d f g)
     ∙ sets-append (directed d f) (directed d g) l i
@@ -104,91 +106,101 @@ fill-full x size end d out₀ out last at h e f =
     full : x ++ replicate (size - length x) 0 ≡ x
     full = ap (λ (k : ℕ). x ++ replicate k 0) {x = size - length x} {y = 0} (omega arith) ∙ append-nil x
 
--- ---- a run of blocks of one size
+-- ---- a run of blocks
 
--- of one block
-pub one-block : (size : ℕ) (x : List ℕ) → 0 < length x → length x ≤ size
-    → (evenBlocks size x ≡ block size x (length x)) × (length (evenBlocks size x) ≡ size + 1)
-one-block size x some h =
-    let e = even-is size x (omega arith) some ∙ even-last size x h in
-    (e, ap length e ∙ length-block size x (length x) h)
-
--- of the value from `from` on, what comes before place i is written
-pub record Spreading (val : List ℕ) (from size : ℕ) (d : Bool) (out₀ : List ℕ) (at : ℕ) (out : List ℕ) (place i : ℕ) : Type 0 where
+-- the blocks before block k are written, and the value is left from place i on
+pub record Spreading (size : ℕ → ℕ) (whole val : List ℕ) (d : Bool) (out₀ : List ℕ) (at : ℕ) (out : List ℕ) (place k i : ℕ) : Type 0 where
   pub some-left : i < length val
-  pub wrote : Walk (directed d (evenBlocks size (drop from val))) (directed d (even size (drop i val))) out₀ at out place
+  pub wrote : Walk (directed d whole) (directed d (stream size k 0 (drop i val))) out₀ at out place
 
-pub spread-start : (val : List ℕ) (from size : ℕ) (d : Bool) (out : List ℕ) (at : ℕ) → 0 < size → from < length val
-    → Spreading val from size d out at out at from
-spread-start val from size d out at room h = record {
+pub spread-start : (size : ℕ → ℕ) (whole val : List ℕ) (d : Bool) (out : List ℕ) (at k i : ℕ) → i < length val → whole ≡ stream size k 0 (drop i val)
+    → Spreading size whole val d out at out at k i
+spread-start size whole val d out at k i h e = record {
   some-left = h;
-  wrote =
-      subst (λ (z : List ℕ). Walk (directed d z) rest out at out at) (sym (even-is size (drop from val) room (omega (arith, length-drop from val))))
-      (walk-start rest out at);
+  wrote = subst (λ (z : List ℕ). Walk (directed d whole) (directed d z) out at out at) e (walk-start (directed d whole) out at);
 }
-  where
-    rest : List ℕ
-    rest = directed d (even size (drop from val))
 
-module _ {val : List ℕ} {from size : ℕ} {d : Bool} {out₀ : List ℕ} {at : ℕ} {out : List ℕ} {place i : ℕ}
-    (t : Spreading val from size d out₀ at out place i) where
-  abbrev whole : List ℕ
-  whole = directed d (evenBlocks size (drop from val))
-
-  -- there is room for the whole
-  roomy : at + length (evenBlocks size (drop from val)) ≤ length out₀ → at + length whole ≤ length out₀
-  roomy fits = omega (arith, length-directed d (evenBlocks size (drop from val)))
-
+module _ {size : ℕ → ℕ} {whole val : List ℕ} {d : Bool} {out₀ : List ℕ} {at : ℕ} {out : List ℕ} {place k i : ℕ}
+    (t : Spreading size whole val d out₀ at out place k i) (s : ℕ) (e : size k ≡ s) where
   -- a full block, and what follows
-  module _ (room : 0 < size) (h : size < length val - i) where
+  module _ (room : (j : ℕ) → 0 < size j) (h : s < length val - i) where
     abbrev full : List ℕ
-    full = block size (take size (drop i val)) 255
+    full = block s (take s (drop i val)) 255
 
     abbrev after : List ℕ
-    after = directed d (even size (drop (i + size) val))
+    after = directed d (stream size (suc k) 0 (drop (i + s) val))
 
-    parted : directed d (even size (drop i val)) ≡ directed d full ++ after
+    parted : directed d (stream size k 0 (drop i val)) ≡ directed d full ++ after
     parted =
-        ap (directed d) (even-more size (drop i val) room (omega (arith, length-drop i val)))
-        ∙ directed-append d full (even size (drop size (drop i val)))
-        ∙ ap (λ (z : List ℕ). directed d full ++ directed d (even size z)) (drop-drop size i val)
+        ap (directed d)
+        (stream-more size room (drop i val) k (omega (arith, e, length-drop i val))
+        ∙ ap (λ (n : ℕ). block n (take n (drop i val)) 255 ++ stream size (suc k) 0 (drop n (drop i val))) e)
+        ∙ directed-append d full (stream size (suc k) 0 (drop s (drop i val)))
+        ∙ ap (λ (z : List ℕ). directed d full ++ directed d (stream size (suc k) 0 z)) (drop-drop s i val)
 
-    long : length (directed d full) ≡ size + 1
+    long : length (directed d full) ≡ s + 1
     long =
         length-directed d full
-        ∙ length-block size (take size (drop i val)) 255 (omega (arith, length-take-le size (drop i val) (omega (arith, length-drop i val))))
+        ∙ length-block s (take s (drop i val)) 255 (omega (arith, length-take-le s (drop i val) (omega (arith, length-drop i val))))
 
     -- there is room for it, and the walk goes on
-    pub more-room : at + length (evenBlocks size (drop from val)) ≤ length out₀ → place + size < length out
-    more-room fits = omega (arith, long, walk-room (t .wrote) (directed d full) after parted (roomy fits))
+    pub more-room : at + length whole ≤ length out₀ → place + s < length out
+    more-room fits = omega (arith, long, walk-room (t .wrote) (directed d full) after parted (omega (arith, length-directed d whole)))
 
-    pub spread-more : (next : List ℕ) → next ≡ sets out place (directed d (block size (take size (drop i val)) 255))
-        → Spreading val from size d out₀ at next (place + (size + 1)) (i + size)
+    pub spread-more : (next : List ℕ) → next ≡ sets out place (directed d (block s (take s (drop i val)) 255))
+        → Spreading size whole val d out₀ at next (place + (s + 1)) (k + 1) (i + s)
     spread-more next f = record {
       some-left = omega arith;
-      wrote =
-          subst (λ (z : List ℕ). Walk whole after out₀ at z (place + (size + 1))) (sym f)
-          (walk-piece (size + 1) (directed d full) after (t .wrote) parted long);
+      wrote = rw (f, add-one k) (walk-piece (s + 1) (directed d full) after (t .wrote) parted long);
     }
 
   -- the last block
-  module _ (h : length val - i ≤ size) where
+  module _ (h : length val - i ≤ s) where
     abbrev end : List ℕ
-    end = block size (drop i val) (length val - i)
+    end = block s (drop i val) (length val - i)
 
-    ended : directed d (even size (drop i val)) ≡ directed d end ++ []
+    ended : directed d (stream size k 0 (drop i val)) ≡ directed d end ++ []
     ended =
-        ap (directed d) (even-last size (drop i val) (omega (arith, length-drop i val)) ∙ ap (block size (drop i val)) (length-drop i val))
+        ap (directed d)
+        (stream-last size (drop i val) k (omega (arith, e, length-drop i val))
+        ∙ ap₂ (λ (n m : ℕ). block n (drop i val) m) e (length-drop i val))
         ∙ sym (append-nil (directed d end))
 
-    last : length (directed d end) ≡ size + 1
-    last = length-directed d end ∙ length-block size (drop i val) (length val - i) (omega (arith, length-drop i val))
+    last : length (directed d end) ≡ s + 1
+    last = length-directed d end ∙ length-block s (drop i val) (length val - i) (omega (arith, length-drop i val))
 
     -- there is room for it, and the walk ends
-    pub last-room : at + length (evenBlocks size (drop from val)) ≤ length out₀ → place + size < length out
-    last-room fits = omega (arith, last, walk-room (t .wrote) (directed d end) [] ended (roomy fits))
+    pub last-room : at + length whole ≤ length out₀ → place + s < length out
+    last-room fits = omega (arith, last, walk-room (t .wrote) (directed d end) [] ended (omega (arith, length-directed d whole)))
 
-    pub spread-end : (out′ : List ℕ) → out′ ≡ sets out place (directed d (block size (drop i val) (length val - i)))
-        → Wrote (directed d (evenBlocks size (drop from val))) at out₀ out′ (place + size + 1)
+    pub spread-end : (out′ : List ℕ) → out′ ≡ sets out place (directed d (block s (drop i val) (length val - i)))
+        → Wrote (directed d whole) at out₀ out′ (place + s + 1)
     spread-end out′ f =
-        rw f (walk-wrote (walk-at (place + size + 1) (walk-piece (size + 1) (directed d end) [] (t .wrote) ended last) (omega arith)) refl)
+        rw f (walk-wrote (walk-at (place + s + 1) (walk-piece (s + 1) (directed d end) [] (t .wrote) ended last) (omega arith)) refl)
+
+-- blocks of one size: their number does not matter
+pub spread-even : {s : ℕ} {whole val : List ℕ} {d : Bool} {out₀ : List ℕ} {at : ℕ} {out : List ℕ} {place k i : ℕ}
+    → Spreading (λ _. s) whole val d out₀ at out place k i → Spreading (λ _. s) whole val d out₀ at out place 0 i
+spread-even {s} {whole} {val} {d} {out₀} {at} {out} {place} {k} {i} t = record {
+  some-left = t .some-left;
+  wrote =
+      subst (λ (z : List ℕ). Walk (directed d whole) (directed d z) out₀ at out place) (agree (λ _. s) s (drop i val) k 0 0 (λ j p. refl)) (t .wrote);
+}
+
+-- the later blocks of a value: there is room for them, and with them all is written
+module _ {whole val : List ℕ} {d : Bool} {out₀ : List ℕ} {at : ℕ} {out : List ℕ} {place k i : ℕ} (t : Spreading blockSize whole val d out₀ at out place k i)
+    (e : k ≡ 4) where
+  abbrev others : List ℕ
+  others = evenBlocks 32 (drop i val)
+
+  four : Walk (directed d whole) (directed d others) out₀ at out place
+  four =
+      subst (λ (z : List ℕ). Walk (directed d whole) (directed d z) out₀ at out place)
+      (ap (λ (j : ℕ). stream blockSize j 0 (drop i val)) e ∙ later (drop i val) (omega (arith, t .some-left, length-drop i val))) (t .wrote)
+
+  pub later-room : at + length whole ≤ length out₀ → place + length (evenBlocks 32 (drop i val)) ≤ length out
+  later-room fits = omega (arith, four .long, four .same, length-directed d whole, length-directed d others)
+
+  pub spread-later : (out′ : List ℕ) (next : ℕ) → Wrote (directed d (evenBlocks 32 (drop i val))) place out out′ next
+      → Wrote (directed d whole) at out₀ out′ next
+  spread-later out′ next p = walk-last four p

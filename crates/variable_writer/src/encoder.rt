@@ -4,26 +4,23 @@ ghost use mathlib.Core.Option.{none, some};
 ghost use Prim.Native.Nat.{_+_, _-_, _%_, _<_, _≤_};
 ghost use lib.ListN.{length, take, drop};
 ghost use lib.Seq.{sets};
-ghost use Rattle.format.specs.Limits.{maxSlot};
 ghost use Rattle.format.specs.Lists.{low};
 ghost use Rattle.format.specs.Field.{block, directed, paddedLength, variableField};
 ghost use Rattle.basics.specs.Wrote.{Wrote};
-ghost use Rattle.variable_writer.specs.Even.{evenBlocks};
+ghost use Rattle.variable_writer.specs.Even.{dataBlocks, evenBlocks};
 use blocks::BLOCK_CONTINUATION;
 use blocks::BLOCK_SIZE;
 use blocks::EMPTY_SENTINEL;
+use blocks::MINI_BLOCK_COUNT;
 use blocks::MINI_BLOCK_SIZE;
 use blocks::NON_EMPTY_SENTINEL;
 use format::SortOptions;
 use format::null_sentinel;
 use number::directed64;
-use number::low16;
-use number::low32;
 use number::low64;
 use number::put64;
 use runs::copy_words;
 use runs::put_byte;
-use runs::wide;
 
 // Null: the null byte, which descending does not invert.
 pub fn encode_null(out: &mut [u8], at: usize, options: SortOptions) -> usize
@@ -32,38 +29,6 @@ pub fn encode_null(out: &mut [u8], at: usize, options: SortOptions) -> usize
 {
     put_byte(out, at, null_sentinel(options), false);
     at + 1
-}
-
-// The bytes of val, eight at most, as a number, low byte first: a word of half the width at its start and one at its end,
-// which may overlap.
-fn short_word(val: &[u8]) -> u64
-    requires { ⌜ 0 < length (now val) ⌝ }
-    requires { ⌜ length (now val) ≤ 8 ⌝ }
-    ensures { λ r. ⌜ r ≡ low (now (val .entry)) ⌝ }
-{
-    let len = val.len();
-    if 4 <= len {
-        let high = low32(val, len - 4) as u64 >> (8 * (8 - len));
-        return low32(val, 0) as u64 + 4294967296 * high;
-    }
-    if 2 <= len {
-        let high = low16(val, len - 2) as u64 >> (8 * (4 - len));
-        return low16(val, 0) as u64 + 65536 * high;
-    }
-    wide(val[0]) as u64
-}
-
-// The one block of a value that is shorter than a word.
-fn encode_short(out: &mut [u8], at: usize, val: &[u8], descending: bool) -> usize
-    requires { ⌜ (0 < length (now val)) × (length (now val) < 8) ⌝ }
-    requires { ⌜ at + length (evenBlocks 8 (now val)) ≤ length (now out) ⌝ }
-    ensures { λ next. ⌜ Wrote (directed descending (evenBlocks 8 (now (val .entry)))) at (now (out .entry)) (now (out .exit)) next ⌝ }
-{
-    let len = val.len();
-    let word = short_word(val);
-    put64(out, at, directed64(descending, word));
-    put_byte(out, at + 8, len as u8, descending);
-    at + 9
 }
 
 // The bytes of val from a place to its end, eight at most, as a number, low byte first: the top bytes of the word that
@@ -162,7 +127,32 @@ fn encode_blocks(
     place + size + 1
 }
 
-// A value: empty is 01. Otherwise 02, then blocks: the first four hold 8 bytes, all later ones 32.
+// The blocks of the value that val holds from a place on: the first four in a turn each, then the later ones.
+fn encode_data(out: &mut [u8], at: usize, val: &[u8], from: usize, descending: bool) -> usize
+    requires { ⌜ 8 ≤ length (now val) ⌝ }
+    requires { ⌜ from < length (now val) ⌝ }
+    requires { ⌜ at + length (dataBlocks (drop from (now val))) ≤ length (now out) ⌝ }
+    ensures { λ next. ⌜ Wrote (directed descending (dataBlocks (drop from (now (val .entry))))) at (now (out .entry)) (now (out .exit)) next ⌝ }
+{
+    let len = val.len();
+    let mut place = at;
+    let mut i = from;
+    let mut k = 0;
+    while k < MINI_BLOCK_COUNT {
+        if len - i <= MINI_BLOCK_SIZE {
+            encode_last(out, place, val, i, MINI_BLOCK_SIZE, descending);
+            return place + MINI_BLOCK_SIZE + 1;
+        }
+        encode_full(out, place, val, i, MINI_BLOCK_SIZE, descending);
+        place += MINI_BLOCK_SIZE + 1;
+        i += MINI_BLOCK_SIZE;
+        k += 1;
+    }
+    encode_blocks(out, place, val, i, BLOCK_SIZE, descending)
+}
+
+// The value that val holds from a place on; what stands before it is not part of it, and lets its last bytes be read as a
+// word. Empty is 01. Otherwise 02, then blocks: the first four hold 8 bytes, all later ones 32.
 //
 //     ""           01
 //     "a"          02 | 61 00 00 00 00 00 00 00 01
@@ -171,33 +161,17 @@ fn encode_blocks(
 //     33 bytes     02 | 8 bytes FF | 8 bytes FF | 8 bytes FF | 8 bytes FF | 1 byte, 00 x31, 01
 //
 // Descending inverts every byte of it.
-pub fn encode_one(out: &mut [u8], at: usize, val: &[u8], options: SortOptions) -> usize
-    requires { ⌜ length (now val) ≤ maxSlot ⌝ }
-    requires { ⌜ at + paddedLength (length (now val)) ≤ length (now out) ⌝ }
-    ensures { λ next. ⌜ Wrote (variableField options (some (now (val .entry)))) at (now (out .entry)) (now (out .exit)) next ⌝ }
+pub fn encode_one(out: &mut [u8], at: usize, val: &[u8], from: usize, options: SortOptions) -> usize
+    requires { ⌜ 8 ≤ length (now val) ⌝ }
+    requires { ⌜ from ≤ length (now val) ⌝ }
+    requires { ⌜ at + paddedLength (length (drop from (now val))) ≤ length (now out) ⌝ }
+    ensures { λ next. ⌜ Wrote (variableField options (some (drop from (now (val .entry))))) at (now (out .entry)) (now (out .exit)) next ⌝ }
 {
     let descending = options.descending;
-    let len = val.len();
-    if len == 0 {
+    if from == val.len() {
         put_byte(out, at, EMPTY_SENTINEL, descending);
         return at + 1;
     }
     put_byte(out, at, NON_EMPTY_SENTINEL, descending);
-    if len < MINI_BLOCK_SIZE {
-        return encode_short(out, at + 1, val, descending);
-    }
-    if len <= BLOCK_SIZE {
-        return encode_blocks(out, at + 1, val, 0, MINI_BLOCK_SIZE, descending);
-    }
-    let place = encode_blocks(
-        out,
-        at + 1,
-        &val[..BLOCK_SIZE],
-        0,
-        MINI_BLOCK_SIZE,
-        descending,
-    );
-    // More follow, so the end byte 08 of the fourth block gives way to FF.
-    put_byte(out, place - 1, BLOCK_CONTINUATION, descending);
-    encode_blocks(out, place, val, BLOCK_SIZE, BLOCK_SIZE, descending)
+    encode_data(out, at + 1, val, from, descending)
 }
