@@ -125,23 +125,30 @@ extern "C" {
 
 enum { STATION_ANSWER_BYTES = 32 };
 
-/* The most bytes of stack that a call takes, from its return address down, whatever it is given. What the C
- * library's memcpy and memset take of it is counted. */
+/* The most bytes of stack that a call takes, from its return address down, whatever it is given; and where
+ * it takes less while no batch of the call has more than 512 rows, that. What the C library's memcpy and
+ * memset take of it is counted. */
 enum {
     STATION_CHECK_LIST_STACK = 4096,
     STATION_READ_LIST_STACK = 5120,
     STATION_MEASURE_STACK = 19456,
     STATION_MEASURE_READ_STACK = 19456,
-    STATION_ENCODE_STACK = 58368,
-    STATION_ENCODE_READ_STACK = 58368,
-    STATION_DECODE_STACK = 79872,
-    STATION_DECODE_READ_STACK = 79872,
+    STATION_ENCODE_STACK = 65536,
+    STATION_ENCODE_STACK_512 = 30720,
+    STATION_ENCODE_READ_STACK = 65536,
+    STATION_ENCODE_READ_STACK_512 = 30720,
+    STATION_DECODE_STACK = 87040,
+    STATION_DECODE_STACK_512 = 52224,
+    STATION_DECODE_READ_STACK = 87040,
+    STATION_DECODE_READ_STACK_512 = 52224,
     STATION_COMPARE_SHEETS_STACK = 14336,
     STATION_COMPARE_SHEETS_READ_STACK = 14336,
     STATION_COMPARE_PAIRS_STACK = 14336,
     STATION_COMPARE_PAIRS_READ_STACK = 14336,
-    STATION_LOOK_UP_STACK = 48128,
-    STATION_LOOK_UP_READ_STACK = 48128,
+    STATION_LOOK_UP_STACK = 56320,
+    STATION_LOOK_UP_STACK_512 = 21504,
+    STATION_LOOK_UP_READ_STACK = 56320,
+    STATION_LOOK_UP_READ_STACK_512 = 21504,
     STATION_JOIN_STACK = 132096,
     STATION_COMPARE_STACK = 64
 };

@@ -4,7 +4,7 @@
 use crate::columns::{descriptions_of, Column};
 use crate::hex::hex_start;
 use crate::model::{self, Checked, Numbers};
-use crate::stack::{self, Stacks, WORDS};
+use crate::stack::{self, Rows, Stacks, FEW_ROWS, WORDS};
 use crate::trap;
 use crate::yard::{Lend, Yard};
 use station::raw;
@@ -431,8 +431,22 @@ impl Call {
         Exit { lent, answer, sign }
     }
 
-    /// What the station leaves behind; a fault if it touched anything else. The call runs on the
-    /// entry's own stack, if there are such.
+    /// Whether every batch of the call has few rows: of the numbers, `n`, `n0` and `n1` count rows.
+    fn rows(&self) -> Rows {
+        let arguments = self.entry.arguments().into_iter();
+        let names = arguments.filter_map(|argument| match argument {
+            Number(name) => Some(name),
+            _ => None,
+        });
+        let mut counts = names.zip(&self.numbers);
+        match counts.all(|(name, number)| !name.starts_with('n') || *number <= FEW_ROWS) {
+            true => Rows::Few,
+            false => Rows::Any,
+        }
+    }
+
+    /// What the station leaves behind; a fault if it touched anything else. The call runs on a stack of
+    /// the entry's own, if there are such.
     pub fn performed(
         &self,
         yard: &mut Yard,
@@ -457,7 +471,7 @@ impl Call {
         // SAFETY: each pointer comes with the length of its own slice, and no two overlap.
         let returned = trap::during(self, || unsafe {
             match stacks {
-                Some(stacks) => stacks.call(self.entry, function, words),
+                Some(stacks) => stacks.call(self.entry, self.rows(), function, words),
                 None => stack::call_here(function, words),
             }
         });

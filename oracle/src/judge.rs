@@ -255,16 +255,16 @@ impl Judge {
         };
         let mut figures = Vec::new();
         for entry in ENTRIES {
-            let (taken, promised) = (stacks.deepest(entry), stack::promised(entry));
-            figures.push(format!("{} {taken} of {promised}", entry.name()));
-            self.ensure(taken <= promised, || {
-                format!(
-                    "{} took {taken} bytes of stack, over the {promised} that station.h says",
-                    entry.name()
-                )
-            });
+            let name = entry.name();
+            for rows in stack::ROWS {
+                let (taken, promised) = (stacks.deepest(entry, rows), stack::promised(entry, rows));
+                figures.push(format!("{name} ({rows:?}) {taken} of {promised}"));
+                self.ensure(taken <= promised, || {
+                    format!("{name} took {taken} bytes of stack, over the {promised} that station.h says ({rows:?} rows)")
+                });
+            }
             self.ensure(stack::is_in_readme(entry), || {
-                format!("the README says another stack of {}", entry.name())
+                format!("the README says another stack of {name}")
             });
         }
         println!("most bytes of stack: {}", figures.join(", "));

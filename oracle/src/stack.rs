@@ -1,8 +1,9 @@
 //! How deep each entry goes into its stack.
 //!
-//! Every fenced call of an entry runs on a stack that only this entry uses. It was painted once, and
-//! what is no longer paint has been written by one call or another: so the deepest of all calls is
-//! known without a look at each. `include/station.h` says what each entry takes.
+//! Every fenced call of an entry runs on a stack that only this entry uses, and calls on batches of few
+//! rows on another one. It was painted once, and what is no longer paint has been written by one call or
+//! another: so the deepest of all calls is known without a look at each. `include/station.h` says what
+//! each entry takes.
 
 use crate::call::{Entry, ENTRIES};
 use crate::yard::Pen;
@@ -21,28 +22,47 @@ const PAINT: u8 = 0xB7;
 const HEADER: &str = include_str!("../../include/station.h");
 const README: &str = include_str!("../../README.md");
 
-/// A stack for each entry.
+/// How many rows the batches of a call have.
+#[derive(Clone, Copy, Debug, PartialEq, Eq)]
+pub enum Rows {
+    /// Up to [`FEW_ROWS`] in each.
+    Few,
+    Any,
+}
+
+pub const FEW_ROWS: u64 = 512;
+pub const ROWS: [Rows; 2] = [Rows::Few, Rows::Any];
+
+/// Two stacks for each entry: for calls on few rows, and for the others.
 pub struct Stacks {
-    stacks: [Pen; ENTRIES.len()],
+    stacks: [[Pen; ROWS.len()]; ENTRIES.len()],
 }
 
 impl Stacks {
     pub fn painted() -> Stacks {
         Stacks {
             stacks: ENTRIES.map(|_| {
-                let mut stack = Pen::new();
-                stack.part_mut(0, ROOM).fill(PAINT);
-                stack
+                ROWS.map(|_| {
+                    let mut stack = Pen::new();
+                    stack.part_mut(0, ROOM).fill(PAINT);
+                    stack
+                })
             }),
         }
     }
 
-    /// Calls a C function with these words on the stack of an entry.
+    /// Calls a C function with these words on a stack of an entry.
     ///
     /// # Safety
     /// As of the function.
-    pub unsafe fn call(&mut self, entry: Entry, function: *const (), words: [u64; WORDS]) -> u64 {
-        let stack = &mut self.stacks[entry as usize];
+    pub unsafe fn call(
+        &mut self,
+        entry: Entry,
+        rows: Rows,
+        function: *const (),
+        words: [u64; WORDS],
+    ) -> u64 {
+        let stack = &mut self.stacks[entry as usize][rows as usize];
         let (first, others) = words.split_at(IN_REGISTERS);
         for (i, word) in others.iter().enumerate() {
             let bytes = stack.part_mut(ROOM + 8 * i, 8);
@@ -76,8 +96,8 @@ impl Stacks {
     }
 
     /// The most bytes that a call took of an entry's stack, from its return address down.
-    pub fn deepest(&self, entry: Entry) -> usize {
-        let bytes = self.stacks[entry as usize].part(0, ROOM);
+    pub fn deepest(&self, entry: Entry, rows: Rows) -> usize {
+        let bytes = self.stacks[entry as usize][rows as usize].part(0, ROOM);
         let paint = bytes.iter().take_while(|b| **b == PAINT).count();
         ROOM - paint
     }
@@ -111,26 +131,31 @@ pub unsafe fn call_here(function: *const (), words: [u64; WORDS]) -> u64 {
     entry(a, b, c, d, e, f, g, h, i, j, k, l, m, n)
 }
 
-/// What the header says that an entry takes: `STATION_NAME_STACK = 1024`.
-pub fn promised(entry: Entry) -> usize {
-    let name = format!("STATION_{}_STACK = ", entry.name().to_uppercase());
-    let (_, rest) = HEADER
-        .split_once(&name)
-        .unwrap_or_else(|| panic!("{name}is not in station.h"));
-    let digits = rest.split(|c: char| !c.is_ascii_digit()).next();
-    digits
-        .and_then(|digits| digits.parse().ok())
-        .unwrap_or_else(|| panic!("{name}has no number in station.h"))
+/// What the header says that an entry takes: `STATION_NAME_STACK = 1024`, and where few rows take less,
+/// `STATION_NAME_STACK_512 = 512`.
+pub fn promised(entry: Entry, rows: Rows) -> usize {
+    let name = format!("STATION_{}_STACK", entry.name().to_uppercase());
+    let any = figure(&name).unwrap_or_else(|| panic!("{name} has no number in station.h"));
+    match rows {
+        Rows::Few => figure(&format!("{name}_{FEW_ROWS}")).unwrap_or(any),
+        Rows::Any => any,
+    }
 }
 
-/// Whether the README says the same: a row of a table, `| `name` | 1,024 |`.
+/// The number of an enumerator of the header.
+fn figure(name: &str) -> Option<usize> {
+    let (_, rest) = HEADER.split_once(&format!(" {name} = "))?;
+    let digits = rest.split(|c: char| !c.is_ascii_digit()).next();
+    digits?.parse().ok()
+}
+
+/// Whether the README says the same: a row of a table, `| `name` | 512 | 1,024 |`.
 pub fn is_in_readme(entry: Entry) -> bool {
-    let bytes = promised(entry);
-    let bytes = match bytes {
-        0..1000 => bytes.to_string(),
-        _ => format!("{},{:03}", bytes / 1000, bytes % 1000),
-    };
-    README.contains(&format!("| `{}` | {bytes} |", entry.name()))
+    let [few, any] = ROWS.map(|rows| match promised(entry, rows) {
+        bytes @ 0..1000 => bytes.to_string(),
+        bytes => format!("{},{:03}", bytes / 1000, bytes % 1000),
+    });
+    README.contains(&format!("| `{}` | {few} | {any} |", entry.name()))
 }
 
 #[cfg(test)]
@@ -190,22 +215,22 @@ mod tests {
         // SAFETY: `deep` takes any words.
         unsafe {
             assert_eq!(call_here(function, WORDS_OF_DEEP), SUM);
-            assert_eq!(stacks.deepest(Entry::Decode), 0);
-            assert_eq!(stacks.call(Entry::Decode, function, WORDS_OF_DEEP), SUM);
-            let little = stacks.deepest(Entry::Decode);
+            let mut call = |rows, words| stacks.call(Entry::Decode, rows, function, words);
+            assert_eq!(call(Rows::Few, WORDS_OF_DEEP), SUM);
+            assert_eq!(call(Rows::Any, much), SUM + 1);
+            assert_eq!(call(Rows::Any, WORDS_OF_DEEP), SUM);
+            let [little, more] = ROWS.map(|rows| stacks.deepest(Entry::Decode, rows));
             assert!((5_000..5_500).contains(&little), "{little}");
-            assert_eq!(stacks.call(Entry::Decode, function, much), SUM + 1);
-            assert_eq!(stacks.call(Entry::Decode, function, WORDS_OF_DEEP), SUM);
-            let more = stacks.deepest(Entry::Decode);
             assert!((50_000..50_500).contains(&more), "{more}");
-            assert_eq!(stacks.deepest(Entry::Encode), 0);
+            assert_eq!(stacks.deepest(Entry::Encode, Rows::Any), 0);
         }
     }
 
     #[test]
     fn every_entry_has_a_figure() {
         for entry in ENTRIES {
-            assert!(promised(entry) > 0 && is_in_readme(entry));
+            assert!(promised(entry, Rows::Few) > 0 && is_in_readme(entry));
+            assert!(promised(entry, Rows::Few) <= promised(entry, Rows::Any));
         }
     }
 }

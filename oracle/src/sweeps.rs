@@ -7,6 +7,7 @@ use crate::judge::Judge;
 use crate::make::{self, Nulls};
 use crate::model::{MAX_COLUMNS, MAX_ROWS, MAX_TOTAL};
 use crate::rng::Rng;
+use crate::stack::FEW_ROWS;
 use crate::table::Table;
 
 /// Every kind, option, pattern of nulls and row count: tables of one column. Unless `tall`, the row
@@ -84,14 +85,16 @@ pub fn tables(judge: &mut Judge, rng: &mut Rng, count: usize) {
     }
 }
 
-/// As many rows as there may be, of sixteen kinds together and of all in two tables, and of as many columns as there may be: what
-/// every entry takes of its stack then is seen in the end ([`crate::stack`]).
+/// As many rows as there may be, of sixteen kinds together and of all in two tables, and of as many columns as there may be, and then
+/// as few as take less of the stack: what every entry takes of it is seen in the end ([`crate::stack`]).
 pub fn full(judge: &mut Judge, rng: &mut Rng) {
     for options in [0, 7, 9, 14] {
         judge.progress("4,096 rows", options as usize, 16);
         for (first, count) in [(1, 16), (3, 16), (1, MAX_COLUMNS)] {
             let columns = make::columns_from(first, count, options);
-            judge.table(&make::table_of(rng, MAX_ROWS as usize, columns));
+            for rows in [MAX_ROWS, FEW_ROWS] {
+                judge.table(&make::table_of(rng, rows as usize, columns.clone()));
+            }
         }
     }
 }

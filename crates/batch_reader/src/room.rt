@@ -9,9 +9,9 @@ ghost use Rattle.format.specs.Schemas.{Limited, colsOf};
 ghost use Rattle.format.specs.Sheet.{layout, layoutFor};
 ghost use Rattle.format.specs.Cleared.{frame};
 ghost use Rattle.batch_reader.specs.Batch.{widestFrame};
+use column_facts::width;
 use format::Kind;
 use format::Schema;
-use format::width;
 
 // Of a column: validity, and the packed bits, the values or the ends.
 fn frame_bytes(kind: Kind, n: usize) -> usize

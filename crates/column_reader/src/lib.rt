@@ -5,6 +5,7 @@ ghost use Rattle.format.specs.Limits.{maxColumns};
 ghost use Rattle.format.specs.Schemas.{noColumn};
 ghost use Rattle.format.specs.Described.{held, heldFault, described};
 ghost use Rattle.list_reader.specs.Listing.{ListedAs, OfArray, Used};
+use column_facts::no_column;
 use descriptions::check_numbers;
 use descriptions::held_width;
 use descriptions::kind_number;
@@ -12,7 +13,6 @@ use descriptions::options_number;
 use format::Check;
 use format::Column;
 use format::Refusal;
-use format::no_column;
 use list_reader::Listed;
 use list_reader::answered;
 

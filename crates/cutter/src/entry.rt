@@ -9,6 +9,7 @@ use crate::Place;
 use crate::place_of;
 use crate::rule::keeps;
 use crate::walk::walk;
+use column_facts::no_column;
 use format::Answer;
 use format::Check;
 use format::Cutter;
@@ -17,7 +18,6 @@ use format::Refusal;
 use format::RowFault;
 use format::Schema;
 use format::Spot;
-use format::no_column;
 use list_reader::Listed;
 
 // A refused state holds its refusal and nothing else.

@@ -12,7 +12,9 @@ ghost use Rattle.format.specs.CutterRule.{within as withinOf, mayFold, columnKe
 ghost use Rattle.cutter.specs.Places.{standingAt, isVariable, Small};
 ghost use Rattle.cutter.specs.Sums.{Summed, sumsMost};
 use crate::Sums;
+use answers::refusal_numbers;
 use blocks::block_size;
+use column_facts::width;
 use cutter_moves::bytes_before;
 use format::Check;
 use format::Column;
@@ -24,8 +26,6 @@ use format::MAX_WIDTH;
 use format::Refusal;
 use format::Schema;
 use format::Spot;
-use format::refusal_numbers;
-use format::width;
 
 // The longest field: that of 65,535 variable bytes.
 const MAX_FIELD: u64 = 67588;

@@ -4,12 +4,12 @@ ghost use Rattle.format.specs.Kinds.{shape, variable};
 ghost use Rattle.format.specs.Cutter.{turn, leadMove};
 ghost use Rattle.cutter_moves.specs.Moves.{asMove, fixedLead};
 use crate::Moved;
+use column_facts::null_lead;
+use column_facts::width;
 use format::Kind;
 use format::RowFault;
 use format::SortOptions;
 use format::Spot;
-use format::null_lead;
-use format::width;
 
 // Under descending a byte is read inverted back.
 pub fn turned(options: SortOptions, byte: u8) -> u8

@@ -4,10 +4,10 @@ ghost use mathlib.Core.Path.{_≡_};
 ghost use Rattle.format.specs.Kinds.{columnShape};
 ghost use Rattle.format.specs.Cutter.{move as moveOf};
 ghost use Rattle.cutter_moves.specs.Moves.{asMove, Stood};
+use column_facts::width;
 use format::Column;
 use format::RowFault;
 use format::Spot;
-use format::width;
 
 mod block;
 mod lead;

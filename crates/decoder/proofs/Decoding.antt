@@ -25,7 +25,7 @@ use Rattle.list_reader.specs.declared.Listed.{Listed}
 use Rattle.row_reader.specs.declared.Checked.{Checked}
 use Rattle.batch_reader.specs.Batch.{Checks}
 use Rattle.sheet_writer.specs.declared.Written.{Written}
-use Rattle.sheet_writer.specs.Cursors.{Clears}
+use Rattle.sheet_writer.specs.Writing.{Clears}
 use Rattle.checks.specs.Begun.{Begun}
 use Rattle.checks.proofs.Begun.{both-grouped}
 use Rattle.decoder.specs.Decoding.{sheetRoomFault, SheetReady, SheetLeft}

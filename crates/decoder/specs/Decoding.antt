@@ -11,7 +11,7 @@ use Rattle.format.specs.Check.{failIf}
 use Rattle.format.specs.Schemas.{colsOf}
 use Rattle.format.specs.Sheet.{nulls}
 use Rattle.format.specs.Entries.{cutRows, rowsSlots, decodedSheet, written}
-use Rattle.sheet_writer.specs.Cursors.{Decodable}
+use Rattle.sheet_writer.specs.Writing.{Decodable}
 
 -- 24
 abbrev pub sheetRoomFault : ℕ → ℕ → Check

@@ -145,7 +145,7 @@ pub fn held_width(kind: Kind) -> usize
     ensures { λ r. ⌜ r ≡ heldWidth kind ⌝ }
 {
     if kind_number(kind) == 15 {
-        return format::width(kind);
+        return column_facts::width(kind);
     }
     0
 }

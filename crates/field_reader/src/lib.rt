@@ -6,10 +6,10 @@ ghost use Rattle.format.specs.Sheet.{layout};
 ghost use Rattle.format.specs.Read.{fieldRead, readField};
 ghost use Rattle.format.specs.Cleared.{slotLength, added};
 ghost use Rattle.field_reader.specs.Counts.{Counts};
+use column_facts::width;
 use format::Column;
 use format::FieldRead;
 use format::Kind;
-use format::width;
 use variable_reader::Short;
 
 // The field in front of a row.

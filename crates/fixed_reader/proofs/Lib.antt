@@ -3,8 +3,3 @@ pub mod Scan
 pub mod Reading
 pub mod Standing
 pub mod Beside
-pub mod Taking
-pub mod Parts
-pub mod Words
-pub mod DecodeArms
-pub mod Storing

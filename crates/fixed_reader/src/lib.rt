@@ -1,18 +1,9 @@
-// The fields of the fixed kinds, read and decoded (fixed.rs of the Rust): 01 and the value bytes, or the null byte and zeros to
-// the same length.
+// The fields of the fixed kinds, read (fixed.rs of the Rust): 01 and the value bytes, or the null byte and zeros to the same length.
 //
-//     row 01 7F FF    descending 01 80 00    i16 -1    sheet FF FF
+//     row 01 7F FF    descending 01 80 00    i16 -1
 //     row 00 00 00    descending 00 00 00    i16 null, first
-mod decoder;
-mod numbers;
 mod reader;
-mod slots;
 
-pub use decoder::decode;
-pub use decoder::decode_boolean;
 pub use reader::read;
 pub use reader::read_boolean;
 pub use reader::read_float;
-pub use slots::slot16;
-pub use slots::slot32;
-pub use slots::slot64;

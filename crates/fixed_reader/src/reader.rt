@@ -1,7 +1,6 @@
 // The field in front of a row: what it is, how long, or what is wrong with it. Total on any bytes.
 ghost use mathlib.Core.Path.{_≡_};
 ghost use mathlib.Core.Bool.{false};
-ghost use mathlib.Core.Logic.{_⊎_};
 ghost use Prim.Native.Nat.{_+_, _<_, _≤_};
 ghost use lib.ListN.{length, take, drop};
 ghost use Rattle.format.specs.Kinds.{Fixed, bool, float};
@@ -10,14 +9,15 @@ ghost use Rattle.format.specs.Fold.{folds, isFolded};
 ghost use Rattle.format.specs.Field.{directed};
 ghost use Rattle.format.specs.Read.{fieldRead, readFixed, readNull};
 ghost use Rattle.basics.specs.Wide.{WideShape};
-use crate::numbers::is_folded16;
-use crate::numbers::is_folded32;
-use crate::numbers::is_folded64;
+ghost use Rattle.number_reader.specs.Words.{WordWidth};
+use column_facts::null_lead;
 use format::FieldRead;
 use format::RowFault;
 use format::SortOptions;
-use format::null_lead;
 use number::directed8;
+use number_reader::is_folded16;
+use number_reader::is_folded32;
+use number_reader::is_folded64;
 
 // After the null byte: zeros, as many as a value has bytes.
 fn read_null(row: &[u8], width: usize) -> FieldRead
@@ -79,7 +79,7 @@ pub fn read_boolean(row: &[u8], options: SortOptions) -> FieldRead
 
 // Whether the float after a lead byte may stand in its column: any where the column does not fold, and else a folded one.
 fn may_stand(row: &[u8], width: usize, options: SortOptions) -> bool
-    requires { ⌜ (width ≡ 2) ⊎ ((width ≡ 4) ⊎ (width ≡ 8)) ⌝ }
+    requires { ⌜ WordWidth width ⌝ }
     requires { ⌜ 1 + width ≤ length (now row) ⌝ }
     ensures { λ r. ⌜ r ≡ isFolded (float width) (options .fold) (floatUnkey (directed (options .descending) (take width (drop 1 (now (row .entry)))))) ⌝ }
 {
@@ -98,7 +98,7 @@ fn may_stand(row: &[u8], width: usize, options: SortOptions) -> bool
 
 // A float: as its bytes, which are those of a folded one where the column folds.
 pub fn read_float(row: &[u8], width: usize, options: SortOptions) -> FieldRead
-    requires { ⌜ (width ≡ 2) ⊎ ((width ≡ 4) ⊎ (width ≡ 8)) ⌝ }
+    requires { ⌜ WordWidth width ⌝ }
     ensures { λ r. ⌜ r ≡ fieldRead (now (row .entry)) (readFixed (float width) options (now (row .entry))) ⌝ }
 {
     let field = read(row, width, options);

@@ -1,4 +1,3 @@
--- Laws of sorted entries, which the theorems on the joined order cite too; and what the check and the merge keep.
+-- Laws of sorted entries, which the theorems on the joined order cite too; and what the merge keeps.
 pub mod Sorting
 pub mod Turns
-pub mod Passes

@@ -1,8 +1,6 @@
-// Sorted batches of rows: the check that a pass is one, and two passes joined. Rows are compared as bytes, and not read as fields.
-mod check;
+// Sorted batches of rows: the check that a pass is one, passed on from crate `pass_checker`, and two passes joined. Rows are compared as bytes,
+// and not read as fields.
 mod merging;
-mod rows;
 
-pub use check::check_order;
-pub use check::check_pass;
 pub use merging::merge;
+pub use pass_checker::check_pass;

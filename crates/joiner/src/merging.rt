@@ -5,8 +5,8 @@ ghost use Rattle.format.specs.Lists.{over};
 ghost use Rattle.format.specs.Entries.{rowBytes, cutRows};
 ghost use Rattle.format.specs.Join.{joinOrder};
 ghost use Rattle.joiner.specs.Rows.{Joinable, secondNext};
-use crate::rows::row_below;
 use format::MAX_ROWS;
+use row_order::row_below;
 
 // Whether the next row of the order is row j of pass 1: it is where it is below row i of pass 0, and where only pass 1 has rows left.
 fn second_next(

@@ -19,7 +19,7 @@ pub fn put_answer(lent: &mut [u8], answer: Answer)
     requires { ⌜ answerRoom ≤ length (now lent) ⌝ }
     ensures { λ _. ⌜ now (lent .exit) ≡ over (numberBytes (numbersOf answer)) (now (lent .entry)) ⌝ }
 {
-    let numbers = format::numbers(answer);
+    let numbers = answers::numbers(answer);
     put64(lent, 0, numbers.0);
     put64(lent, 8, numbers.1);
     put64(lent, 16, numbers.2);

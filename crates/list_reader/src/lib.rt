@@ -6,6 +6,7 @@ ghost use lib.ListN.{length, getD};
 ghost use Rattle.format.specs.Columns.{descriptionBytes, widthAt, columnAt, descriptionFault};
 ghost use Rattle.format.specs.Described.{spelled};
 ghost use Rattle.list_reader.specs.Listing.{ListedAs};
+use column_facts::no_column;
 use descriptions::check_numbers;
 use descriptions::kind_of;
 use descriptions::options_of;
@@ -13,7 +14,6 @@ use format::Check;
 use format::Column;
 use format::Refusal;
 use format::Schema;
-use format::no_column;
 use runs::wide;
 
 // What a list says: its first fault, and the columns of one that has none.

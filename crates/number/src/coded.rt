@@ -5,8 +5,6 @@ ghost use Rattle.format.specs.Lists.{lowBytes};
 ghost use Rattle.number.specs.declared.Coding.the-variants.{Float};
 ghost use Rattle.number.specs.Codings.{codingKey, codingUnkey};
 use crate::Coding;
-use crate::codec;
-use crate::sign;
 
 // There is no float of eight bits.
 pub fn encode8(coding: Coding, x: u8) -> u8
@@ -15,7 +13,7 @@ pub fn encode8(coding: Coding, x: u8) -> u8
 {
     match coding {
         Coding::Unsigned => x,
-        Coding::Signed => codec::encode_i8(sign::signed8(x)),
+        Coding::Signed => codecs::encode_i8(signs::signed8(x)),
         // Not handed.
         Coding::Float => x,
     }
@@ -25,9 +23,9 @@ pub fn encode16(coding: Coding, x: u16) -> u16
     ensures { λ r. ⌜ lowBytes 2 r ≡ codingKey coding (lowBytes 2 x) ⌝ }
 {
     match coding {
-        Coding::Unsigned => codec::swap16(x),
-        Coding::Signed => codec::encode_i16(sign::signed16(x)),
-        Coding::Float => codec::encode_f16(x),
+        Coding::Unsigned => codecs::swap16(x),
+        Coding::Signed => codecs::encode_i16(signs::signed16(x)),
+        Coding::Float => codecs::encode_f16(x),
     }
 }
 
@@ -35,9 +33,9 @@ pub fn encode32(coding: Coding, x: u32) -> u32
     ensures { λ r. ⌜ lowBytes 4 r ≡ codingKey coding (lowBytes 4 x) ⌝ }
 {
     match coding {
-        Coding::Unsigned => codec::swap32(x),
-        Coding::Signed => codec::encode_i32(sign::signed32(x)),
-        Coding::Float => codec::encode_f32(x),
+        Coding::Unsigned => codecs::swap32(x),
+        Coding::Signed => codecs::encode_i32(signs::signed32(x)),
+        Coding::Float => codecs::encode_f32(x),
     }
 }
 
@@ -45,9 +43,9 @@ pub fn encode64(coding: Coding, x: u64) -> u64
     ensures { λ r. ⌜ lowBytes 8 r ≡ codingKey coding (lowBytes 8 x) ⌝ }
 {
     match coding {
-        Coding::Unsigned => codec::swap64(x),
-        Coding::Signed => codec::encode_i64(sign::signed64(x)),
-        Coding::Float => codec::encode_f64(x),
+        Coding::Unsigned => codecs::swap64(x),
+        Coding::Signed => codecs::encode_i64(signs::signed64(x)),
+        Coding::Float => codecs::encode_f64(x),
     }
 }
 
@@ -57,7 +55,7 @@ pub fn decode8(coding: Coding, x: u8) -> u8
 {
     match coding {
         Coding::Unsigned => x,
-        Coding::Signed => sign::pattern8(codec::decode_i8(x)),
+        Coding::Signed => signs::pattern8(codecs::decode_i8(x)),
         // Not handed.
         Coding::Float => x,
     }
@@ -67,9 +65,9 @@ pub fn decode16(coding: Coding, x: u16) -> u16
     ensures { λ r. ⌜ lowBytes 2 r ≡ codingUnkey coding (lowBytes 2 x) ⌝ }
 {
     match coding {
-        Coding::Unsigned => codec::swap16(x),
-        Coding::Signed => sign::pattern16(codec::decode_i16(x)),
-        Coding::Float => codec::decode_f16(x),
+        Coding::Unsigned => codecs::swap16(x),
+        Coding::Signed => signs::pattern16(codecs::decode_i16(x)),
+        Coding::Float => codecs::decode_f16(x),
     }
 }
 
@@ -77,9 +75,9 @@ pub fn decode32(coding: Coding, x: u32) -> u32
     ensures { λ r. ⌜ lowBytes 4 r ≡ codingUnkey coding (lowBytes 4 x) ⌝ }
 {
     match coding {
-        Coding::Unsigned => codec::swap32(x),
-        Coding::Signed => sign::pattern32(codec::decode_i32(x)),
-        Coding::Float => codec::decode_f32(x),
+        Coding::Unsigned => codecs::swap32(x),
+        Coding::Signed => signs::pattern32(codecs::decode_i32(x)),
+        Coding::Float => codecs::decode_f32(x),
     }
 }
 
@@ -87,8 +85,8 @@ pub fn decode64(coding: Coding, x: u64) -> u64
     ensures { λ r. ⌜ lowBytes 8 r ≡ codingUnkey coding (lowBytes 8 x) ⌝ }
 {
     match coding {
-        Coding::Unsigned => codec::swap64(x),
-        Coding::Signed => sign::pattern64(codec::decode_i64(x)),
-        Coding::Float => codec::decode_f64(x),
+        Coding::Unsigned => codecs::swap64(x),
+        Coding::Signed => signs::pattern64(codecs::decode_i64(x)),
+        Coding::Float => codecs::decode_f64(x),
     }
 }

@@ -8,11 +8,11 @@ ghost use Rattle.format.specs.Kinds.{valueBytes};
 ghost use Rattle.format.specs.Limits.{maxWidth};
 ghost use Rattle.format.specs.Schemas.{Limited, noColumn};
 ghost use Rattle.plain_fields.specs.Plain.{Lengthy};
+use column_facts::width;
 use format::Column;
 use format::Kind;
 use format::MAX_COLUMNS;
 use format::Schema;
-use format::width;
 
 // The length of such a field, and 0 for a column of bools, of variable bytes or of folded floats.
 fn plain_length(column: Column) -> usize

@@ -27,8 +27,8 @@ use Rattle.basics.proofs.Checks.{both-pass, answer-done}
 use Rattle.basics.proofs.Lists.{each-at, length-each}
 use Rattle.laws.proofs.Numbers.{numbers-injective}
 use Rattle.laws.proofs.ReadRow.{passed-row}
-use Rattle.searcher.specs.Shares.{Shares}
-use Rattle.searcher.proofs.Sharing.{shares}
+use Rattle.halves.specs.Shares.{Shares}
+use Rattle.halves.proofs.Sharing.{shares}
 use Rattle.plates.specs.Found.{Among, Found, Finds}
 use Rattle.plates.proofs.FirstFields.{key-shared, key-begins}
 use Rattle.plates.proofs.Plates.{accepted-values}

@@ -10,7 +10,7 @@ use Rattle.format.specs.Kinds.{Slot, columnShape}
 use Rattle.format.specs.Fold.{foldedSlot}
 use Rattle.format.specs.Field.{field, fieldLength}
 use Rattle.format.specs.Row.{row}
-use Rattle.format.specs.Sheet.{sheetSlots, slotsIn}
+use Rattle.format.specs.Sheet.{layout, slotAt, sheetSlots, slotsIn}
 use Rattle.format.specs.Schemas.{noColumn}
 use Rattle.format.specs.Entries.{sheetRows}
 use Rattle.basics.proofs.Bytes.{bytes-drop}
@@ -21,19 +21,10 @@ use Rattle.basics.proofs.Lists.{each-next, each-same, map-each}
 use Rattle.format.specs.Passed.{Stands}
 use Rattle.laws.proofs.Sheets.{slot-fits}
 use Rattle.sheet_reader.specs.declared.sheet.Facts.{Facts}
-use Rattle.sheet_reader.specs.Sheets.{noFacts, Known}
-use Rattle.sheet_reader.proofs.Values.{slotIn, foldedIn, slotOf, slots-known}
-
--- the field of row r in a column that stands at a place, as encode writes it
-abbrev pub fieldIn : ℕ → List ℕ → ℕ → Column → ℕ → List ℕ
-fieldIn n s r col at = field (columnShape col) (col .options) (foldedIn n s r col at)
-
--- the field of row r and column c, and row r, by the facts of the columns
-abbrev pub fieldAt : ℕ → List ℕ → List Facts → ℕ → ℕ → List ℕ
-fieldAt n s facts r c = fieldIn n s r (getD facts c noFacts .column) (getD facts c noFacts .base)
-
-abbrev pub rowAt : ℕ → List ℕ → List Facts → ℕ → ℕ → List ℕ
-rowAt n s facts count r = joined (each 0 count (fieldAt n s facts r))
+use Rattle.sheet_reader.specs.Sheets.{Known}
+use Rattle.sheet_reader.proofs.Values.{slotOf, slots-known}
+use Rattle.chunk_writer.specs.Cursors.{slotField}
+use Rattle.row_writer.specs.Rows.{rowAt}
 
 -- ---- a row, field by field
 
@@ -58,11 +49,10 @@ module _ (n : ℕ) (cols : List Column) (s : List ℕ) (facts : List Facts) (k :
   pub rows-known : sheetRows n cols s ≡ each 0 n (rowAt n s facts (length cols))
   rows-known = map-each (row cols) 0 n (slotsIn (sheetSlots n cols s)) ∙ each-same 0 n _ _ (λ r a b. row-known r (omega arith))
 
--- ---- the field of row r in a column that stands at a place
-module _ (n c r at : ℕ) (col : Column) (s : List ℕ) (g : Stands col n c at s) where
-  -- it is as long as the table says
-  pub field-long : Bytes s → r < n → length (fieldIn n s r col at) ≡ fieldLength (columnShape col) (slotIn n s r col at)
-  field-long b l =
-      length-field (columnShape col) (col .options) (foldedSlot (columnShape col) (col .options) (slotIn n s r col at))
-      (slot-fits (columnShape col) (col .options) n c (drop at s) (foldable (col .kind)) (bytes-drop at s b) (g .passes) r l)
-      ∙ fold-length (columnShape col) (col .options) (slotIn n s r col at)
+-- ---- the field of row r in a column that stands at a place is as long as the table says
+pub field-long : (n c r at : ℕ) (col : Column) (s : List ℕ) → Stands col n c at s → Bytes s → r < n
+    → length (slotField col n (drop at s) r) ≡ fieldLength (columnShape col) (slotAt (layout col) n (drop at s) r)
+field-long n c r at col s g b l =
+    length-field (columnShape col) (col .options) (foldedSlot (columnShape col) (col .options) (slotAt (layout col) n (drop at s) r))
+    (slot-fits (columnShape col) (col .options) n c (drop at s) (foldable (col .kind)) (bytes-drop at s b) (g .passes) r l)
+    ∙ fold-length (columnShape col) (col .options) (slotAt (layout col) n (drop at s) r)

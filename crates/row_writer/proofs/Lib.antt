@@ -1,5 +1,7 @@
--- What the proofs of this crate share: fields by the kind of their column, the fields of a row by the facts of its columns, and
--- what holds at the head of the loop over rows.
-pub mod Values
+-- What the proofs of this crate share: the fields of a row by the facts of its columns, where rows begin, rows side by side, and what holds
+-- at the heads of the loops.
 pub mod Fields
-pub mod Turns
+pub mod Summing
+pub mod Side
+pub mod Chunk
+pub mod Final

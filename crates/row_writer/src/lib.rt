@@ -1,4 +1,5 @@
-// Encode's writing walk: the rows of a checked sheet, one after the other, and the offsets between them.
+// Encode's writing walk: the rows of a checked sheet, and the offsets between them. The offsets first hold where each row begins; the
+// rows are then written side by side, and each offset moves on to its row's end.
 ghost use mathlib.Core.Path.{_≡_};
 ghost use Prim.Native.Nat.{_<_, _≤_};
 ghost use lib.ListN.{length};
@@ -8,11 +9,13 @@ ghost use Rattle.format.specs.Lists.{joined, endsFrom};
 ghost use Rattle.format.specs.Schemas.{colsOf};
 ghost use Rattle.format.specs.Entries.{sheetRows, sheetTotal};
 ghost use Rattle.sheet_reader.specs.Sheets.{Known};
-use crate::field::put_field;
+use crate::chunks::write_chunks;
+use crate::starts::write_starts;
 use format::Schema;
 use sheet_reader::sheet::Facts;
 
-mod field;
+mod chunks;
+mod starts;
 
 // The rows of a sheet whose columns are known by their facts, and the offsets: where each row begins, and the last one's end.
 pub fn write_rows(
@@ -32,18 +35,10 @@ pub fn write_rows(
     ensures { λ _. ⌜ now (offsets .exit) ≡ sets (now (offsets .entry)) 0 (endsFrom 0 (sheetRows n (colsOf schema) (now (sheet .entry)))) ⌝ }
 {
     let count = schema.count;
-    let mut at: usize = 0;
-    let mut r: usize = 0;
-    while r < n {
-        offsets[r] = at as u64;
-        let mut c: usize = 0;
-        while c < count {
-            let f = facts[c];
-            let base = f.base;
-            at = put_field(&sheet[base..], n, r, f.column, rows, at);
-            c += 1;
-        }
-        r += 1;
+    offsets[0] = 0;
+    if n == 0 {
+        return;
     }
-    offsets[n] = at as u64;
+    write_starts(count, n, sheet, facts, offsets);
+    write_chunks(count, n, sheet, facts, rows, offsets);
 }

@@ -25,8 +25,8 @@ use Rattle.list_reader.specs.Listing.{ListedAs, Sound}
 use Rattle.list_reader.proofs.Schemas.{sound}
 use Rattle.checks.proofs.Begun.{both-grouped}
 use Rattle.joiner.specs.Rows.{Sorted}
-use Rattle.searcher.specs.declared.halves.Found.{Found}
-use Rattle.searcher.specs.Turns.{Finds}
+use Rattle.halves.specs.declared.Found.{Found}
+use Rattle.halves.specs.Turns.{Finds}
 
 -- a batch of which nothing is refused is sorted
 pub sorted-passed : (schema : Schema) (n : ℕ) (rows offsets : List ℕ) → sortedFault (colsOf schema) n rows offsets ≡ Pass → Sorted 0 n rows offsets

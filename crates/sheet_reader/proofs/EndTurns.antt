@@ -1,14 +1,18 @@
--- The loop of `check_ends`: what holds at its head, and what each way out of a turn gives. Assumes nothing.
-use Prim.Native.Nat.{ℕ, suc, _+_, _-_, _<_, _≤_}
-use mathlib.Core.Path.{_≡_, sym, ap, _∙_}
+-- The loops over ends: what holds at their heads, and what each way out of a turn gives. Assumes nothing.
+use Prim.Native.Nat.{ℕ, zero, suc, _+_, _-_, _*_, _/_, _%_, _^_, _<_, _≤_}
+use mathlib.Core.Path.{_≡_, refl, sym, ap, _∙_, subst}
+use mathlib.Core.Logic.{_⊎_, inl, inr}
 use mathlib.Core.List.{List}
 use native.Mathlib.Numerals.{add-one}
 use native.Mathlib.Omega.{arith}
 use borrow.Author.Tests.{lt-ltb, le-ltb}
 use Rattle.format.specs.declared.Refusal.the-variants.{Ends, LongSlot}
 use Rattle.format.specs.declared.Check.the-variants.{Pass, Refuse}
-use Rattle.format.specs.Limits.{maxSlot}
+use Rattle.format.specs.Limits.{maxRows, maxSlot}
+use Rattle.format.specs.Passed.{Step}
 use Rattle.format.specs.Sheet.{end, endsFault}
+use Rattle.basics.proofs.Compare.{choose}
+use Rattle.sheet_reader.specs.Sheets.{Steps}
 
 -- ---- one turn of the definition
 fall : (c : ℕ) (s : List ℕ) (i k : ℕ) → end s (suc i) < end s i → endsFault c s i (suc k) ≡ Refuse (Ends c i)
@@ -58,3 +62,47 @@ module _ (c : ℕ) (s : List ℕ) (n row last next : ℕ) (t : Turn c s n row la
     says = ap (λ (j : ℕ). endsFault c s j (n - (row + 1))) (add-one row)
         ∙ sym (pass c s row (n - (row + 1)) (rw (end-next, t .ends) at g) (rw (end-next, t .ends) at h)) ∙ from;
   }
+
+-- ---- the sum of what the steps have beyond the limit
+
+-- ends that all step so pass
+pass-from : (c : ℕ) (s : List ℕ) (k i : ℕ) → ((j : ℕ) → i ≤ j → j < i + k → Step s j) → endsFault c s i k ≡ Pass
+pass-from c s zero i h = refl
+pass-from c s (suc k) i h =
+    let t = h i (omega arith) (omega arith) in
+    pass c s i k (t .rises) (t .short) ∙ pass-from c s k (suc i) (λ j p q. h j (omega arith) (omega arith))
+
+pub steps-pass : (c : ℕ) (s : List ℕ) (n : ℕ) → Steps n s → endsFault c s 0 n ≡ Pass
+steps-pass c s n h = pass-from c s n 0 (λ j p q. h j (omega arith))
+
+-- at the head of a turn: a sum of 0 says that the rows so far do
+pub record Sum (s : List ℕ) (n row excess : ℕ) : Type 0 where
+  pub here : row ≤ n
+  pub small : excess ≤ row * 281474976710656
+  pub says : excess ≡ 0 → Steps row s
+
+pub sum-start : (s : List ℕ) (n : ℕ) → Sum s n 0 0
+sum-start s n = record { here = omega arith; small = omega arith; says = λ e j l. absurd (omega arith) }
+
+-- it goes into a word
+pub sum-fits : {s : List ℕ} {n row excess : ℕ} → Sum s n row excess → n ≤ maxRows → excess < 2 ^ 64
+sum-fits t h = omega (arith, t .here, t .small)
+
+module _ (s : List ℕ) (n row excess last next step : ℕ) (t : Sum s n row excess) (l : row < n) (e : last ≡ end s row) (f : next ≡ end s (row + 1))
+    (b : last < 4294967296) (w : (step + last) % 2 ^ 64 ≡ next) (m : step < 2 ^ 64) where
+  stepped : step / 2 ^ 16 ≡ 0 → Step s row
+  stepped z =
+      let is : step + last ≡ next = omega (arith, w, z, b) in
+      let after : next ≡ end s (suc row) = rw add-one at f in
+      record { rises = omega (arith, is, e, after); short = omega (arith, is, e, after, z) }
+
+  pub sum-more : Sum s n (row + 1) (excess + step / 2 ^ 16)
+  sum-more = record {
+    here = omega arith;
+    small = omega (arith, t .small, m);
+    says = λ z j h. go z j (choose j row) h;
+  }
+    where
+      go : excess + step / 2 ^ 16 ≡ 0 → (j : ℕ) → (j < row) ⊎ (row ≤ j) → j < row + 1 → Step s j
+      go z j (inl p) h = t .says (omega (arith, z)) j p
+      go z j (inr p) h = subst (Step s) (let same : row ≡ j = omega (arith, p, h) in same) (stepped (omega (arith, z)))

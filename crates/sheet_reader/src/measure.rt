@@ -24,7 +24,7 @@ use format::Schema;
 const NULL_LENGTH: u64 = 1;
 
 // The length of the field of a row in the column of variable bytes in front of the part: 1 for a null, and that of its value.
-fn variable_length(part: &[u8], n: usize, row: usize) -> u64
+pub fn variable_length(part: &[u8], n: usize, row: usize) -> u64
     requires { ⌜ (n ≤ maxRows) × (row < n) ⌝ }
     requires { ⌜ Passes (λ c. columnFault false ended n c (now part)) ⌝ }
     ensures { λ r. ⌜ r ≡ variableLength n (now (part .entry)) row ⌝ }
@@ -64,7 +64,7 @@ fn measure_column(column: Column, part: &[u8], n: usize) -> u64
     let kind = column.kind;
     match kind {
         Kind::Variable => measure_variable(part, n),
-        _ => (n * (1 + format::width(kind))) as u64,
+        _ => (n * (1 + column_facts::width(kind))) as u64,
     }
 }
 

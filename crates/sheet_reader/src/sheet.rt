@@ -9,14 +9,15 @@ ghost use Rattle.format.specs.Kinds.{valueBytes, shape};
 ghost use Rattle.format.specs.Sheet.{Layout, layoutFor, packed as packedFor, spareSet, bitsFault, requiredFault, end, endsFault, variableFault, valuesFault, valuesBytes, layout, columnFault, columnBytes, columnSlots, nullsIn};
 ghost use Rattle.format.specs.Check.{both};
 ghost use Rattle.format.specs.Schemas.{colsOf, Limited};
-ghost use Rattle.sheet_reader.specs.Sheets.{SheetedAs};
+ghost use Rattle.sheet_reader.specs.Sheets.{SheetedAs, Steps};
 use bits::packed;
+use column_facts::no_column;
 use format::Check;
 use format::Column;
 use format::Kind;
 use format::Refusal;
 use format::Schema;
-use format::no_column;
+use std::num::wrapping_sub_u64;
 
 // What is known of a checked column: what it is, and where it stands in the sheet.
 pub struct Facts {
@@ -78,8 +79,26 @@ pub fn end_at(part: &[u8], i: usize) -> usize
     number::low32(part, 4 * i) as usize
 }
 
-// The ends of n rows, row by row: 9, 10.
-fn check_ends(part: &[u8], n: usize, c: usize) -> Check
+// How far the ends of n rows step beyond the limit, in sum: 0 where none falls and no slot is too long. No turn leaves the loop, so that
+// the compiler can take several ends in one.
+fn ends_excess(part: &[u8], n: usize) -> u64
+    requires { ⌜ n ≤ maxRows ⌝ }
+    requires { ⌜ 4 * suc n ≤ length (now part) ⌝ }
+    ensures { λ r. ⌜ (r ≡ 0 → Steps n (now (part .entry))) ⌝ }
+{
+    let mut excess: u64 = 0;
+    let mut row: usize = 0;
+    while row < n {
+        let last = end_at(part, row) as u64;
+        let next = end_at(part, row + 1) as u64;
+        excess += wrapping_sub_u64(next, last) >> 16;
+        row += 1;
+    }
+    excess
+}
+
+// The first fault of the ends of n rows, row by row: 9, 10.
+fn find_ends_fault(part: &[u8], n: usize, c: usize) -> Check
     requires { ⌜ 4 * suc n ≤ length (now part) ⌝ }
     ensures { λ r. ⌜ r ≡ endsFault c (now (part .entry)) 0 n ⌝ }
 {
@@ -97,6 +116,18 @@ fn check_ends(part: &[u8], n: usize, c: usize) -> Check
         row += 1;
     }
     Check::Pass
+}
+
+// The ends of n rows: 9, 10. Where something is wrong, it is looked for row by row.
+fn check_ends(part: &[u8], n: usize, c: usize) -> Check
+    requires { ⌜ n ≤ maxRows ⌝ }
+    requires { ⌜ 4 * suc n ≤ length (now part) ⌝ }
+    ensures { λ r. ⌜ r ≡ endsFault c (now (part .entry)) 0 n ⌝ }
+{
+    if ends_excess(part, n) == 0 {
+        return Check::Pass;
+    }
+    find_ends_fault(part, n, c)
 }
 
 // Variable bytes: ends cut 7, row by row 9, 10, then bytes 7; the first end is any.
@@ -128,7 +159,7 @@ fn check_values(kind: Kind, part: &[u8], n: usize, c: usize) -> Check
         Kind::Bool => check_bits(part, n, c),
         Kind::Variable => check_variable(part, n, c),
         _ => {
-            if part.len() < n * format::width(kind) {
+            if part.len() < n * column_facts::width(kind) {
                 return Check::Refuse(Refusal::ColumnCut(c));
             }
             Check::Pass
@@ -163,7 +194,7 @@ fn values_bytes(kind: Kind, part: &[u8], n: usize) -> usize
     match kind {
         Kind::Bool => packed(n),
         Kind::Variable => 4 * (n + 1) + end_at(part, n),
-        _ => n * format::width(kind),
+        _ => n * column_facts::width(kind),
     }
 }
 

@@ -15,13 +15,16 @@ use Rattle.bits.specs.Ones.{onesIn}
 use Rattle.bits.proofs.Bits.{length-pack}
 use Rattle.basics.specs.Wide.{WideKind}
 use Rattle.basics.proofs.Bytes.{bytes-drop}
-use Rattle.sheet_writer.specs.declared.flags.Flag.{Flag}
-use Rattle.sheet_writer.specs.declared.flags.Flag.the-variants.{Valid, True}
-use Rattle.sheet_writer.specs.Cursors.{cursorSlot, nextAt, Readable, cursorSlots, nextsAt, flagAt, flagsAt}
-use Rattle.sheet_writer.specs.Cursors.{valuesAt, widesAt, variableColumn, endsAt, dataAt}
+use Rattle.flag_packer.specs.declared.Flag.{Flag}
+use Rattle.flag_packer.specs.declared.Flag.the-variants.{Valid, True}
+use Rattle.cursors.specs.Cursors.{cursorSlot, nextAt, Readable, cursorSlots, nextsAt}
+use Rattle.flag_packer.specs.Flags.{flagAt, flagsAt}
+use Rattle.cursors.specs.Cursors.{widesAt}
+use Rattle.end_mover.specs.Ends.{variableColumn, endsAt, dataAt}
+use Rattle.sheet_writer.specs.Writing.{valuesAt}
 use Rattle.basics.proofs.Sorts.{wide-layout}
-use Rattle.sheet_writer.proofs.Lead.{Whole, whole, inside}
-use Rattle.sheet_writer.proofs.Maps.{map-same}
+use Rattle.cursors.proofs.Lead.{Whole, whole, inside}
+use Rattle.cursors.proofs.Maps.{map-same}
 use Rattle.sheet_writer.proofs.Ones.{ones-nulls}
 
 module _ (col : Column) (rows cursors : List ℕ) where

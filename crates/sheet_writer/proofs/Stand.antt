@@ -30,11 +30,13 @@ use Rattle.laws.proofs.ReadRow.{passed-row}
 use Rattle.basics.proofs.Checks.{both-pass}
 use Rattle.basics.proofs.Lists.{Every, every-at, each-is}
 use Rattle.laws.proofs.Turned.{turned-tails}
-use Rattle.sheet_writer.specs.declared.flags.Flag.the-variants.{Valid}
-use Rattle.sheet_writer.specs.Cursors.{AllFields, Clears, Fields, Readable, cursorField, cursorSlots, flagsAt, nextAt, nextsAt, slotsToCome, valuesAt}
-use Rattle.sheet_writer.proofs.Maps.{at-map, map-same}
+use Rattle.flag_packer.specs.declared.Flag.the-variants.{Valid}
+use Rattle.cursors.specs.Cursors.{Readable, cursorField, cursorSlots, nextAt, nextsAt}
+use Rattle.flag_packer.specs.Flags.{flagsAt}
+use Rattle.sheet_writer.specs.Writing.{AllFields, Clears, Fields, slotsToCome, valuesAt}
+use Rattle.cursors.proofs.Maps.{at-map, map-same}
 use Rattle.sheet_writer.proofs.Parts.{column-is, validity-nulls}
-use Rattle.sheet_writer.proofs.Wrotes.{wrote-whole}
+use Rattle.cursors.proofs.Wrotes.{wrote-whole}
 
 -- the slots of the columns to come, from a cursor on
 abbrev slotsFrom : List Column → List ℕ → ℕ → List Slot

@@ -6,18 +6,19 @@ ghost use Rattle.basics.specs.Wrote.{Wrote};
 ghost use Rattle.format.specs.Limits.{maxRows};
 ghost use Rattle.format.specs.Schemas.{colsOf};
 ghost use Rattle.format.specs.Entries.{cutRows, rowsSlots};
-ghost use Rattle.sheet_writer.specs.Cursors.{Clears, Decodable, Readable, Writable, nextsAt, slotsToCome, valuesAt};
+ghost use Rattle.cursors.specs.Cursors.{Readable, nextsAt};
+ghost use Rattle.sheet_writer.specs.Writing.{Clears, Decodable, Writable, slotsToCome, valuesAt};
 use crate::Written;
-use crate::ended::move_ended;
-use crate::flags::Flag;
-use crate::flags::pack;
-use crate::values::advance;
-use crate::words::move_wide;
 use bits::count_ones;
+use end_mover::move_ended;
+use flag_packer::Flag;
+use flag_packer::pack;
 use format::Column;
 use format::Kind;
 use format::MAX_ROWS;
 use format::Schema;
+use value_mover::advance;
+use value_mover::move_wide;
 
 // The values of a column, by their layout, and its cursors past the fields.
 fn write_values(

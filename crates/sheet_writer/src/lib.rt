@@ -3,10 +3,6 @@
 // them. Every part of a column is appended at a place of the sheet, and the place after it is returned. The ones of the
 // validity that was written give the null total.
 mod columns;
-mod ended;
-mod flags;
-mod values;
-mod words;
 
 pub use columns::write_sheet;
 

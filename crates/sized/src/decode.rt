@@ -1,4 +1,5 @@
-// Decode with the smallest array of numbers that will do: each size has a function of its own, so that a call clears no more.
+// Decode with the smallest array of numbers that will do: each size has a function of its own, so that a call clears no more. Six tests stand
+// before the arrays of more than 513, so that the optimiser takes these calls for rare and leaves the arrays out of the caller's frame.
 ghost use Prim.Native.Nat.{_+_, _*_, _≤_};
 ghost use lib.ListN.{length};
 ghost use Rattle.format.specs.Limits.{maxRows};
@@ -52,7 +53,7 @@ fn decode_lent(
 }
 
 // The same in an array of 9 numbers.
-fn decode_few(
+fn decode_9(
     listed: Listed,
     n: u64,
     rows: &[u8],
@@ -70,8 +71,27 @@ fn decode_few(
     decode_lent(listed, n, rows, offsets, sheet, answer, &mut numbers, k);
 }
 
+// The same in an array of 33 numbers.
+fn decode_33(
+    listed: Listed,
+    n: u64,
+    rows: &[u8],
+    offsets: &[u8],
+    sheet: &mut [u8],
+    answer: &mut [u8],
+    k: usize,
+)
+    requires { ⌜ Ready listed n (now offsets) (now answer) k ⌝ }
+    requires { ⌜ k ≤ 33 ⌝ }
+    ensures { λ _. ⌜ OfEach listed (λ list. LentDecoded list n (now (rows .entry)) (now (offsets .entry)) (now (sheet .entry)) (now (answer .entry))
+        (now (sheet .exit)) (now (answer .exit))) ⌝ }
+{
+    let mut numbers = [0u64; 33];
+    decode_lent(listed, n, rows, offsets, sheet, answer, &mut numbers, k);
+}
+
 // The same in an array of 65 numbers.
-fn decode_some(
+fn decode_65(
     listed: Listed,
     n: u64,
     rows: &[u8],
@@ -89,8 +109,27 @@ fn decode_some(
     decode_lent(listed, n, rows, offsets, sheet, answer, &mut numbers, k);
 }
 
+// The same in an array of 129 numbers.
+fn decode_129(
+    listed: Listed,
+    n: u64,
+    rows: &[u8],
+    offsets: &[u8],
+    sheet: &mut [u8],
+    answer: &mut [u8],
+    k: usize,
+)
+    requires { ⌜ Ready listed n (now offsets) (now answer) k ⌝ }
+    requires { ⌜ k ≤ 129 ⌝ }
+    ensures { λ _. ⌜ OfEach listed (λ list. LentDecoded list n (now (rows .entry)) (now (offsets .entry)) (now (sheet .entry)) (now (answer .entry))
+        (now (sheet .exit)) (now (answer .exit))) ⌝ }
+{
+    let mut numbers = [0u64; 129];
+    decode_lent(listed, n, rows, offsets, sheet, answer, &mut numbers, k);
+}
+
 // The same in an array of 513 numbers.
-fn decode_more(
+fn decode_513(
     listed: Listed,
     n: u64,
     rows: &[u8],
@@ -108,8 +147,27 @@ fn decode_more(
     decode_lent(listed, n, rows, offsets, sheet, answer, &mut numbers, k);
 }
 
+// The same in an array of 2,049 numbers.
+fn decode_2049(
+    listed: Listed,
+    n: u64,
+    rows: &[u8],
+    offsets: &[u8],
+    sheet: &mut [u8],
+    answer: &mut [u8],
+    k: usize,
+)
+    requires { ⌜ Ready listed n (now offsets) (now answer) k ⌝ }
+    requires { ⌜ k ≤ 2049 ⌝ }
+    ensures { λ _. ⌜ OfEach listed (λ list. LentDecoded list n (now (rows .entry)) (now (offsets .entry)) (now (sheet .entry)) (now (answer .entry))
+        (now (sheet .exit)) (now (answer .exit))) ⌝ }
+{
+    let mut numbers = [0u64; 2049];
+    decode_lent(listed, n, rows, offsets, sheet, answer, &mut numbers, k);
+}
+
 // The same in an array of 4,097 numbers.
-fn decode_many(
+fn decode_4097(
     listed: Listed,
     n: u64,
     rows: &[u8],
@@ -142,16 +200,28 @@ pub fn decode_sized(
         (now (sheet .exit)) (now (answer .exit))) ⌝ }
 {
     if k <= 9 {
-        decode_few(listed, n, rows, offsets, sheet, answer, k);
+        decode_9(listed, n, rows, offsets, sheet, answer, k);
+        return;
+    }
+    if k <= 33 {
+        decode_33(listed, n, rows, offsets, sheet, answer, k);
         return;
     }
     if k <= 65 {
-        decode_some(listed, n, rows, offsets, sheet, answer, k);
+        decode_65(listed, n, rows, offsets, sheet, answer, k);
+        return;
+    }
+    if k <= 129 {
+        decode_129(listed, n, rows, offsets, sheet, answer, k);
         return;
     }
     if k <= 513 {
-        decode_more(listed, n, rows, offsets, sheet, answer, k);
+        decode_513(listed, n, rows, offsets, sheet, answer, k);
         return;
     }
-    decode_many(listed, n, rows, offsets, sheet, answer, k);
+    if k <= 2049 {
+        decode_2049(listed, n, rows, offsets, sheet, answer, k);
+        return;
+    }
+    decode_4097(listed, n, rows, offsets, sheet, answer, k);
 }

@@ -1,4 +1,5 @@
-// Look-up with the smallest array of numbers that will do: each size has a function of its own, so that a call clears no more.
+// Look-up with the smallest array of numbers that will do: each size has a function of its own, so that a call clears no more. Six tests stand
+// before the arrays of more than 513, so that the optimiser takes these calls for rare and leaves the arrays out of the caller's frame.
 ghost use Prim.Native.Nat.{_+_, _*_, _≤_};
 ghost use lib.ListN.{length};
 ghost use Rattle.format.specs.Limits.{maxRows};
@@ -54,7 +55,7 @@ fn look_up_lent(
 }
 
 // The same in an array of 9 numbers.
-fn look_up_few(
+fn look_up_9(
     listed: Listed,
     k: u64,
     key: &[u8],
@@ -73,8 +74,28 @@ fn look_up_few(
     look_up_lent(listed, k, key, n, rows, offsets, answer, &mut numbers, used);
 }
 
+// The same in an array of 33 numbers.
+fn look_up_33(
+    listed: Listed,
+    k: u64,
+    key: &[u8],
+    n: u64,
+    rows: &[u8],
+    offsets: &[u8],
+    answer: &mut [u8],
+    used: usize,
+)
+    requires { ⌜ Ready listed n (now offsets) (now answer) used ⌝ }
+    requires { ⌜ used ≤ 33 ⌝ }
+    ensures { λ _. ⌜ OfEach listed (λ list. LentLookedUp list k (now (key .entry)) n (now (rows .entry)) (now (offsets .entry)) (now (answer .entry))
+        (now (answer .exit))) ⌝ }
+{
+    let mut numbers = [0u64; 33];
+    look_up_lent(listed, k, key, n, rows, offsets, answer, &mut numbers, used);
+}
+
 // The same in an array of 65 numbers.
-fn look_up_some(
+fn look_up_65(
     listed: Listed,
     k: u64,
     key: &[u8],
@@ -93,8 +114,28 @@ fn look_up_some(
     look_up_lent(listed, k, key, n, rows, offsets, answer, &mut numbers, used);
 }
 
+// The same in an array of 129 numbers.
+fn look_up_129(
+    listed: Listed,
+    k: u64,
+    key: &[u8],
+    n: u64,
+    rows: &[u8],
+    offsets: &[u8],
+    answer: &mut [u8],
+    used: usize,
+)
+    requires { ⌜ Ready listed n (now offsets) (now answer) used ⌝ }
+    requires { ⌜ used ≤ 129 ⌝ }
+    ensures { λ _. ⌜ OfEach listed (λ list. LentLookedUp list k (now (key .entry)) n (now (rows .entry)) (now (offsets .entry)) (now (answer .entry))
+        (now (answer .exit))) ⌝ }
+{
+    let mut numbers = [0u64; 129];
+    look_up_lent(listed, k, key, n, rows, offsets, answer, &mut numbers, used);
+}
+
 // The same in an array of 513 numbers.
-fn look_up_more(
+fn look_up_513(
     listed: Listed,
     k: u64,
     key: &[u8],
@@ -113,8 +154,28 @@ fn look_up_more(
     look_up_lent(listed, k, key, n, rows, offsets, answer, &mut numbers, used);
 }
 
+// The same in an array of 2,049 numbers.
+fn look_up_2049(
+    listed: Listed,
+    k: u64,
+    key: &[u8],
+    n: u64,
+    rows: &[u8],
+    offsets: &[u8],
+    answer: &mut [u8],
+    used: usize,
+)
+    requires { ⌜ Ready listed n (now offsets) (now answer) used ⌝ }
+    requires { ⌜ used ≤ 2049 ⌝ }
+    ensures { λ _. ⌜ OfEach listed (λ list. LentLookedUp list k (now (key .entry)) n (now (rows .entry)) (now (offsets .entry)) (now (answer .entry))
+        (now (answer .exit))) ⌝ }
+{
+    let mut numbers = [0u64; 2049];
+    look_up_lent(listed, k, key, n, rows, offsets, answer, &mut numbers, used);
+}
+
 // The same in an array of 4,097 numbers.
-fn look_up_many(
+fn look_up_4097(
     listed: Listed,
     k: u64,
     key: &[u8],
@@ -149,16 +210,28 @@ pub fn look_up_sized(
         (now (answer .exit))) ⌝ }
 {
     if used <= 9 {
-        look_up_few(listed, k, key, n, rows, offsets, answer, used);
+        look_up_9(listed, k, key, n, rows, offsets, answer, used);
+        return;
+    }
+    if used <= 33 {
+        look_up_33(listed, k, key, n, rows, offsets, answer, used);
         return;
     }
     if used <= 65 {
-        look_up_some(listed, k, key, n, rows, offsets, answer, used);
+        look_up_65(listed, k, key, n, rows, offsets, answer, used);
+        return;
+    }
+    if used <= 129 {
+        look_up_129(listed, k, key, n, rows, offsets, answer, used);
         return;
     }
     if used <= 513 {
-        look_up_more(listed, k, key, n, rows, offsets, answer, used);
+        look_up_513(listed, k, key, n, rows, offsets, answer, used);
         return;
     }
-    look_up_many(listed, k, key, n, rows, offsets, answer, used);
+    if used <= 2049 {
+        look_up_2049(listed, k, key, n, rows, offsets, answer, used);
+        return;
+    }
+    look_up_4097(listed, k, key, n, rows, offsets, answer, used);
 }

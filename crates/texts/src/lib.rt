@@ -83,7 +83,7 @@ pub fn put_refused(r: Refusal, out: &mut [u8]) -> usize
     requires { ⌜ refusedRoom ≤ length (now out) ⌝ }
     ensures { λ x. ⌜ Wrote (refusedLine (refusalNumbers r)) 0 (now (out .entry)) (now (out .exit)) x ⌝ }
 {
-    let numbers = format::refusal_numbers(r);
+    let numbers = answers::refusal_numbers(r);
     let first = put_bytes(b"refused ", out, 0);
     let second = put_number(numbers.0, b' ', out, first);
     let third = put_number(numbers.1, b' ', out, second);

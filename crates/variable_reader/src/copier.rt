@@ -10,8 +10,8 @@ ghost use Rattle.variable_reader.specs.Counted.{blocksRead, restOf, valu
 use blocks::BLOCK_CONTINUATION;
 use blocks::EMPTY_SENTINEL;
 use blocks::block_size;
+use column_facts::null_lead;
 use format::SortOptions;
-use format::null_lead;
 use runs::byte_at;
 use runs::copy_bytes;
 use runs::copy_words;

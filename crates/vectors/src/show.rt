@@ -12,7 +12,7 @@ pub fn end_line() {
 
 // The case's name and its four numbers.
 pub fn show(name: &[u8], a: Answer) {
-    let r = format::numbers(a);
+    let r = answers::numbers(a);
     io::write_all(STDOUT_FILENO, name);
     space();
     io::print_decimal(STDOUT_FILENO, r.0);

@@ -1,17 +1,10 @@
 -- `fixed_reader::reader::may_stand` meets its contract: each width by its own test. Assumes nothing.
-use Prim.Native.Nat.{ℕ}
 use mathlib.Core.Path.{_≡_}
-use mathlib.Core.Logic.{_⊎_, inl, inr}
 use native.Mathlib.Omega.{arith}
 use borrow.Author.Needs.{needs}
+use Rattle.number_reader.proofs.Taking.{eight}
 use Rattle.fixed_reader.proofs.reader.may_stand.Statement.{statement}
 use Rattle.fixed_reader.proofs.reader.may_stand.Tie as tie
-
--- the width that is left
-eight : (w : ℕ) → (w ≡ 2) ⊎ ((w ≡ 4) ⊎ (w ≡ 8)) → (w ≡ 2 → ⊥) → (w ≡ 4 → ⊥) → w ≡ 8
-eight w (inl e) a b = absurd (a e)
-eight w (inr (inl e)) a b = absurd (b e)
-eight w (inr (inr e)) a b = e
 
 -- what was known at the entry, where the column folds and no other width is left
 abbrev entry : tie.Else3 → tie.Start

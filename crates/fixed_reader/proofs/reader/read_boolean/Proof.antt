@@ -24,7 +24,8 @@ index c =
     let at-arm = c .before in
     let at-read = at-arm .before .before in
     let A = entry at-read .args in
-    value-whole bool (A .options) (A .row .now) _ (at-read .read .ensures (plain 1) (plain-shape 1) refl) _ _ (at-arm .enum-told2 .given .1)
+    value-whole bool (A .options) (A .row .now) _ (at-read .read .ensures (plain 1) (plain-shape 1) refl) _ _
+    (at-arm .enum-told2 .given .1)
 
 -- where the value byte is inverted back, and what it is
 abbrev at-value : tie.After-directed8 → tie.After-enum-told2
@@ -42,13 +43,15 @@ bad c =
     let at-arm = at-value at-turned in
     let at-read = at-arm .before .before in
     let A = entry at-read .args in
-    bool-bad (A .options) (A .row .now) _ (at-read .read .ensures (plain 1) (plain-shape 1) refl) _ _ (at-arm .enum-told2 .given .1) _ (turned at-turned) (c .if1 .taken)
+    bool-bad (A .options) (A .row .now) _ (at-read .read .ensures (plain 1) (plain-shape 1) refl) _ _
+    (at-arm .enum-told2 .given .1) _ (turned at-turned) (c .if1 .taken)
 
 null : tie.Need-returns-2
 null c =
     let at-read = c .before .before in
     let A = entry at-read .args in
-    none-alike bool (A .options) (A .row .now) _ (at-read .read .ensures (plain 1) (plain-shape 1) refl) (λ m n e. let t = c .enum-told .given .1 in apart (cc))
+    none-alike bool (A .options) (A .row .now) _ (at-read .read .ensures (plain 1) (plain-shape 1) refl)
+    (λ m n e. let t = c .enum-told .given .1 in apart (cc))
 
 good : tie.Need-returns-3
 good c =
@@ -56,13 +59,15 @@ good c =
     let at-arm = at-value at-turned in
     let at-read = at-arm .before .before in
     let A = entry at-read .args in
-    bool-good (A .options) (A .row .now) _ (at-read .read .ensures (plain 1) (plain-shape 1) refl) _ _ (at-arm .enum-told2 .given .1) _ (turned at-turned) (c .if1 .left)
+    bool-good (A .options) (A .row .now) _ (at-read .read .ensures (plain 1) (plain-shape 1) refl) _ _
+    (at-arm .enum-told2 .given .1) _ (turned at-turned) (c .if1 .left)
 
 fault : tie.Need-returns-4
 fault c =
     let at-read = c .before .before in
     let A = entry at-read .args in
-    none-alike bool (A .options) (A .row .now) _ (at-read .read .ensures (plain 1) (plain-shape 1) refl) (λ m n e. let t = c .enum-told3 .given .1 in apart (cc))
+    none-alike bool (A .options) (A .row .now) _ (at-read .read .ensures (plain 1) (plain-shape 1) refl)
+    (λ m n e. let t = c .enum-told3 .given .1 in apart (cc))
 
 pub read-boolean-spec : {M : Type 1} → statement M
 read-boolean-spec =

@@ -1,7 +1,7 @@
 -- `number::coded::decode64` meets its contract: the law of each coding. Assumes nothing.
 use borrow.Author.Needs.{needs}
 use mir.Syntax.{w64}
-use Rattle.number.proofs.Codecs.{decode-s}
+use Rattle.codecs.proofs.Codecs.{decode-s}
 use Rattle.number.proofs.coded.decode64.Statement.{statement}
 use Rattle.number.proofs.coded.decode64.Tie as tie
 

@@ -1,7 +1,7 @@
 -- `number::coded::decode8` meets its contract: the law of each coding that there is. Assumes nothing.
 use borrow.Author.Needs.{needs}
 use mir.Syntax.{w8}
-use Rattle.number.proofs.Codecs.{decode-s}
+use Rattle.codecs.proofs.Codecs.{decode-s}
 use Rattle.number.proofs.coded.decode8.Statement.{statement}
 use Rattle.number.proofs.coded.decode8.Tie as tie
 

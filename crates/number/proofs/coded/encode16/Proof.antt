@@ -1,7 +1,7 @@
 -- `number::coded::encode16` meets its contract: the law of each coding. Assumes nothing.
 use borrow.Author.Needs.{needs}
 use mir.Syntax.{w16}
-use Rattle.number.proofs.Codecs.{encode-s}
+use Rattle.codecs.proofs.Codecs.{encode-s}
 use Rattle.number.proofs.coded.encode16.Statement.{statement}
 use Rattle.number.proofs.coded.encode16.Tie as tie
 

@@ -1,7 +1,7 @@
 -- `number::coded::encode8` meets its contract: the law of each coding that there is. Assumes nothing.
 use borrow.Author.Needs.{needs}
 use mir.Syntax.{w8}
-use Rattle.number.proofs.Codecs.{encode-s}
+use Rattle.codecs.proofs.Codecs.{encode-s}
 use Rattle.number.proofs.coded.encode8.Statement.{statement}
 use Rattle.number.proofs.coded.encode8.Tie as tie
 

@@ -1,54 +1,14 @@
--- `sheet_reader::sheet::check_ends` meets its contract. The invariant: the rows so far pass, and the last end is known. The measure
--- is the rows left. Assumes nothing.
-use Prim.Native.Nat.{_-_}
-use native.Mathlib.Omega.{arith}
-use Rattle.sheet_reader.proofs.EndTurns.{Turn, start, done, falls, long, more}
+-- `sheet_reader::sheet::check_ends` meets its contract: nothing beyond the limit is no fault. Assumes nothing.
+use mathlib.Core.Path.{sym}
+use borrow.Author.Needs.{needs}
+use Rattle.sheet_reader.proofs.EndTurns.{steps-pass}
 use Rattle.sheet_reader.proofs.sheet.check_ends.Statement.{statement}
 use Rattle.sheet_reader.proofs.sheet.check_ends.Tie as tie
 
-abbrev Inv-loop : tie.InvT-loop
-Inv-loop part n c row₀ last₀ row last = Turn c part n row last
-
-abbrev μ-loop : tie.MeasureT-loop
-μ-loop part n c row₀ last₀ row last = n - row
-
-loop-holds : tie.Need-loop-holds Inv-loop μ-loop
-loop-holds c = start _ _ _ _ (c .end-at .ensures .0)
-
-returns : tie.Need-returns Inv-loop μ-loop
+returns : tie.Need-returns
 returns c =
-    let read = c .before in
-    let t = read .before in
-    falls _ _ _ _ _ _ (t .before .loop .inv) (t .loop-test .taken) (read .end-at2 .ensures .0) (c .if1 .taken)
-
-returns-2 : tie.Need-returns-2 Inv-loop μ-loop
-returns-2 c =
-    let read = c .before .before in
-    let t = read .before in
-    long _ _ _ _ _ _ (t .before .loop .inv) (t .loop-test .taken) (read .end-at2 .ensures .0) (c .before .if1 .left) (omega (arith, c .if2 .taken))
-
-loop-again : tie.Need-loop-again Inv-loop μ-loop
-loop-again c =
-    let read = c .before .before in
-    let t = read .before in
-    more _ _ _ _ _ _ (t .before .loop .inv) (t .loop-test .taken) (read .end-at2 .ensures .0) (c .before .if1 .left) (omega (arith, c .if2 .left))
-
-returns-3 : tie.Need-returns-3 Inv-loop μ-loop
-returns-3 c = done _ _ _ _ _ (c .before .loop .inv) (c .loop-test .left)
+    let at-sum = c .before in
+    sym (steps-pass _ _ _ (at-sum .ends-excess .ensures (c .if1 .taken)))
 
 pub check-ends-spec : {M : Type 1} → statement M
-check-ends-spec =
-    tie.close
-    (tie.spec
-    Inv-loop
-    μ-loop
-    (λ c κs. omega arith)
-    loop-holds
-    (λ c. omega arith)
-    (λ c κs. omega arith)
-    returns
-    returns-2
-    (λ c. omega arith)
-    (λ c. omega arith)
-    loop-again
-    returns-3)
+check-ends-spec = tie.close (tie.spec (λ c κs. search needs) returns (λ c κs. search needs) (λ c. search needs))

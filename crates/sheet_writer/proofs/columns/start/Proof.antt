@@ -5,7 +5,7 @@ use mathlib.Core.Path.{sym}
 use native.Mathlib.Omega.{arith}
 use lib.ListN.{length, take}
 use lib.Seq.{length-take-le, getD-take}
-use Rattle.sheet_writer.proofs.Moving.{Filled, fill-start, fill-more, fill-end}
+use Rattle.cursors.proofs.Moving.{Filled, fill-start, fill-more, fill-end}
 use Rattle.sheet_writer.proofs.columns.start.Statement.{statement}
 use Rattle.sheet_writer.proofs.columns.start.Tie as tie
 

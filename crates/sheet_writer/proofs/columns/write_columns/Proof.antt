@@ -13,11 +13,13 @@ use Rattle.format.specs.Sheet.{packed as packedFor}
 use Rattle.bits.specs.Ones.{onesIn}
 use Rattle.basics.proofs.Bytes.{bytes-of}
 use Rattle.laws.proofs.InUse.{Held, in-use, next-in-use}
-use Rattle.sheet_writer.specs.declared.flags.Flag.the-variants.{Valid}
-use Rattle.sheet_writer.specs.Cursors.{Readable, flagsAt, valuesAt}
+use Rattle.flag_packer.specs.declared.Flag.the-variants.{Valid}
+use Rattle.cursors.specs.Cursors.{Readable}
+use Rattle.flag_packer.specs.Flags.{flagsAt}
+use Rattle.sheet_writer.specs.Writing.{valuesAt}
 use Rattle.sheet_writer.proofs.Parts.{flags-long, validity-nulls}
 use Rattle.sheet_writer.proofs.Stand.{Standing, columnToCome, stand-first, stand-here, stand-room, stand-more, stand-end}
-use Rattle.sheet_writer.proofs.Wrotes.{wrote-both, wrote-there, room-first, room-after}
+use Rattle.cursors.proofs.Wrotes.{wrote-both, wrote-there, room-first, room-after}
 use Rattle.sheet_writer.proofs.columns.write_columns.Statement.{statement}
 use Rattle.sheet_writer.proofs.columns.write_columns.Tie as tie
 

@@ -14,7 +14,7 @@ use Rattle.format.specs.Schemas.{colsOf}
 use Rattle.format.specs.Entries.{cutRows, rowsSlots}
 use Rattle.basics.proofs.Bytes.{bytes-of}
 use Rattle.laws.proofs.Cuts.{offsets-passed}
-use Rattle.sheet_writer.specs.Cursors.{AllFields, Decodable, slotsToCome}
+use Rattle.sheet_writer.specs.Writing.{AllFields, Decodable, slotsToCome}
 use Rattle.sheet_writer.proofs.Stand.{front-long, front-is, start-fields, start-slots}
 use Rattle.sheet_writer.proofs.columns.write_rows.Statement.{statement}
 use Rattle.sheet_writer.proofs.columns.write_rows.Tie as tie

@@ -12,8 +12,11 @@ use Rattle.basics.specs.Wide.{WideKind}
 use Rattle.basics.specs.Wrote.{Wrote}
 use Rattle.basics.proofs.Bytes.{bytes-of}
 use Rattle.basics.proofs.Sorts.{wide-arm}
-use Rattle.sheet_writer.specs.declared.flags.Flag.the-variants.{True}
-use Rattle.sheet_writer.specs.Cursors.{Readable, dataAt, endsAt, flagsAt, valuesAt, widesAt}
+use Rattle.flag_packer.specs.declared.Flag.the-variants.{True}
+use Rattle.cursors.specs.Cursors.{Readable, widesAt}
+use Rattle.flag_packer.specs.Flags.{flagsAt}
+use Rattle.end_mover.specs.Ends.{dataAt, endsAt}
+use Rattle.sheet_writer.specs.Writing.{valuesAt}
 use Rattle.sheet_writer.proofs.Parts.{flags-long, bool-values, bool-there, bool-next, wide-values, variable-values, variable-readable, variable-next}
 use Rattle.sheet_writer.proofs.columns.write_values.Statement.{statement}
 use Rattle.sheet_writer.proofs.columns.write_values.Tie as tie

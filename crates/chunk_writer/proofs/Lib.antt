@@ -1,0 +1,3 @@
+-- What the proofs of this crate share: pieces that are written at cursors, and columns whose kind is named.
+pub mod Placing
+pub mod Arms

@@ -1,0 +1,2 @@
+-- Laws of the keys of numbers, over the width.
+pub mod Codecs

@@ -1,0 +1,2 @@
+-- What contracts of several crates cite beside crate format's definitions.
+pub mod Cursors

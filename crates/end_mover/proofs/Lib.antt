@@ -1,0 +1,3 @@
+-- What the proof of the function shares.
+pub mod Running
+pub mod OnePass

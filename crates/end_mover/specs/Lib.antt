@@ -1,0 +1,2 @@
+-- What the contracts of this crate cite beside crate format's definitions.
+pub mod Ends

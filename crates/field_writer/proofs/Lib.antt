@@ -1,0 +1,2 @@
+-- What the proofs of this crate share: fields by the kind of their column.
+pub mod Values

@@ -1,0 +1,3 @@
+-- What the contracts of this crate cite beside crate format's definitions.
+pub mod Worded
+pub mod Bytewise

@@ -1,2 +1,0 @@
--- What the contracts of this crate cite beside crate format's definitions.
-pub mod Coded

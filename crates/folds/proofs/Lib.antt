@@ -1,0 +1,2 @@
+-- Laws of folding, over the width.
+pub mod Folds

@@ -1,0 +1,2 @@
+-- What the checks of a look-up answer.
+pub mod Checking

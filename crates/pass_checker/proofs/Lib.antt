@@ -1,0 +1,2 @@
+-- What the check of a pass keeps.
+pub mod Passes

@@ -1,0 +1,3 @@
+-- What the promises of this crate cite beside crate format's definitions.
+pub mod Rows
+pub mod Starts

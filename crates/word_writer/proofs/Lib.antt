@@ -1,0 +1,2 @@
+-- What the proofs of this crate share: the fields of numbers.
+pub mod Keyed

@@ -1,0 +1,3 @@
+-- Laws of numbers and their bytes, over the count of bytes.
+pub mod Words
+pub mod Tops
