@@ -14,7 +14,8 @@
  *
  * Nothing is kept after a call, nothing is allocated, and calls on different buffers may run at the same
  * time. A refused call stores nothing but its answer, not even the bytes that are there already; encode
- * does not read what rows and offsets hold.
+ * does not read what rows and offsets hold. The row cutter alone stores its state with a refusal, where it
+ * is this call that finds it (see station_cutter_start and station_cut).
  *
  * list     For each column a byte of kind and a byte of options, and for kind 15 also the width in two
  *          bytes, low byte first (0 to 1,024). Options: bit 0 descending, bit 1 nulls first, bit 2 required
@@ -65,11 +66,21 @@
  * order    Entries of eight bytes, low byte first, one for each row of two passes: 4,096 times the pass plus the
  *          row. A tail as in offsets.
  *
+ * state    A row cutter's, STATION_CUTTER_BYTES; bytes after them mean nothing and stay. It is plain bytes:
+ *          it may be copied, kept and handed on, and each copy goes its own way. docs/CUTTER.md has its parts,
+ *          and the rule that they keep. A state that is shorter, or breaks the rule, is refused, 33.
+ *
+ * piece    The next bytes of a stream of rows, joined, with no offsets; cut anywhere, and of any length, none
+ *          too.
+ *
+ * ends     Numbers of eight bytes, low byte first: row ends, counted from the start of the stream. A tail as in
+ *          offsets.
+ *
  * answer   Four numbers of eight bytes, low byte first, so 32 bytes; a shorter answer, and no lent byte
  *          changes. The first is 0 for done, and else the number of the refusal:
  *
  *            0   done                                       total, null slots; of look_up two rows, of
- *                                                           compare_sheets 0, 1 or 2
+ *                                                           compare_sheets 0, 1 or 2, of the cutter see there
  *            1   list empty, or a body cut                  place of the kind byte, 0
  *            2   unknown kind                               the same
  *            3   other option bits set, or fold elsewhere   the same
@@ -82,10 +93,11 @@
  *            9   ends fall                                  column, row
  *            10  slot over 65,535                           column, row
  *            11  bytes after the last column                place, 0
- *            12  rows over 16,777,216 bytes                 total, 0
+ *            12  rows over 16,777,216 bytes                 total, 0; of cut 16,777,217, rows ended
  *            13  row buffer too small                       total, 0
- *            14  offset list under n+1, order under the     n+1, the rows of both, or the pairs, 0
- *                rows of both passes, answers under pairs
+ *            14  offset list under n+1, order under the     n+1, the rows of both, the pairs, or the
+ *                rows of both passes, answers under pairs,  bytes of the piece, 0
+ *                ends under the bytes of the piece
  *            15  first offset not 0, one falls, or the      its index, 0
  *                last passes the row bytes
  *            16  field or block cut                         row, column
@@ -103,6 +115,7 @@
  *            29  too few descriptions lent                  columns, 0
  *            31  k of 0 or past the columns                 k, 0
  *            32  no such row in a sheet                     sheet, row
+ *            33  a cutter's state is none                   0, 0
  *
  *          Of descriptions 1 is for none, and the place in 1 to 5 is the index of the column.
  *
@@ -111,7 +124,8 @@
  *          first byte that is not zero; of 19 the bool; of 20 and 23 the end byte of the block; of 22 the
  *          first byte after the last field; of 28 the first value byte. It is 0 for all other answers.
  *
- *          On a refusal only these 32 bytes change. On success the bytes past the written part stay.
+ *          On a refusal only these 32 bytes change, but for the row cutter as said there. On success the bytes past
+ *          the written part stay.
  */
 #ifndef STATION_H
 #define STATION_H
@@ -124,6 +138,9 @@ extern "C" {
 #endif
 
 enum { STATION_ANSWER_BYTES = 32 };
+
+/* A row cutter's state. */
+enum { STATION_CUTTER_BYTES = 360 };
 
 /* The most bytes of stack that a call takes, from its return address down, whatever it is given; and where
  * it takes less while no batch of the call has more than 512 rows, that. What the C library's memcpy and
@@ -150,11 +167,15 @@ enum {
     STATION_LOOK_UP_READ_STACK = 56320,
     STATION_LOOK_UP_READ_STACK_512 = 21504,
     STATION_JOIN_STACK = 132096,
-    STATION_COMPARE_STACK = 64
+    STATION_COMPARE_STACK = 64,
+    STATION_CUTTER_START_STACK = 9216,
+    STATION_CUTTER_START_READ_STACK = 9216,
+    STATION_CUT_STACK = 14336,
+    STATION_CUTTER_FINISH_STACK = 6144
 };
 
-/* The edition that this header describes, 0.1.0: 1,000,000 times the major, 1,000 times the minor, and the patch. */
-enum { STATION_VERSION = 1000 };
+/* The edition that this header describes, 0.2.0: 1,000,000 times the major, 1,000 times the minor, and the patch. */
+enum { STATION_VERSION = 2000 };
 
 /* The edition of the library that is linked, as STATION_VERSION has it. */
 uint64_t station_version(void);
@@ -225,6 +246,30 @@ void station_look_up(const uint8_t *list, size_t list_len, uint64_t k, const uin
 void station_look_up_read(const uint8_t *descriptions, size_t descriptions_len, uint64_t k, const uint8_t *key,
                           size_t key_len, uint64_t n, const uint8_t *rows, size_t rows_len, const uint8_t *offsets,
                           size_t offsets_len, uint8_t *answer, size_t answer_len);
+
+/* Starts a row cutter from a list: checks it as station_check_list does, and writes the state that stands before the first
+ * byte of a stream. Total: columns. On a list that is refused the state is written too, and holds the refusal, which every
+ * call and the finish then answer. A state too short is 33, ahead of the list, and stays. */
+void station_cutter_start(const uint8_t *list, size_t list_len, uint8_t *state, size_t state_len, uint8_t *answer,
+                          size_t answer_len);
+
+void station_cutter_start_read(const uint8_t *descriptions, size_t descriptions_len, uint8_t *state, size_t state_len,
+                               uint8_t *answer, size_t answer_len);
+
+/* Cuts the next piece of the stream: writes the ends of the rows that it completes, and the state after it. Total: ends
+ * written. However a stream is cut, it has the same ends, the same state after it and the same refusal.
+ *
+ * In this order: 33; the refusal that stands; 14 if there is room for fewer ends than the piece has bytes, whether or not a
+ * row ends in it. On these state and ends stay. Then byte by byte 12, at the 16,777,217th byte of the stream, and row faults,
+ * 17 to 21, 23 and 28, as decode has them for that row: 17 at the lead byte, 18, 19 and 28 with the last byte of the field,
+ * 20, 21 and 23 with the end byte of the block. The ends before one are written, the state holds it from then on, and its
+ * second number (of 12 the third) is the count of rows that ended in the stream before it. */
+void station_cut(uint8_t *state, size_t state_len, const uint8_t *piece, size_t piece_len, uint8_t *ends, size_t ends_len,
+                 uint8_t *answer, size_t answer_len);
+
+/* Says whether the stream may end here. Total: rows in all. 33, then the refusal that stands, then 16 within a row, with the
+ * bytes of that row so far as place. The state is only read: more pieces may follow. */
+void station_cutter_finish(const uint8_t *state, size_t state_len, uint8_t *answer, size_t answer_len);
 
 /* Writes the joined order of two passes, whose rows are sorted as bytes: sorted, every row of both once, equal rows in
  * their order, pass 0 first. Rows are not read as fields. Total: the rows of both, and no null slots. */

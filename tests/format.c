@@ -28,6 +28,8 @@ enum {
     MOST_COLUMNS = 64,  /* of a list */
     COLUMN = 4,         /* bytes of a description */
     INPUT_ROOM = 32768, /* of the program, for its input and for rows */
+    EVERY_CUT = 256,    /* streams of so many bytes are cut at every place */
+    PIECE = 65536,      /* bytes of a longer stream that are handed over at once */
 };
 
 /* An example has rows of a sheet, or of two passes. */
@@ -36,15 +38,17 @@ enum batch { OF_SHEET, PASS0, PASS1, BATCHES };
 /* The words of an example. Those up to INPUT have bytes for a value, which may go on in the next line. Those of a batch stand in the
  * order of the batches. */
 enum word {
-    LIST, COLUMNS, SHEET, OTHER, CLEARED, KEY, ROW, ROW0, ROW1, INPUT,
-    K, N, OTHER_N, N0, N1, OFFSETS, OFFSETS0, OFFSETS1, COLUMN_ROOM, ROW_ROOM, OFFSET_ROOM, SHEET_ROOM, ORDER_ROOM, RANK_ROOM,
-    PAIRS, RANKS, REFUSED, CHECK, READ, MEASURE, ENCODE, DECODE, COMPARE_SHEETS, COMPARE_PAIRS, FOUND, JOIN, COMPARE, ORDER, PRINTS,
+    LIST, COLUMNS, SHEET, OTHER, CLEARED, KEY, STREAM, FROM, STATE, ROW, ROW0, ROW1, INPUT,
+    K, N, OTHER_N, N0, N1, OFFSETS, OFFSETS0, OFFSETS1, COLUMN_ROOM, ROW_ROOM, OFFSET_ROOM, SHEET_ROOM, ORDER_ROOM, RANK_ROOM, END_ROOM,
+    PAIRS, RANKS, REFUSED, CHECK, READ, MEASURE, ENCODE, DECODE, COMPARE_SHEETS, COMPARE_PAIRS, FOUND, FINISH, JOIN, COMPARE, ENDS, ORDER,
+    PRINTS,
     WORDS,
 };
 static const char *const NAMES[WORDS] = {
-    "list", "columns", "sheet", "other", "cleared", "key", "row", "row0", "row1", "input",
-    "k", "n", "other-n", "n0", "n1", "offsets", "offsets0", "offsets1", "column-room", "row-room", "offset-room", "sheet-room", "order-room", "rank-room",
-    "pairs", "ranks", "refused", "check", "read", "measure", "encode", "decode", "compare-sheets", "compare-pairs", "found", "join", "compare", "order", "prints",
+    "list", "columns", "sheet", "other", "cleared", "key", "stream", "from", "state", "row", "row0", "row1", "input",
+    "k", "n", "other-n", "n0", "n1", "offsets", "offsets0", "offsets1", "column-room", "row-room", "offset-room", "sheet-room", "order-room", "rank-room", "end-room",
+    "pairs", "ranks", "refused", "check", "read", "measure", "encode", "decode", "compare-sheets", "compare-pairs", "found", "finish", "join", "compare",
+    "ends", "order", "prints",
 };
 
 struct bytes {
@@ -224,23 +228,25 @@ struct way {
                           uint8_t *, size_t, uint8_t *, size_t);
     void (*look_up)(const uint8_t *, size_t, uint64_t, const uint8_t *, size_t, uint64_t, const uint8_t *, size_t, const uint8_t *, size_t,
                     uint8_t *, size_t);
+    void (*cutter_start)(const uint8_t *, size_t, uint8_t *, size_t, uint8_t *, size_t);
 };
 
 static struct way by_list(void) {
     return (struct way){ex.value[LIST], station_measure, station_encode, station_decode, station_compare_sheets, station_compare_pairs,
-                        station_look_up};
+                        station_look_up, station_cutter_start};
 }
 
 static struct way by_descriptions(struct bytes columns) {
     return (struct way){columns, station_measure_read, station_encode_read, station_decode_read, station_compare_sheets_read,
-                        station_compare_pairs_read, station_look_up_read};
+                        station_compare_pairs_read, station_look_up_read, station_cutter_start_read};
 }
 
 static void try_list(void) {
     struct bytes list = ex.value[LIST];
     uint8_t answer[STATION_ANSWER_BYTES];
     station_check_list(list.at, list.len, answer, sizeof answer);
-    if (ex.has[CHECK] || !(ex.has[SHEET] || ex.has[ROW] || ex.has[KEY] || ex.has[COLUMN_ROOM] || ex.has[READ])) judge(CHECK, answer, 0);
+    bool more = ex.has[SHEET] || ex.has[ROW] || ex.has[KEY] || ex.has[STREAM] || ex.has[COLUMN_ROOM] || ex.has[READ];
+    if (ex.has[CHECK] || !more) judge(CHECK, answer, 0);
     if (ex.has[REFUSED]) return;
     for (size_t i = 0; i < list.len; i += list.at[i] == 15 ? 4 : 2) kind_seen[list.at[i]] = true;
 }
@@ -250,7 +256,8 @@ static struct bytes try_read(void) {
     struct bytes list = ex.value[LIST], columns = filled(COLUMN * number(COLUMN_ROOM, MOST_COLUMNS));
     uint8_t answer[STATION_ANSWER_BYTES];
     station_read_list(list.at, list.len, columns.at, columns.len, answer, sizeof answer);
-    if (ex.has[READ] || (ex.has[REFUSED] && !(ex.has[SHEET] || ex.has[ROW] || ex.has[KEY]))) judge(READ, answer, 0);
+    bool more = ex.has[SHEET] || ex.has[ROW] || ex.has[KEY] || ex.has[STREAM];
+    if (ex.has[READ] || (ex.has[REFUSED] && !more)) judge(READ, answer, 0);
     size_t len = eight(answer) ? 0 : COLUMN * eight(answer + 8);
     struct bytes rest = {columns.at + len, columns.len - len, 0};
     if (!untouched(rest)) fault(ex.line, "read_list writes more than it counts");
@@ -332,6 +339,92 @@ static void try_look_up(struct way way) {
     way.look_up(list.at, list.len, k, key.at, key.len, n, rows.at, rows.len, ends.at, ends.len, answer, sizeof answer);
     judge(FOUND, answer, 0);
     free(ends.at);
+}
+
+/* Of a state the refusal that stands, and the rows that ended; 0 of one that is too short. */
+static uint64_t stands(struct bytes state) { return state.len < 8 ? 0 : eight(state.at); }
+static uint64_t ended(struct bytes state) { return state.len < 40 ? 0 : eight(state.at + 32); }
+
+/* The ends that a call wrote, as its answer tells them: on 12 and on a row fault these are the rows that ended since. */
+static uint64_t told(const uint8_t *answer, uint64_t before) {
+    uint64_t no = eight(answer);
+    if (no == 0) return eight(answer + 8);
+    return no == 12 ? eight(answer + 16) - before : (17 <= no && no <= 23) || no == 28 ? eight(answer + 8) - before : 0;
+}
+
+/* Hands a piece over, puts its ends after those before it, and says whether the stream goes on. A refusal is the example's. */
+static bool hand_over(struct bytes *state, struct bytes *ends, const uint8_t *piece, size_t len, size_t room) {
+    struct bytes lent = filled(8 * room);
+    uint8_t answer[STATION_ANSWER_BYTES];
+    uint64_t stood = stands(*state), before = ended(*state);
+    station_cut(state->at, state->len, piece, len, lent.at, lent.len, answer, sizeof answer);
+    bool refused = eight(answer) != 0;
+    if (refused) judge(REFUSED, answer, 0);
+    uint64_t count = stood ? 0 : told(answer, before);
+    struct bytes rest = {lent.at + 8 * count, lent.len - 8 * count, 0};
+    if (8 * count > lent.len || !untouched(rest)) fault(ex.line, "cut writes more ends than it counts");
+    else put(ends, lent.at, 8 * count);
+    free(lent.at);
+    return !refused;
+}
+
+/* A refusal is answered again, whatever piece and room are, by the finish too, and nothing is written. */
+static void try_refused(struct bytes state) {
+    uint8_t answer[STATION_ANSWER_BYTES], piece[2] = {1, 5};
+    struct bytes before = filled(0), ends = filled(0);
+    put(&before, state.at, state.len);
+    for (size_t room = 0; room <= sizeof piece; room++) hand_over(&state, &ends, piece, sizeof piece, room);
+    station_cutter_finish(state.at, state.len, answer, sizeof answer);
+    judge(REFUSED, answer, 0);
+    if (ends.len > 0 || !same(before, state)) fault(ex.line, "cut or finish writes after a refusal");
+    free(before.at);
+    free(ends.at);
+}
+
+/* The stream from this state, in pieces of so many bytes after a first one. */
+static void try_pieces(struct bytes from, size_t first, size_t size) {
+    struct bytes stream = ex.value[STREAM], state = filled(0), ends = filled(0), right = numbers(ENDS);
+    put(&state, from.at, from.len);
+    size_t at = 0, len = first < stream.len ? first : stream.len;
+    bool on;
+    do {
+        on = hand_over(&state, &ends, stream.at + at, len, number(END_ROOM, len));
+        at += len;
+        len = size < stream.len - at ? size : stream.len - at;
+    } while (on && at < stream.len);
+    if (on) {
+        uint8_t answer[STATION_ANSWER_BYTES];
+        station_cutter_finish(state.at, state.len, answer, sizeof answer);
+        judge(FINISH, answer, ends.len / 8);
+    } else if (ex.has[END_ROOM]) {
+        if (!same(state, from)) fault(ex.line, "cut writes a state without room for ends");
+    } else {
+        try_refused(state);
+    }
+    if ((ex.has[ENDS] || !ex.has[REFUSED]) && !same(ends, right)) fault(ex.line, "cut writes other ends");
+    if (ex.has[STATE] && !same(state, ex.value[STATE])) fault(ex.line, "cut leaves another state");
+    free(state.at);
+    free(ends.at);
+    free(right.at);
+}
+
+/* The stream in one piece; cut at every place and into single bytes, or, a long one, into pieces. */
+static void try_stream(struct bytes from) {
+    size_t len = ex.value[STREAM].len;
+    if (len <= EVERY_CUT || ex.has[END_ROOM]) try_pieces(from, len, len);
+    if (ex.has[END_ROOM]) return;
+    for (size_t at = 0; at < len && len <= EVERY_CUT; at++) try_pieces(from, at, len);
+    try_pieces(from, 1, len <= EVERY_CUT ? 1 : PIECE);
+}
+
+/* A cutter that is started from the list, or from descriptions, as the check of the list answers. */
+static void try_cutter(struct way way) {
+    struct bytes list = way.columns, state = filled(STATION_CUTTER_BYTES);
+    uint8_t answer[STATION_ANSWER_BYTES];
+    way.cutter_start(list.at, list.len, state.at, state.len, answer, sizeof answer);
+    if (eight(answer)) judge(REFUSED, answer, 0);
+    try_stream(state);
+    free(state.at);
 }
 
 static void try_join(void) {
@@ -435,8 +528,12 @@ static void begin(void) {
     }
 }
 
-/* What the example says of a key, of two sheets, or of a sheet and its rows. */
+/* What the example says of a stream, of a key, of two sheets, or of a sheet and its rows. */
 static void try_way(struct way way) {
+    if (ex.has[STREAM]) {
+        try_cutter(way);
+        return;
+    }
     if (ex.has[KEY] || ex.has[OTHER]) {
         (ex.has[KEY] ? try_look_up : try_pairs)(way);
         return;
@@ -468,10 +565,12 @@ static void finish(void) {
     if (ex.has[PRINTS] && strncmp(text(PRINTS), "refused ", 8) == 0) refusal_seen[atoi(text(PRINTS) + 8) % CODES] = true;
     if (ex.has[SHEET] && !ex.has[N]) fault(ex.line, "a sheet without its row count");
     if (ex.has[SHEET] && ex.has[ROW] && refused) fault(ex.line, "rows of a sheet that is refused");
-    bool columns = ex.has[LIST] || (ex.has[COLUMNS] && (ex.has[SHEET] || ex.has[ROW] || ex.has[KEY]));
+    bool columns = ex.has[LIST] || (ex.has[COLUMNS] && (ex.has[SHEET] || ex.has[ROW] || ex.has[KEY] || ex.has[STREAM]));
+    if (ex.has[FROM] && columns) fault(ex.line, "a state to go on from, and columns to start from");
     if (ex.has[KEY] && (ex.has[SHEET] || !ex.has[K])) fault(ex.line, "a key with a sheet, or without its count of columns");
-    if (!columns && !passes && !ex.has[COMPARE] && !ex.has[INPUT]) fault(ex.line, "nothing to try");
+    if (!columns && !passes && !ex.has[COMPARE] && !ex.has[INPUT] && !ex.has[FROM]) fault(ex.line, "nothing to try");
     if (columns) try_columns();
+    if (ex.has[FROM]) try_stream(ex.value[FROM]);
     if (ex.has[LIST] && ex.has[SHEET] && !ex.has[OTHER] && !room) try_rows();
     if (passes) try_join();
     if (ex.has[COMPARE]) try_compare();
@@ -518,7 +617,7 @@ static void read_value(const char *s, const char *end) {
 }
 
 /* A line of an example: words, each with its value. A line that begins with a space goes on with the bytes of the one above; `prints`
- * has the rest of its line, and `refused` ends the example. */
+ * has the rest of its line, and `refused` and `finish` end the example. */
 static void read_line(char *line) {
     line[strcspn(line, "#")] = 0;
     const char *s = line + strspn(line, " "), *end = value_end(s);
@@ -538,7 +637,7 @@ static void read_line(char *line) {
         s += strspn(s, " ");
         end = ex.word == PRINTS ? s + strlen(s) : value_end(s);
         read_value(s, end);
-        if (ex.word == REFUSED) finish();
+        if (ex.word == REFUSED || ex.word == FINISH) finish();
     }
 }
 

@@ -1,6 +1,7 @@
 /* Two rows of a catalogue of glyphs: plate (u32), glyph name (variable bytes), contour (u16), position (f64), exposure
  * (months, days, nanoseconds). Encodes them, prints each row in hex, compares the two, decodes them again, compares their
- * values, and looks their plate up. Then the same with the list read once, as one would for many sheets.
+ * values, looks their plate up, and cuts them apart again where they come joined, in pieces. Then the same with the list
+ * read once, as one would for many sheets.
  *
  *   cc -I include bindings/c/example.c target/staticlib/libstation_c.a -o example && ./example
  */
@@ -71,6 +72,25 @@ static int look_up(const uint8_t *rows, uint64_t middle, uint64_t end) {
     return 1;
 }
 
+/* The two rows as a stream without offsets, in pieces of seven bytes: prints where each row ends. */
+static int cut(const uint8_t *rows, uint64_t end) {
+    uint8_t state[STATION_CUTTER_BYTES], ends[7 * 8], answer[STATION_ANSWER_BYTES];
+
+    station_cutter_start(LIST, sizeof LIST, state, sizeof state, answer, sizeof answer);
+    if (!done("cutter_start", answer)) return 0;
+    printf("cut at:");
+    for (uint64_t at = 0; at < end; at += 7) {
+        size_t piece = end - at < 7 ? end - at : 7;
+        station_cut(state, sizeof state, rows + at, piece, ends, sizeof ends, answer, sizeof answer);
+        if (!done("cut", answer)) return 0;
+        for (uint64_t i = 0; i < number(answer, 1); i++) printf(" %" PRIu64, number(ends, i));
+    }
+    station_cutter_finish(state, sizeof state, answer, sizeof answer);
+    if (!done("cutter_finish", answer)) return 0;
+    printf(", %" PRIu64 " rows in all\n", number(answer, 1));
+    return 1;
+}
+
 /* The list is read once; its descriptions stand for it in every call that follows. Answers whether rows and sheet are those
  * that came without. */
 static int read_once(const uint8_t *rows, uint64_t end) {
@@ -111,7 +131,7 @@ int main(void) {
     if (!done("decode", answer)) return 1;
     int same = number(answer, 1) == sizeof SHEET && memcmp(sheet, SHEET, sizeof SHEET) == 0;
     printf("decoded: %s\n", same ? "the same sheet" : "another sheet");
-    if (!compare_values() || !look_up(rows, middle, end)) return 1;
+    if (!compare_values() || !look_up(rows, middle, end) || !cut(rows, end)) return 1;
     int alike = read_once(rows, end);
     printf("with the list read once: %s\n", alike ? "the same rows and sheet" : "other bytes");
     return same && alike ? 0 : 1;

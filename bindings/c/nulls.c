@@ -32,7 +32,7 @@ static void hold(const char *call, uint64_t first, uint64_t second, uint64_t thi
 }
 
 int main(void) {
-    uint8_t offsets[8] = {1, 2, 3, 4, 5, 6, 7, 8};
+    uint8_t offsets[8] = {1, 2, 3, 4, 5, 6, 7, 8}, state[STATION_CUTTER_BYTES];
     static const uint8_t zero[8];
 
     memset(answer, 0xA5, sizeof answer);
@@ -110,6 +110,33 @@ int main(void) {
     hold("look_up_read of a key that is cut", 16, 0, 0);
     station_look_up(NULL, 0, 0, NULL, 0, 0, NULL, 0, NULL, 0, NULL, 0);
     station_look_up_read(NULL, 0, 0, NULL, 0, 0, NULL, 0, NULL, 0, NULL, 0);
+
+    station_cutter_start(LIST, sizeof LIST, NULL, 0, answer, sizeof answer);
+    hold("cutter_start into nothing", 33, 0, 0);
+    station_cutter_start_read(DESCRIPTION, sizeof DESCRIPTION, NULL, 0, answer, sizeof answer);
+    hold("cutter_start_read into nothing", 33, 0, 0);
+    station_cut(NULL, 0, NULL, 0, NULL, 0, answer, sizeof answer);
+    hold("cut without a state", 33, 0, 0);
+    station_cutter_finish(NULL, 0, answer, sizeof answer);
+    hold("cutter_finish without a state", 33, 0, 0);
+    station_cutter_start(NULL, 0, state, sizeof state, answer, sizeof answer);
+    hold("cutter_start of nothing", 1, 0, 0);
+    station_cut(state, sizeof state, NULL, 0, NULL, 0, answer, sizeof answer);
+    hold("cut after a start of nothing", 1, 0, 0);
+    station_cutter_start_read(NULL, 0, state, sizeof state, answer, sizeof answer);
+    hold("cutter_start_read of nothing", 1, 0, 0);
+    station_cutter_start(LIST, sizeof LIST, state, sizeof state, answer, sizeof answer);
+    hold("cutter_start", 0, 1, 0);
+    station_cut(state, sizeof state, NULL, 0, NULL, 0, answer, sizeof answer);
+    hold("cut of no piece", 0, 0, 0);
+    station_cut(state, sizeof state, zero, 1, NULL, 0, answer, sizeof answer);
+    hold("cut into nothing", 14, 1, 0);
+    station_cutter_finish(state, sizeof state, answer, sizeof answer);
+    hold("cutter_finish of no rows", 0, 0, 0);
+    station_cutter_start(NULL, 0, NULL, 0, NULL, 0);
+    station_cutter_start_read(NULL, 0, NULL, 0, NULL, 0);
+    station_cut(NULL, 0, NULL, 0, NULL, 0, NULL, 0);
+    station_cutter_finish(NULL, 0, NULL, 0);
 
     station_join(0, NULL, 0, NULL, 0, 0, NULL, 0, NULL, 0, NULL, 0, answer, sizeof answer);
     hold("join of nothing", 14, 1, 0);

@@ -1,7 +1,9 @@
 //! Calls of the C entries with any bytes, and what document 01 says that they leave behind; of lists
-//! that are read once, of the join, of the look-up and of sheets that are compared, document 02.
+//! that are read once, of the join, of the look-up, of sheets that are compared and of the row cutter,
+//! document 02.
 
 use crate::columns::{descriptions_of, Column};
+use crate::cutter::{self, state_bytes};
 use crate::hex::hex_start;
 use crate::model::{self, Checked, Numbers};
 use crate::stack::{self, Rows, Stacks, FEW_ROWS, WORDS};
@@ -10,14 +12,17 @@ use crate::yard::{Lend, Yard};
 use station::raw;
 use std::fmt;
 
-/// An argument of an entry, by name: a number, a slice that is read, a slice that is written to.
+/// An argument of an entry, by name: a number, a slice that is read, one that is read and written to, one
+/// that is written to.
+#[derive(Clone, Copy, PartialEq)]
 enum Argument {
     Number(&'static str),
     Read(&'static str),
+    Changed(&'static str),
     Written(&'static str),
 }
 
-use Argument::{Number, Read, Written};
+use Argument::{Changed, Number, Read, Written};
 
 const N: Argument = Number("n");
 const LIST: Argument = Read("list");
@@ -40,11 +45,15 @@ pub enum Entry {
     CompareSheetsRead,
     ComparePairs,
     ComparePairsRead,
+    CutterStart,
+    CutterStartRead,
+    Cut,
+    CutterFinish,
     Join,
     Compare,
 }
 
-pub const ENTRIES: [Entry; 16] = [
+pub const ENTRIES: [Entry; 20] = [
     Entry::CheckList,
     Entry::ReadList,
     Entry::Measure,
@@ -59,6 +68,10 @@ pub const ENTRIES: [Entry; 16] = [
     Entry::CompareSheetsRead,
     Entry::ComparePairs,
     Entry::ComparePairsRead,
+    Entry::CutterStart,
+    Entry::CutterStartRead,
+    Entry::Cut,
+    Entry::CutterFinish,
     Entry::Join,
     Entry::Compare,
 ];
@@ -80,6 +93,10 @@ impl Entry {
             Entry::CompareSheetsRead => "compare_sheets_read",
             Entry::ComparePairs => "compare_pairs",
             Entry::ComparePairsRead => "compare_pairs_read",
+            Entry::CutterStart => "cutter_start",
+            Entry::CutterStartRead => "cutter_start_read",
+            Entry::Cut => "cut",
+            Entry::CutterFinish => "cutter_finish",
             Entry::Join => "join",
             Entry::Compare => "compare",
         }
@@ -102,6 +119,10 @@ impl Entry {
             Entry::CompareSheetsRead => raw::station_compare_sheets_read as *const (),
             Entry::ComparePairs => raw::station_compare_pairs as *const (),
             Entry::ComparePairsRead => raw::station_compare_pairs_read as *const (),
+            Entry::CutterStart => raw::station_cutter_start as *const (),
+            Entry::CutterStartRead => raw::station_cutter_start_read as *const (),
+            Entry::Cut => raw::station_cut as *const (),
+            Entry::CutterFinish => raw::station_cutter_finish as *const (),
             Entry::Join => raw::station_join as *const (),
             Entry::Compare => raw::station_compare as *const (),
         }
@@ -153,6 +174,9 @@ impl Entry {
                 Read("pairs"),
                 Written("answers"),
             ],
+            Entry::CutterStart => vec![columns, Written("state")],
+            Entry::Cut => vec![Changed("state"), Read("piece"), Written("ends")],
+            Entry::CutterFinish => vec![Read("state")],
             Entry::Join => vec![
                 Number("n0"),
                 Read("rows0"),
@@ -175,6 +199,7 @@ impl Entry {
             Entry::LookUp => Some(Entry::LookUpRead),
             Entry::CompareSheets => Some(Entry::CompareSheetsRead),
             Entry::ComparePairs => Some(Entry::ComparePairsRead),
+            Entry::CutterStart => Some(Entry::CutterStartRead),
             _ => None,
         }
     }
@@ -194,8 +219,8 @@ impl Entry {
     }
 }
 
-/// One call: the numbers, the slices that are read, and the lengths of those that are lent for writing,
-/// each in the order of the entry. What is lent for writing holds [`junk`] at first.
+/// One call: the numbers, the slices that are read, and the lengths of those that are only written to,
+/// each in the order of the entry. What is only written to holds [`junk`] at first.
 #[derive(Clone, Debug, PartialEq, Eq)]
 pub struct Call {
     pub entry: Entry,
@@ -206,7 +231,8 @@ pub struct Call {
     pub answer: usize,
 }
 
-/// What a call leaves behind: the lent slices, the answer, and what compare returned.
+/// What a call leaves behind: the slices lent for writing, those that are read as well first, the answer,
+/// and what compare returned.
 #[derive(Debug, PartialEq, Eq)]
 pub struct Exit {
     pub lent: Vec<Vec<u8>>,
@@ -300,6 +326,20 @@ impl Call {
         Call::new(Entry::ComparePairs, &[n0, n1], &given, &[answers])
     }
 
+    /// The room is bytes.
+    pub fn cutter_start(list: &[u8], state: usize) -> Call {
+        Call::new(Entry::CutterStart, &[], &[list], &[state])
+    }
+
+    /// The room is bytes.
+    pub fn cut(state: &[u8], piece: &[u8], ends: usize) -> Call {
+        Call::new(Entry::Cut, &[], &[state, piece], &[ends])
+    }
+
+    pub fn cutter_finish(state: &[u8]) -> Call {
+        Call::new(Entry::CutterFinish, &[], &[state], &[])
+    }
+
     /// The passes in order, each its rows and their offsets; offsets and room are bytes.
     pub fn join(counts: [u64; 2], passes: [[&[u8]; 2]; 2], order: usize) -> Call {
         Call::new(Entry::Join, &counts, &passes.concat(), &[order])
@@ -349,7 +389,8 @@ impl Call {
         self.given.iter().map(Vec::len).sum()
     }
 
-    /// What document 01 says: the numbers, and what is written in front of each lent slice.
+    /// What document 01 says: the numbers, and what is written in front of each slice lent for writing. An
+    /// error where none of them is written to.
     fn said(&self) -> Checked<(Numbers, Vec<Vec<u8>>)> {
         let given = |i: usize| self.given[i].as_slice();
         let number = |i: usize| self.numbers[i];
@@ -404,6 +445,26 @@ impl Call {
                 let ranks = model::compare_pairs(&columns, sheets, &pairs, self.lent[0])?;
                 ([0, ranks.len() as u64, 0, 0], vec![ranks])
             }
+            Entry::CutterStart | Entry::CutterStartRead => {
+                if self.lent[0] < cutter::STATE_BYTES {
+                    return Err([33, 0, 0, 0]);
+                }
+                let columns = self.entry.columns(given(0));
+                let answer = columns
+                    .as_ref()
+                    .map(|columns| [0, columns.len() as u64, 0, 0]);
+                let answer = answer.unwrap_or_else(|refusal| *refusal);
+                (answer, vec![state_bytes(&cutter::start(columns))])
+            }
+            Entry::Cut => {
+                let (state, room) = (cutter::read_state(given(0)), self.lent[0] / 8);
+                let cut = cutter::cut(state, given(1), room)?;
+                (cut.answer, vec![state_bytes(&cut.state), eights(&cut.ends)])
+            }
+            Entry::CutterFinish => {
+                let state = cutter::read_state(given(0));
+                (cutter::finish(state)?, vec![])
+            }
             Entry::Join => {
                 let offsets = [numbers(given(1)), numbers(given(3))];
                 let first = (number(0), given(0), &offsets[0][..]);
@@ -414,21 +475,39 @@ impl Call {
         })
     }
 
+    /// The places of the slices that are read and written to, among those that are read.
+    fn changed(&self) -> Vec<usize> {
+        let arguments = self.entry.arguments().into_iter();
+        let read = arguments.filter(|argument| matches!(argument, Read(_) | Changed(_)));
+        let places = read.enumerate();
+        let changed = places.filter(|(_, argument)| matches!(argument, Changed(_)));
+        changed.map(|(place, _)| place).collect()
+    }
+
     /// What the call must leave behind.
     pub fn expected(&self) -> Exit {
-        let mut lent: Vec<Vec<u8>> = self.lent.iter().map(|len| junk(*len)).collect();
+        self.expected_or_stays().0
+    }
+
+    /// What the call must leave behind, and whether nothing but the answer may be written.
+    pub fn expected_or_stays(&self) -> (Exit, bool) {
+        let changed = self.changed().into_iter().map(|i| self.given[i].clone());
+        let written = self.lent.iter().map(|len| junk(*len));
+        let mut lent: Vec<Vec<u8>> = changed.chain(written).collect();
         let mut answer = junk(self.answer);
-        let mut sign = 0;
+        let (mut sign, mut stays) = (0, self.entry != Entry::Compare);
         if self.entry == Entry::Compare {
             sign = self.given[0].cmp(&self.given[1]) as i32;
         } else if answer.len() >= station::ANSWER_BYTES {
-            let (numbers, written) = self.said().unwrap_or_else(|numbers| (numbers, vec![]));
+            let said = self.said();
+            stays = said.is_err();
+            let (numbers, written) = said.unwrap_or_else(|numbers| (numbers, vec![]));
             answer[..station::ANSWER_BYTES].copy_from_slice(&eights(&numbers));
             for (buffer, new) in lent.iter_mut().zip(written) {
                 buffer[..new.len()].copy_from_slice(&new);
             }
         }
-        Exit { lent, answer, sign }
+        (Exit { lent, answer, sign }, stays)
     }
 
     /// Whether every batch of the call has few rows: of the numbers, `n`, `n0` and `n1` count rows.
@@ -463,7 +542,10 @@ impl Call {
             }
             lend
         };
-        let given: Vec<Lend> = self.given.iter().map(|bytes| lend(bytes, true)).collect();
+        let changed = self.changed();
+        let given = self.given.iter().enumerate();
+        let given = given.map(|(i, bytes)| lend(bytes, lending.shut || !changed.contains(&i)));
+        let given: Vec<Lend> = given.collect();
         let lent = self.lent.iter().map(|len| lend(&junk(*len), lending.shut));
         let lent: Vec<Lend> = lent.collect();
         let answer = lend(&junk(self.answer), self.answer < station::ANSWER_BYTES);
@@ -475,18 +557,20 @@ impl Call {
                 None => stack::call_here(function, words),
             }
         });
+        let left = changed.iter().map(|i| &given[*i]).chain(&lent);
         let exit = Exit {
-            lent: lent.iter().map(|l| yard.bytes(*l).to_vec()).collect(),
+            lent: left.map(|l| yard.bytes(*l).to_vec()).collect(),
             answer: yard.bytes(answer).to_vec(),
             sign: match self.entry {
                 Entry::Compare => returned as i32,
                 _ => 0,
             },
         };
-        let mut kept = given.iter().zip(&self.given);
-        let changed = kept.any(|(lend, before)| yard.bytes(*lend) != before);
+        let kept = given.iter().zip(&self.given).enumerate();
+        let mut kept = kept.filter(|(i, _)| !changed.contains(i));
+        let differs = kept.any(|(_, (lend, before))| yard.bytes(*lend) != before);
         yard.take_back()?;
-        match changed {
+        match differs {
             true => Err("a slice that is only read has changed".to_string()),
             false => Ok(exit),
         }
@@ -500,7 +584,7 @@ impl Call {
         let arguments = self.entry.arguments().into_iter();
         let words = arguments.map(|argument| match argument {
             Number(_) => vec![*numbers.next().expect("a number")],
-            Read(_) => two(*given.next().expect("a slice to read")),
+            Read(_) | Changed(_) => two(*given.next().expect("a slice to read")),
             Written(_) => two(*lent.next().expect("a slice to write to")),
         });
         let mut words: Vec<u64> = words.flatten().collect();
@@ -520,7 +604,7 @@ impl fmt::Display for Call {
         for argument in self.entry.arguments() {
             match argument {
                 Number(name) => write!(f, " {name} {}", numbers.next().expect("a number"))?,
-                Read(name) => {
+                Read(name) | Changed(name) => {
                     let bytes = given.next().expect("a slice to read");
                     write!(f, " {name} {}", hex_start(bytes))?
                 }
@@ -531,16 +615,6 @@ impl fmt::Display for Call {
             }
         }
         write!(f, " room for the answer {}", self.answer)
-    }
-}
-
-impl Exit {
-    /// Whether nothing but the answer may have been written: a refusal, or an answer that is too short.
-    pub fn is_refusal(&self) -> bool {
-        match numbers(&self.answer)[..] {
-            [number, _, _, _, ..] => number != 0,
-            _ => true,
-        }
     }
 }
 

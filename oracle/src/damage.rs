@@ -231,6 +231,23 @@ pub fn compare(rng: &mut Rng, mut call: Call) -> Call {
     call
 }
 
+/// A call of the row cutter, wrong in one way or more: of the list or the state, the piece, the rooms.
+pub fn cut(rng: &mut Rng, mut call: Call) -> Call {
+    for _ in 0..rng.pick(&[1, 1, 1, 2, 3]) {
+        match rng.below(8) {
+            0 => change(rng, &mut call.given[0]),
+            1 | 2 => change_offsets(rng, &mut call.given[0]),
+            3 if !call.lent.is_empty() => call.lent[0] = change_room(rng, call.lent[0]),
+            4 if rng.once_in(4) => call.answer = rng.below(48),
+            _ => {
+                let last = call.given.len() - 1;
+                change(rng, &mut call.given[last]);
+            }
+        }
+    }
+    call
+}
+
 /// A call of join, wrong in one way or more.
 pub fn join(rng: &mut Rng, mut call: Call) -> Call {
     for _ in 0..rng.pick(&[1, 1, 1, 2, 3]) {

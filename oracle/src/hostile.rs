@@ -3,6 +3,8 @@
 use crate::call::{Call, Entry, ENTRIES};
 use crate::columns::descriptions_of;
 use crate::comparisons;
+use crate::cuts;
+use crate::cutter::STATE_BYTES;
 use crate::damage::{self, Good};
 use crate::joins;
 use crate::lookups;
@@ -61,6 +63,14 @@ fn some_offsets(rng: &mut Rng, rows: usize) -> Vec<u8> {
     bytes
 }
 
+/// A cutter's state that may be one, whatever comes with it.
+fn some_state(rng: &mut Rng) -> Vec<u8> {
+    match rng.once_in(4) {
+        true => noise(rng),
+        false => cuts::some_cut(rng).given.swap_remove(0),
+    }
+}
+
 /// A call of an entry with slices that have nothing to do with each other.
 fn noisy(rng: &mut Rng, entry: Entry) -> Call {
     let (list, n, bytes) = (some_list(rng), some_count(rng), noise(rng));
@@ -92,11 +102,18 @@ fn noisy(rng: &mut Rng, entry: Entry) -> Call {
         | Entry::DecodeRead
         | Entry::LookUpRead
         | Entry::CompareSheetsRead
-        | Entry::ComparePairsRead => {
+        | Entry::ComparePairsRead
+        | Entry::CutterStartRead => {
             let listed = noisy(rng, entry.listed());
             let descriptions = some_descriptions(rng);
             listed.under(&descriptions).expect("an entry with a list")
         }
+        Entry::CutterStart => {
+            let room = rng.pick(&[STATE_BYTES, STATE_BYTES, room]);
+            Call::cutter_start(&list, room)
+        }
+        Entry::Cut => Call::cut(&some_state(rng), &bytes, 8 * room),
+        Entry::CutterFinish => Call::cutter_finish(&some_state(rng)),
         Entry::Join => {
             let (n1, others) = (some_count(rng), noise(rng));
             let offsets = [bytes.len(), others.len()].map(|len| some_offsets(rng, len));
@@ -168,6 +185,20 @@ pub fn call_among(rng: &mut Rng, entries: &[Entry]) -> Call {
             match rng.once_in(4) {
                 true => good,
                 false => damage::compare(rng, good),
+            }
+        }
+        Entry::Cut if !rng.once_in(4) => {
+            let good = cuts::some_cut(rng);
+            match rng.once_in(4) {
+                true => good,
+                false => damage::cut(rng, good),
+            }
+        }
+        Entry::CutterFinish if !rng.once_in(4) => {
+            let good = Call::cutter_finish(&cuts::some_cut(rng).given[0]);
+            match rng.once_in(4) {
+                true => good,
+                false => damage::cut(rng, good),
             }
         }
         Entry::Join if !rng.once_in(4) => {

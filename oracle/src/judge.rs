@@ -128,12 +128,11 @@ impl Judge {
         }
     }
 
-    /// A slice of no bytes is lent as a place first, and then as a null pointer. Where the call must
-    /// refuse, all but the answer is shut.
+    /// A slice of no bytes is lent as a place first, and then as a null pointer. Where nothing but the
+    /// answer may be written, all else is shut.
     fn hold(&mut self, call: &Call) -> Result<(), String> {
-        let expected = call.expected();
+        let (expected, shut) = call.expected_or_stays();
         self.count(call.entry, &expected);
-        let shut = call.entry != Entry::Compare && expected.is_refusal();
         self.tally.refusals += shut as u64;
         self.hold_lent(call, &expected, Lending { nulls: false, shut })?;
         if call.has_empty() {

@@ -8,6 +8,8 @@ pub mod call;
 pub mod columns;
 pub mod comparisons;
 pub mod crate_side;
+pub mod cuts;
+pub mod cutter;
 pub mod damage;
 pub mod document;
 pub mod hex;

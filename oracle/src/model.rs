@@ -197,7 +197,7 @@ fn null_byte(column: Column) -> u8 {
 }
 
 /// Whether a field with this lead byte is null, which none is in a required column.
-fn null_lead(column: Column, lead: u8) -> bool {
+pub fn null_lead(column: Column, lead: u8) -> bool {
     !column.required && lead == null_byte(column)
 }
 
@@ -492,11 +492,16 @@ fn read_fixed(column: Column, reader: &mut Reader) -> Result<Option<Vec<u8>>, Fa
     if column.kind == BOOL && key[0] > 1 {
         return Err((19, start + 1));
     }
-    let value = turned(column, &key, signed_unkey, float_unkey);
-    match folded(column, &value) == value {
-        true => Ok(Some(value)),
+    match is_folded(column, &key) {
+        true => Ok(Some(turned(column, &key, signed_unkey, float_unkey))),
         false => Err((28, start + 1)),
     }
+}
+
+/// Whether these value bytes, inverted back, are those of a value that is folded where the column folds.
+pub fn is_folded(column: Column, key: &[u8]) -> bool {
+    let value = turned(column, key, signed_unkey, float_unkey);
+    folded(column, &value) == value
 }
 
 /// The number whose signed key this is.

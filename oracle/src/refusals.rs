@@ -3,13 +3,14 @@
 
 use crate::call::{eights, Call};
 use crate::columns::{Column, BOOL, FIXED_BINARY, FLOATS, VARIABLE};
+use crate::cutter::{self, STATE_BYTES};
 use crate::damage::{self, Good};
 use crate::document::one_slot_each;
 use crate::joins::join;
 use crate::judge::Judge;
 use crate::lookups;
 use crate::make::{self, Nulls};
-use crate::model::MAX_COLUMNS;
+use crate::model::{self, MAX_COLUMNS};
 use crate::rng::Rng;
 
 /// Every list of up to two bytes; every fault at every column up to the sixty-seventh; every cut.
@@ -223,6 +224,7 @@ pub fn rooms(judge: &mut Judge, rng: &mut Rng) {
 pub fn empty(judge: &mut Judge) {
     let names = one_slot_each(Column::new(VARIABLE, 2), &[Some(b"a"), None]);
     let good = Good::of(&names);
+    let state = cutter::state_bytes(&cutter::start(model::read_list(&good.list)));
     let calls = [
         Call::check_list(&good.list),
         Call::measure(&good.list, good.n, &good.sheet),
@@ -232,6 +234,9 @@ pub fn empty(judge: &mut Judge) {
         lookups::look_up(&good, 1, good.row(0)),
         Call::compare_sheets(&good.list, [(good.n, &good.sheet); 2], [0, 1]),
         Call::compare_pairs(&good.list, [(good.n, &good.sheet); 2], &eights(&[0, 1]), 1),
+        Call::cutter_start(&good.list, STATE_BYTES),
+        Call::cut(&state, &good.rows, 8 * good.rows.len()),
+        Call::cutter_finish(&state),
         join(&[vec![b"a".to_vec(), b"b".to_vec()], vec![b"a".to_vec()]]),
         Call::compare(good.row(0), good.row(1)),
         // No rows: nothing is refused, though slices are empty.

@@ -15,6 +15,7 @@ try:
 except ImportError:
     raise ImportError("rowstation needs numpy (in Debian and Ubuntu the package python3-numpy)") from None
 
+from .cutter import Cutter, StreamRefused, cut
 from .kinds import KINDS, OPTIONS
 from .library import LibraryError, compare, version
 from .refusals import REASONS, Refused
@@ -23,6 +24,6 @@ from .schema import Column, Schema
 from .values import BadValue, ByteColumn
 
 __all__ = [
-    "BadValue", "ByteColumn", "Column", "Join", "KINDS", "LibraryError", "OPTIONS", "OutOfOrder", "REASONS", "Refused", "Rows", "Schema",
-    "after", "compare", "compare_values", "decode", "encode", "key", "version",
+    "BadValue", "ByteColumn", "Column", "Cutter", "Join", "KINDS", "LibraryError", "OPTIONS", "OutOfOrder", "REASONS", "Refused", "Rows", "Schema",
+    "StreamRefused", "after", "compare", "compare_values", "cut", "decode", "encode", "key", "version",
 ]

@@ -14,14 +14,15 @@ import numpy as np
 
 from .cells import read_column, write_column
 from .csvfile import Table, TableWriter
+from .cutter import PIECE_BYTES, cut
 from .dust import Dust, Pass
-from .files import Progress, Trouble, opened, written
+from .files import Progress, Trouble, arriving, opened, streamed, written
 from .kinds import KINDS, OPTIONS
-from .library import LibraryError, version
+from .library import MAX_ROW_BYTES, LibraryError, version
 from .picture import FORMATS as PICTURES
 from .picture import NoPicture, draw, figure_class
 from .refusals import Refused
-from .rowfile import FORMATS, RowReader, RowWriter
+from .rowfile import FORMATS, JOINED, RowReader, RowWriter
 from .rows import OutOfOrder, Rows, decode, encode
 from .schema import Schema
 from .show import told
@@ -66,6 +67,7 @@ MAIN_HELP = f"""commands:
   decode          rows to a CSV file
   sort            rows in order
   join            two files of sorted rows in one order, each row told as ink or dust
+  cut             rows that come joined, from a pipe for instance: where each ends, or the rows one by one
   dust            two CSV files compared: ink, dust, duplicates; as text, CSV and a picture
   show            a row explained byte by byte
   COMMAND --help tells more
@@ -74,9 +76,24 @@ MAIN_HELP = f"""commands:
 {CSV_HELP}
 rows:
   as hex, a line for each row, or binary (--format); what is read may be either. Hex lines in the order of their bytes
-  (LC_ALL=C sort) are rows in order. A file named - is standard input or output.
+  (LC_ALL=C sort) are rows in order. Joined, with nothing between them, they are read by cut. A file named - is standard
+  input or output.
 
 {STATUS_HELP}"""
+
+CUT_HELP = """what is read:
+  the bytes of rows, one row after the other, with nothing between them and no list of where they end, as encode --format joined writes them.
+  The columns say where each ends. At most 16,777,216 bytes are read: the byte after them is refused, 12.
+
+what is written:
+  the end of each row, counted in bytes from the start, a line each; with --format hex the rows as hex lines, and with --format binary as a
+  binary file, both of which the other commands read. Standard output has a row, or its end, as soon as the row has arrived, also where the
+  pipe then stalls, and keeps what came before a refusal. A file is written whole or not at all.
+
+exit status:
+  0 done, and the input ended after a row; 1 it is refused, told in one line with the byte, the column and the reason; 2 wrong use, or a file
+  that cannot be read or written.
+"""
 
 DUST_HELP = f"""why quantise:
   ink is equality of bytes. Two cameras never agree in the last bits of a position, so without --quantise nearly every point is dust. With
@@ -237,6 +254,28 @@ def do_join(said: argparse.Namespace, progress: Progress) -> int:
     return 0
 
 
+def do_cut(said: argparse.Namespace, progress: Progress) -> int:
+    schema = _schema(said.columns)
+    start = 0
+    with streamed(said.out) as file, opened(said.file) as source:
+        writer = None if said.format == "ends" else RowWriter(file, said.format)
+        try:
+            for rows in cut(schema, arriving(said.file, source, PIECE_BYTES)):
+                if writer is None:
+                    file.write("".join(f"{end}\n" for end in (start + rows.offsets[1:]).tolist()).encode())
+                else:
+                    writer.write(rows)
+                file.flush()
+                start += int(rows.offsets[-1])
+        except Refused as refusal:
+            # Of a row the bad byte is counted from the row's start, which is where the last one ended.
+            place = MAX_ROW_BYTES if refusal.byte is None else start + refusal.byte
+            raise Trouble(said.file, str(refusal), f"byte {place}", schema.column_of(refusal)) from None
+        if writer is not None:
+            writer.finish()
+    return 0
+
+
 def _key(said: argparse.Namespace, schema: Schema) -> Tuple[Schema, int]:
     """The schema of the key columns, and by how many of them points are grouped."""
     names = said.key.split(",")
@@ -355,7 +394,7 @@ example:
   rowstation encode a.csv --columns plate:u32,glyph:text:nulls_last -o a.hex
 """, columns, table, source, out)
     one.add_argument("file", metavar="CSV", help="the file to read; - for standard input")
-    one.add_argument("--format", choices=FORMATS, default="hex", help="how rows are written (hex)")
+    one.add_argument("--format", choices=(*FORMATS, JOINED), default="hex", help="how rows are written (hex); joined is for cut")
 
     one = command("decode", "Rows to a CSV file. Every row is checked, and a damaged one is refused.",
                   "\n".join([_columns_help(), CSV_HELP, STATUS_HELP]), columns, table, out)
@@ -365,13 +404,21 @@ example:
 For rows that memory does not hold: `rowstation encode` and `decode` take any number, and LC_ALL=C sort sorts hex lines on disk.
 """, out)
     one.add_argument("file", metavar="ROWS", help="the file of rows to read; - for standard input")
-    one.add_argument("--format", choices=FORMATS, help="how rows are written (as they are read)")
+    one.add_argument("--format", choices=(*FORMATS, JOINED), help="how rows are written (as they are read); joined is for cut")
 
     one = command("join", "Two files of sorted rows in one order, as CSV: pass, row, ink or dust, the row in hex. Every row of both stands once; "
                   "equal rows of pass 0 come first.", STATUS_HELP, out)
     one.add_argument("a", metavar="A", help="the rows of pass 0, in order")
     one.add_argument("b", metavar="B", help="the rows of pass 1, in order")
     one.add_argument("--delimiter", default=",", type=_delimiter, metavar="CHAR", help="what stands between cells (a comma); tab for tabs")
+
+    one = command("cut", "Rows that come joined, with no list of their ends: where each ends. Every row is checked as decode does.",
+                  "\n".join([CUT_HELP, _columns_help()]) + """
+example:
+  camera | rowstation cut --columns plate:u32,glyph:text --format hex - | rowstation decode - --columns plate:u32,glyph:text
+""", columns, out)
+    one.add_argument("file", metavar="STREAM", help="the file to read; - for standard input")
+    one.add_argument("--format", choices=("ends", *FORMATS), default="ends", help="what is written (ends)")
 
     one = command("dust", "Two passes in CSV files: what is ink, what is dust in each, what stands twice; by plate and glyph.", DUST_HELP,
                   columns, table, source, out)
@@ -399,7 +446,9 @@ example:
     return main_parser
 
 
-COMMANDS = {"encode": do_encode, "decode": do_decode, "sort": do_sort, "join": do_join, "dust": do_dust, "show": do_show}
+COMMANDS = {
+    "encode": do_encode, "decode": do_decode, "sort": do_sort, "join": do_join, "cut": do_cut, "dust": do_dust, "show": do_show,
+}
 
 
 def main(words: Optional[Sequence[str]] = None) -> int:

@@ -68,6 +68,32 @@ def read(path: str, file: BinaryIO, size: int) -> bytes:
     return b"".join(parts)
 
 
+def arriving(path: str, file: BinaryIO, size: int) -> Iterator[bytes]:
+    """The bytes of a file as they arrive, in pieces of at most so many: nothing waits for a piece to be full."""
+    try:
+        while True:
+            piece = file.read1(size)  # type: ignore[attr-defined]
+            if not piece:
+                return
+            yield piece
+    except OSError as error:
+        raise Unusable(path, f"cannot be read: {error.strerror}") from None
+
+
+@contextmanager
+def streamed(path: str) -> Iterator[BinaryIO]:
+    """Standard output for ``-``, which has what is written to it once it is flushed; a file is whole or not there, as ever."""
+    if path != "-":
+        with written(path) as file:
+            yield file
+        return
+    try:
+        yield sys.stdout.buffer
+        sys.stdout.buffer.flush()
+    except OSError as error:
+        raise _unwritten(path, error) from None
+
+
 @contextmanager
 def written(path: str) -> Iterator[BinaryIO]:
     """A file to write, which stands at its path whole, once all went well, or not at all. ``-`` is standard output."""
@@ -77,11 +103,15 @@ def written(path: str) -> Iterator[BinaryIO]:
         else:
             yield from _beside(os.path.realpath(path))
     except OSError as error:
-        if isinstance(error, BrokenPipeError) and path == "-":
-            # Whoever read standard output has enough. Python is kept from flushing it once more.
-            os.dup2(os.open(os.devnull, os.O_WRONLY), sys.stdout.fileno())
-        name = "standard output" if path == "-" else path
-        raise Unusable(name, f"cannot be written: {error.strerror}") from None
+        raise _unwritten(path, error) from None
+
+
+def _unwritten(path: str, error: OSError) -> Unusable:
+    """What is told of a file that cannot be written."""
+    if isinstance(error, BrokenPipeError) and path == "-":
+        # Whoever read standard output has enough. Python is kept from flushing it once more.
+        os.dup2(os.open(os.devnull, os.O_WRONLY), sys.stdout.fileno())
+    return Unusable("standard output" if path == "-" else path, f"cannot be written: {error.strerror}")
 
 
 def _spooled(path: str) -> Iterator[BinaryIO]:

@@ -22,7 +22,7 @@ import numpy as np
 from .refusals import Refused
 
 #: The edition of the C entries that this package calls: it takes a library of the same major and of this minor or a later one.
-VERSION = "0.1.0"
+VERSION = "0.2.0"
 SONAME = "libstation.so." + VERSION.split(".")[0]
 
 #: How much one call takes.
@@ -31,6 +31,9 @@ MAX_ROW_BYTES = 16_777_216
 
 #: An answer is so many numbers of eight bytes: the refusal's number or 0, then what goes with it.
 ANSWER_NUMBERS = 4
+
+#: The state of a row cutter.
+STATE_BYTES = 360
 
 _SLICE = (ctypes.c_void_p, ctypes.c_size_t)
 _NUMBER = (ctypes.c_uint64,)
@@ -52,6 +55,10 @@ ENTRIES = {
     "station_compare_pairs_read": (None, _SLICE + (_NUMBER + _SLICE) * 2 + _SLICE * 3),
     "station_look_up": (None, _SLICE + _NUMBER + _SLICE + _NUMBER + _SLICE * 3),
     "station_look_up_read": (None, _SLICE + _NUMBER + _SLICE + _NUMBER + _SLICE * 3),
+    "station_cutter_start": (None, _SLICE * 3),
+    "station_cutter_start_read": (None, _SLICE * 3),
+    "station_cut": (None, _SLICE * 4),
+    "station_cutter_finish": (None, _SLICE * 2),
     "station_join": (None, (_NUMBER + _SLICE * 2) * 2 + _SLICE * 2),
     "station_compare": (ctypes.c_int32, _SLICE * 2),
 }

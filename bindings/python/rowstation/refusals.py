@@ -32,7 +32,7 @@ REASONS = {
     11: Reason("bytes after the last column, from byte {second} of the sheet on", "sheet_byte"),
     12: Reason("{second} row bytes, over 16,777,216", "bytes"),
     13: Reason("the row buffer is too small for {second} bytes", "bytes"),
-    14: Reason("the list of offsets, of the order or of answers is too short for {second}", "numbers"),
+    14: Reason("the list of offsets, of the order, of answers or of ends is too short for {second}", "numbers"),
     15: Reason("offset {second} is not 0 at the start, falls, or passes the row bytes", "offset"),
     16: Reason("row {second}, column {third}, byte {fourth}: the field or block is cut", "row", "column", "byte"),
     17: Reason("row {second}, column {third}, byte {fourth}: this lead byte is not allowed", "row", "column", "byte"),
@@ -49,6 +49,7 @@ REASONS = {
     29: Reason("the list of descriptions is too short for {second} columns", "columns"),
     31: Reason("a key of {second} columns, of none or of more than there are", "columns"),
     32: Reason("sheet {second} has no row {third}", "sheet", "row"),
+    33: Reason("the state of the row cutter breaks its rule", ""),
 }
 
 #: Answers that this package acts on itself.

@@ -5,6 +5,8 @@ sorts lines as bytes (``LC_ALL=C sort``) can sort and merge them.
 
 Binary: the eight bytes ``FF rowbin1``; then blocks, each of a count in four bytes, as many row lengths in four bytes each, and the rows,
 joined; then a count of 0, without which the file is cut. Numbers stand low byte first.
+
+Joined: the rows and nothing else. It is written here, and read by the row cutter alone, under the columns of the rows.
 """
 
 from __future__ import annotations
@@ -25,6 +27,7 @@ BLOCK_ROWS = 1 << 16
 BLOCK_BYTES = 1 << 22
 
 FORMATS = ("hex", "binary")
+JOINED = "joined"
 
 
 class RowReader:
@@ -134,6 +137,8 @@ class RowWriter:
             data = some.data[some.offsets[0] : some.offsets[-1]]
             if self.format == "hex":
                 self.file.write(hex_lines(data, some.offsets - some.offsets[0]))
+            elif self.format == JOINED:
+                self.file.write(data.tobytes())
             else:
                 self.file.write(len(some).to_bytes(4, "little"))
                 self.file.write(np.diff(some.offsets).astype("<u4").tobytes())

@@ -137,7 +137,8 @@ class Tables(unittest.TestCase):
     def test_entries(self):
         text = (REPOSITORY / "include" / "station.h").read_text()
         self.assertEqual(set(library.ENTRIES), set(re.findall(r"\b(station_\w+)\(", text)))
-        self.assertIn(f"STATION_ANSWER_BYTES = {8 * library.ANSWER_NUMBERS}", text)
+        self.assertIn(f"STATION_ANSWER_BYTES = {8 * library.ANSWER_NUMBERS} ", text)
+        self.assertIn(f"STATION_CUTTER_BYTES = {library.STATE_BYTES} ", text)
 
 
 if __name__ == "__main__":

@@ -93,7 +93,7 @@ impl Columns {
     }
 
     /// The bytes that are lent, and their count.
-    fn lent(&self) -> (*const u8, usize) {
+    pub(crate) fn lent(&self) -> (*const u8, usize) {
         (self.0.as_ptr().cast(), size_of_val(&self.0[..]))
     }
 

@@ -4,7 +4,8 @@
 //! binary (kind, options, width low byte first). A **sheet** holds the columns one after another:
 //! validity bits, then values. A **row** is a byte string; comparing two rows byte by byte orders
 //! them as their values are ordered. Every entry checks what it is given and answers either
-//! [`Done`] or a [`Refusal`] with four numbers; a refusal leaves every buffer as it was.
+//! [`Done`] or a [`Refusal`] with four numbers; a refusal leaves every buffer as it was, but for the
+//! ends that a [`Cutter`] has found before it.
 //!
 //! ```
 //! // One column of i32, nulls first; two rows: 1 and null.
@@ -26,9 +27,11 @@
 compile_error!("the station's archive is made for x86-64");
 
 mod columns;
+mod cutter;
 mod refusal;
 
 pub use columns::{Columns, Description};
+pub use cutter::{Cutter, CUTTER_BYTES};
 pub use refusal::Refusal;
 use std::cmp::Ordering;
 use std::ops::Range;
@@ -228,6 +231,42 @@ pub mod raw {
             answer: *mut u8,
             answer_len: usize,
         );
+        /// Starts a row cutter from a list.
+        pub fn station_cutter_start(
+            list: *const u8,
+            list_len: usize,
+            state: *mut u8,
+            state_len: usize,
+            answer: *mut u8,
+            answer_len: usize,
+        );
+        /// The same from descriptions.
+        pub fn station_cutter_start_read(
+            descriptions: *const u8,
+            descriptions_len: usize,
+            state: *mut u8,
+            state_len: usize,
+            answer: *mut u8,
+            answer_len: usize,
+        );
+        /// Writes the ends of the rows that a piece of a stream completes.
+        pub fn station_cut(
+            state: *mut u8,
+            state_len: usize,
+            piece: *const u8,
+            piece_len: usize,
+            ends: *mut u8,
+            ends_len: usize,
+            answer: *mut u8,
+            answer_len: usize,
+        );
+        /// Says whether a stream may end.
+        pub fn station_cutter_finish(
+            state: *const u8,
+            state_len: usize,
+            answer: *mut u8,
+            answer_len: usize,
+        );
         /// Writes the joined order of two sorted passes.
         pub fn station_join(
             n0: u64,
@@ -315,9 +354,10 @@ pub const ANSWER_BYTES: usize = 32;
 #[derive(Clone, Copy, Debug, PartialEq, Eq)]
 pub struct Done {
     /// Columns ([`check_list`], [`read_list`]), row bytes ([`measure`], [`encode`]), sheet bytes
-    /// ([`decode`]), entries ([`join`]) or pairs ([`compare_pairs`]).
+    /// ([`decode`]), entries ([`join`]), pairs ([`compare_pairs`]), ends ([`Cutter::cut`]) or rows
+    /// ([`Cutter::finish`]).
     pub total: u64,
-    /// The null slots of all rows and columns; 0 where the total is columns, entries or pairs.
+    /// The null slots of all rows and columns; 0 where the total is anything but bytes.
     pub nulls: u64,
 }
 

@@ -9,11 +9,12 @@ use std::fmt;
 /// `Display` gives the four numbers and what they mean.
 #[derive(Clone, Copy, Debug, PartialEq, Eq, Hash)]
 pub struct Refusal {
-    /// The reason, 1 to 24, 26 to 29, 31 or 32.
+    /// The reason, 1 to 24, 26 to 29, or 31 to 33.
     pub number: u64,
     /// The first number that goes with it.
     pub second: u64,
-    /// The second number that goes with it; 0 where the reason has one only.
+    /// The second number that goes with it; 0 where the reason has one only. Of 12, over 16,777,216 bytes
+    /// of a stream, the rows that ended.
     pub third: u64,
     /// In a refusal of a row, 16 to 23 and 28: the bad byte, counted from the row's start; where the
     /// row is cut, 16, its length. 0 in all others.
@@ -63,7 +64,7 @@ impl fmt::Display for Refusal {
             13 => write!(f, "the row buffer is too small for {a} bytes"),
             14 => write!(
                 f,
-                "the list of offsets, of the order or of answers is too short for {a}"
+                "the list of offsets, of the order, of answers or of ends is too short for {a}"
             ),
             15 => write!(
                 f,
@@ -78,6 +79,7 @@ impl fmt::Display for Refusal {
             29 => write!(f, "the list of descriptions is too short for {a} columns"),
             31 => write!(f, "a key of {a} columns, of none or of more than there are"),
             32 => write!(f, "sheet {a} has no row {b}"),
+            33 => write!(f, "the state of the row cutter breaks its rule"),
             _ => write!(
                 f,
                 "row {a}, column {b}, byte {place}: {}",

@@ -305,9 +305,140 @@ fn a_comparison_refuses_in_its_order() {
     assert_eq!((none, answers), (refused(32, 1, 4), [7; 2]));
 }
 
+/// The ends of a stream in these pieces, the last cutter, and what refused it, the finish included.
+fn cut<'a>(
+    mut cutter: Cutter,
+    pieces: impl IntoIterator<Item = &'a [u8]>,
+) -> (Vec<u64>, Cutter, Answer) {
+    let mut ends = vec![];
+    for piece in pieces {
+        let refused = cutter.cut_onto(piece, &mut ends);
+        if refused.is_err() {
+            return (ends, cutter, refused);
+        }
+    }
+    let finished = cutter.finish();
+    (ends, cutter, finished)
+}
+
+#[test]
+fn a_stream_is_cut_into_the_rows_that_were_joined() {
+    // Plates, names of 0 to 59 bytes, and bools, some of them null.
+    let list = [kind::U32, 2, kind::VARIABLE, 1, kind::BOOL, 4];
+    let (mut sheet, mut end) = (vec![0xFF; 7], 0u32);
+    sheet.push(0x0F);
+    (0..60u32).for_each(|i| sheet.extend(i.to_le_bytes()));
+    sheet.extend([0xEF; 7]);
+    sheet.push(0x0F);
+    sheet.extend(end.to_le_bytes());
+    for length in 0..60 {
+        end += length;
+        sheet.extend(end.to_le_bytes());
+    }
+    sheet.extend(vec![b'a'; end as usize]);
+    sheet.extend([&[0xFF; 7][..], &[0x0F], &[0x55; 7], &[0x05]].concat());
+    let rows = encode_to_vec(&list, 60, &sheet).unwrap();
+    let (cutter, columns) = (Cutter::start(&list).unwrap(), Columns::read(&list).unwrap());
+    assert_eq!(columns.cutter(), Ok(cutter.clone()));
+    let whole = cut(cutter.clone(), [&rows.bytes[..]]);
+    let all = Done {
+        total: 60,
+        nulls: 0,
+    };
+    assert_eq!((&whole.0[..], whole.2), (&rows.offsets[1..], Ok(all)));
+    for size in [1, 2, 7, 64, 1000] {
+        assert_eq!(cut(cutter.clone(), rows.bytes.chunks(size)), whole);
+    }
+    for at in 0..rows.bytes.len() {
+        let (first, second) = rows.bytes.split_at(at);
+        assert_eq!(cut(cutter.clone(), [first, second]), whole);
+    }
+    // Every beginning ends within a row, or after one.
+    for at in 0..rows.bytes.len() as u64 {
+        let (ends, _, finished) = cut(cutter.clone(), [&rows.bytes[..at as usize]]);
+        let ended = rows.offsets[1..].iter().filter(|end| **end <= at).count();
+        assert_eq!(ends, rows.offsets[1..=ended]);
+        let within = at - rows.offsets[ended];
+        match finished {
+            Ok(done) => assert_eq!((done.total, within), (ended as u64, 0)),
+            Err(r) => assert_eq!((r.number, r.second, r.place), (16, ended as u64, within)),
+        }
+    }
+}
+
+#[test]
+fn a_fault_is_the_one_that_decode_has() {
+    let list = [
+        kind::VARIABLE,
+        2,
+        kind::F16,
+        option::NULLS_FIRST | option::FOLD,
+    ];
+    let good = [2, b'a', 0, 0, 0, 0, 0, 0, 0, 1, 1, 0xBE, 0];
+    for at in 0..good.len() {
+        for byte in 0..=255 {
+            let mut row = good;
+            row[at] = byte;
+            let decoded = decode(&list, 2, &[good, row].concat(), &[0, 13, 26], &mut [0; 64]);
+            let stream = [good, row].concat();
+            let (ends, cutter, answer) = cut(Cutter::start(&list).unwrap(), stream.chunks(1));
+            assert_eq!(ends[0], 13);
+            // A row that decode finds too long or cut goes on as the next row of the stream.
+            let Err(refusal) = decoded else {
+                assert_eq!((ends, answer.map(|done| done.total)), (vec![13, 26], Ok(2)));
+                continue;
+            };
+            if ![16, 22].contains(&refusal.number) {
+                assert_eq!((ends, answer), (vec![13], Err(refusal)));
+                let again = cut(cutter.clone(), [&good[..]]);
+                assert_eq!(again, (vec![], cutter, Err(refusal)));
+            }
+        }
+    }
+}
+
+#[test]
+fn a_cutter_refuses_in_its_order_and_writes_nothing() {
+    let mut ends = [9; 4];
+    let mut cutter = Cutter::start(&[kind::U8, 2]).unwrap();
+    let begun = cutter.clone();
+    assert_eq!(cutter.cut(&[1; 5], &mut ends), refused(14, 5, 0));
+    assert_eq!(cutter.cut(&[], &mut []), Ok(Done { total: 0, nulls: 0 }));
+    assert_eq!((&cutter, ends), (&begun, [9; 4]));
+    let mut broken = *begun.state();
+    broken[40] = 1;
+    let mut broken = Cutter::of(broken);
+    let before = broken.clone();
+    assert_eq!(broken.cut(&[1; 5], &mut ends), refused(33, 0, 0));
+    assert_eq!(broken.finish(), refused(33, 0, 0));
+    assert_eq!((broken, ends), (before, [9; 4]));
+    // A fault stands, ahead of 14.
+    assert_eq!(cutter.cut(&[1, 5, 9], &mut ends), refused_at(17, 1, 0, 0));
+    assert_eq!(ends, [2, 9, 9, 9]);
+    let stands = cutter.clone();
+    assert_eq!(cutter.cut(&[1, 5], &mut []), refused(17, 1, 0));
+    assert_eq!((cutter.finish(), cutter), (refused(17, 1, 0), stands));
+}
+
+#[test]
+fn a_stream_has_a_ceiling() {
+    let (mut cutter, mut ends) = (Cutter::start(&[kind::U8, 2]).unwrap(), vec![]);
+    let piece = [1, 5].repeat(1 << 19);
+    for _ in 0..16 {
+        ends.clear();
+        assert_eq!(cutter.cut_onto(&piece, &mut ends).unwrap().total, 1 << 19);
+    }
+    assert_eq!(ends.last(), Some(&16_777_216));
+    let over = refused(12, 16_777_217, 8_388_608);
+    // The byte is refused before it is looked at, and the refusal stands.
+    assert_eq!(cutter.clone().cut_onto(&[99], &mut ends), over);
+    assert_eq!(cutter.cut_onto(&[1, 5], &mut ends), over);
+    assert_eq!((cutter.finish(), ends.len()), (over, 1 << 19));
+}
+
 #[test]
 fn every_reason_reads_well() {
-    for number in (1..=24).chain(27..=29).chain([31, 32]) {
+    for number in (1..=24).chain(26..=29).chain(31..=33) {
         let text = refused_at(number, 5, 6, 7).unwrap_err().to_string();
         assert!(text.starts_with(&format!("refused {number} 5 6 7: ")));
         assert!(!text.contains("unknown reason"), "{text}");
@@ -347,6 +478,17 @@ fn null_pointers_are_empty_slices() {
         let measured =
             answered(|a| raw::station_measure_read(none, 0, 0, none, 0, a.as_mut_ptr(), a.len()));
         assert_eq!(measured, empty_list);
+        let no_state = refused(33, 0, 0);
+        let started =
+            answered(|a| raw::station_cutter_start(none, 0, nowhere, 0, a.as_mut_ptr(), a.len()));
+        assert_eq!(started, no_state);
+        let cut = answered(|a| {
+            let (answer, len) = (a.as_mut_ptr(), a.len());
+            raw::station_cut(nowhere, 0, none, 0, nowhere, 0, answer, len)
+        });
+        assert_eq!(cut, no_state);
+        let finished = answered(|a| raw::station_cutter_finish(none, 0, a.as_mut_ptr(), a.len()));
+        assert_eq!(finished, no_state);
         assert_eq!(raw::station_compare(none, 0, none, 0), 0);
     }
 }

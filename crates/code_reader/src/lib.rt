@@ -33,7 +33,7 @@ fn check_code(codes: &[u8], i: usize) -> Check
 }
 
 // The column that description i says.
-fn coded_column(codes: &[u8], i: usize) -> Column
+pub fn coded_column(codes: &[u8], i: usize) -> Column
     requires { ⌜ 4 * i + 4 ≤ length (now codes) ⌝ }
     ensures { λ r. ⌜ r ≡ columnOf (codeAt (now (codes .entry)) i) ⌝ }
 {

@@ -28,9 +28,13 @@ use Rattle.format.specs.Promises.{Started, PieceCut, Finished}
 use Rattle.list_reader.specs.declared.Listed.{Listed}
 use Rattle.list_reader.specs.Listing.{ListedAs}
 use Rattle.cutter.specs.declared.Place.{Place}
+use Rattle.cutter.specs.declared.Left.{Left}
+use Rattle.cutter.specs.declared.Left.the-variants.{Moved, Stopped}
+use Rattle.cutter.specs.declared.Counted.{Counted}
 use Rattle.cutter.specs.declared.Walked.{Walked}
 use Rattle.cutter.specs.Places.{stateAt, placeOf}
 use Rattle.cutter.specs.Walks.{walkedTo, Walks}
+use Rattle.cutter.specs.Calls.{keptBack, leaves, unlessRefused, CutIn}
 
 -- ---- start
 
@@ -83,20 +87,24 @@ module _ (s : Cutter) (size room : ℕ) (k : keeps s ≡ true) where
 
 module _ (s : Cutter) (piece ends : List ℕ) where
   -- refused before it is read: state and list stay
-  stays : (r : Refusal) → cutFault s (length piece) (length ends) ≡ Refuse r → PieceCut s piece ends (Refused r) s ends
+  stays : (r : Refusal) (c : Counted) → cutFault s (length piece) (length ends) ≡ Refuse r → c ≡ keptBack r → CutIn s piece ends c ends
   unfolding cutAnswer cutState cutEnds
-  stays r e = record {
-    answers = sym (ap (λ (c : Check). numbersOf (answer (both c (fed s piece .refusal)) (length (endsIn s piece)) 0)) e);
-    state = sym (ap (λ (c : Check). unless c s (fed s piece)) e);
-    row-ends = sym (ap (λ (c : Check). written c (endsIn s piece) ends) e);
-  }
+  stays r c e q = rw q (record {
+    cut = record {
+      answers = sym (ap (λ (x : Check). numbersOf (answer (both x (fed s piece .refusal)) (length (endsIn s piece)) 0)) e);
+      state = sym (ap (λ (x : Check). unless x s (fed s piece)) e);
+      row-ends = sym (ap (λ (x : Check). written x (endsIn s piece) ends) e);
+    };
+    many = sym (ap (λ (x : Check). length (unlessRefused x (endsIn s piece))) e);
+    list = sym (ap (λ (x : Check). over (unlessRefused x (endsIn s piece)) ends) e);
+  })
 
-  pub cut-broken : keeps s ≡ false → PieceCut s piece ends (Refused BrokenState) s ends
-  cut-broken e = stays BrokenState (broken-fault s (length piece) (length ends) e)
+  pub cut-broken : (c : Counted) → keeps s ≡ false → c ≡ keptBack BrokenState → CutIn s piece ends c ends
+  cut-broken c e q = stays BrokenState c (broken-fault s (length piece) (length ends) e) q
 
   module _ (k : keeps s ≡ true) where
-    pub cut-stands : (r : Refusal) → s .refusal ≡ Refuse r → PieceCut s piece ends (Refused r) s ends
-    cut-stands r e = stays r (standing-fault s (length piece) (length ends) k r e)
+    pub cut-stands : (r : Refusal) (c : Counted) → s .refusal ≡ Refuse r → c ≡ keptBack r → CutIn s piece ends c ends
+    cut-stands r c e q = stays r c (standing-fault s (length piece) (length ends) k r e) q
 
     module _ (e : s .refusal ≡ Pass) where
       -- the state is its columns and its numbers
@@ -108,8 +116,8 @@ module _ (s : Cutter) (piece ends : List ℕ) where
       pub cut-kept : keeps (stateAt (s .schema) (placeOf s)) ≡ true
       cut-kept = ap keeps cut-state ∙ k
 
-      pub cut-short : length ends < length piece → PieceCut s piece ends (Refused (OffsetRoom (length piece))) s ends
-      cut-short l = stays (OffsetRoom (length piece)) (short-fault s (length piece) (length ends) k e l)
+      pub cut-short : (c : Counted) → length ends < length piece → c ≡ keptBack (OffsetRoom (length piece)) → CutIn s piece ends c ends
+      cut-short c l q = stays (OffsetRoom (length piece)) c (short-fault s (length piece) (length ends) k e l) q
 
       module _ (enough : length piece ≤ length ends) (p₀ : Place) (at : p₀ ≡ placeOf s) (w : Walked) (ends′ : List ℕ)
           (walks : Walks (s .schema) p₀ piece ends w ends′) where
@@ -125,27 +133,37 @@ module _ (s : Cutter) (piece ends : List ℕ) where
         found : endsIn (stateAt (s .schema) (placeOf s)) piece ≡ endsIn s piece
         found = ap (λ (t : Cutter). endsIn t piece) cut-state
 
-        walked : (c : Check) (last : Cutter) (a : Answer) → w .check ≡ c → last ≡ walkedTo c (s .schema) (w .place)
-            → a ≡ answer (walkedTo c (s .schema) (w .place) .refusal) (w .ends) 0 → PieceCut s piece ends a last ends′
+        walked : (c : Check) (a : Answer) (left : Left) → w .check ≡ c → leaves s left ≡ walkedTo c (s .schema) (w .place)
+            → a ≡ answer (walkedTo c (s .schema) (w .place) .refusal) (w .ends) 0 → CutIn s piece ends (record { answer = a; left = left; ends = w .ends }) ends′
         unfolding cutAnswer cutState cutEnds
-        walked c last a q p t =
+        walked c a left q p t =
             let state : fed s piece ≡ walkedTo c (s .schema) (w .place) = after ∙ ap (λ (x : Check). walkedTo x (s .schema) (w .place)) q in
             let many : w .ends ≡ length (endsIn s piece) = is .many ∙ ap length found in
+            let listed : ends′ ≡ over (endsIn s piece) ends = is .list ∙ ap (λ (f : List ℕ). over f ends) found in
             record {
-              answers =
-                  ap numbersOf t
-                  ∙ ap (λ (n : ℕ). numbersOf (answer (walkedTo c (s .schema) (w .place) .refusal) n 0)) many
-                  ∙ ap (λ (x : Cutter). numbersOf (answer (x .refusal) (length (endsIn s piece)) 0)) (sym state)
-                  ∙ ap (λ (x : Check). numbersOf (answer (both x (fed s piece .refusal)) (length (endsIn s piece)) 0)) (sym fault);
-              state = p ∙ sym state ∙ ap (λ (x : Check). unless x s (fed s piece)) (sym fault);
-              row-ends = is .list ∙ ap (λ (f : List ℕ). over f ends) found ∙ ap (λ (x : Check). written x (endsIn s piece) ends) (sym fault);
+              cut = record {
+                answers =
+                    ap numbersOf t
+                    ∙ ap (λ (n : ℕ). numbersOf (answer (walkedTo c (s .schema) (w .place) .refusal) n 0)) many
+                    ∙ ap (λ (x : Cutter). numbersOf (answer (x .refusal) (length (endsIn s piece)) 0)) (sym state)
+                    ∙ ap (λ (x : Check). numbersOf (answer (both x (fed s piece .refusal)) (length (endsIn s piece)) 0)) (sym fault);
+                state = p ∙ sym state ∙ ap (λ (x : Check). unless x s (fed s piece)) (sym fault);
+                row-ends = listed ∙ ap (λ (x : Check). written x (endsIn s piece) ends) (sym fault);
+              };
+              many = many ∙ ap (λ (x : Check). length (unlessRefused x (endsIn s piece))) (sym fault);
+              list = listed ∙ ap (λ (x : Check). over (unlessRefused x (endsIn s piece)) ends) (sym fault);
             }
 
-        pub cut-refused : (r : Refusal) (last : Cutter) → w .check ≡ Refuse r → last ≡ refused r → PieceCut s piece ends (Refused r) last ends′
-        cut-refused r last q p = walked (Refuse r) last (Refused r) q p refl
+        pub cut-refused : (r : Refusal) → w .check ≡ Refuse r → CutIn s piece ends (record { answer = Refused r; left = Stopped r; ends = w .ends }) ends′
+        cut-refused r q = walked (Refuse r) (Refused r) (Stopped r) q refl refl
 
-        pub cut-done : (last : Cutter) → w .check ≡ Pass → last ≡ stateAt (s .schema) (w .place) → PieceCut s piece ends (Done (w .ends) 0) last ends′
-        cut-done last q p = walked Pass last (Done (w .ends) 0) q p refl
+        pub cut-done : w .check ≡ Pass → CutIn s piece ends (record { answer = Done (w .ends) 0; left = Moved (w .place); ends = w .ends }) ends′
+        cut-done q = walked Pass (Done (w .ends) 0) (Moved (w .place)) q refl refl
+
+-- what was counted, with the state after it
+pub cut-left : {s : Cutter} {piece ends : List ℕ} {r : Counted} {ends′ : List ℕ} (last : Cutter) → CutIn s piece ends r ends′ → last ≡ leaves s (r .left)
+    → PieceCut s piece ends (r .answer) last ends′
+cut-left last is e = record { answers = is .cut .answers; state = e ∙ is .cut .state; row-ends = is .cut .row-ends }
 
 -- ---- the finish
 

@@ -1,17 +1,26 @@
 // The cutter: a start, a call for each piece, and the finish.
 ghost use mathlib.Core.Path.{_≡_};
+ghost use Prim.Native.Nat.{_<_};
+ghost use lib.ListN.{replicate};
+ghost use Rattle.format.specs.Limits.{maxColumns};
+ghost use Rattle.format.specs.Schemas.{noColumn};
 ghost use Rattle.format.specs.Cutter.{refused as refusedOf};
 ghost use Rattle.format.specs.Promises.{Started, PieceCut, Finished};
 ghost use Rattle.list_reader.specs.Listing.{OfEach};
 ghost use Rattle.cutter.specs.Places.{stateAt};
+ghost use Rattle.cutter.specs.Calls.{keptBack, leaves, CutIn};
+use crate::Counted;
 use crate::Cutting;
+use crate::Left;
 use crate::Place;
 use crate::place_of;
 use crate::rule::keeps;
 use crate::walk::walk;
+use answers::refusal_numbers;
 use column_facts::no_column;
 use format::Answer;
 use format::Check;
+use format::Column;
 use format::Cutter;
 use format::MAX_COLUMNS;
 use format::Refusal;
@@ -20,12 +29,25 @@ use format::Schema;
 use format::Spot;
 use list_reader::Listed;
 
+// No columns. The store changes nothing; that its place is not known beforehand keeps the array one thing in memory, where an array of constants
+// would be taken apart, and with it every copy of a state.
+fn no_columns(c: usize) -> [Column; MAX_COLUMNS]
+    requires { ⌜ c < maxColumns ⌝ }
+    ensures { λ r. ⌜ r ≡ replicate maxColumns noColumn ⌝ }
+{
+    let none = no_column();
+    let mut columns = [none; MAX_COLUMNS];
+    columns[c] = none;
+    columns
+}
+
 // A refused state holds its refusal and nothing else.
 fn refused(refusal: Refusal) -> Cutter
     ensures { λ r. ⌜ r ≡ refusedOf refusal ⌝ }
 {
-    let none = no_column();
-    let columns = [none; MAX_COLUMNS];
+    let numbers = refusal_numbers(refusal);
+    let number = numbers.0 as usize;
+    let columns = no_columns(number % MAX_COLUMNS);
     let schema = Schema {
         columns: columns,
         count: 0,
@@ -84,44 +106,73 @@ pub fn start_listed(listed: Listed) -> Cutting
     }
 }
 
+// Refused before a byte is read: nothing changes.
+fn kept_back(refusal: Refusal) -> Counted
+    ensures { λ r. ⌜ r ≡ keptBack refusal ⌝ }
+{
+    Counted {
+        answer: Answer::Refused(refusal),
+        left: Left::Same,
+        ends: 0,
+    }
+}
+
 // A piece: 33, then the refusal that stands, then 14, then byte by byte.
-pub fn cut(state: Cutter, piece: &[u8], ends: &mut [u64]) -> Cutting
-    ensures { λ r. ⌜ PieceCut state (now (piece .entry)) (now (ends .entry)) (r .answer) (r .state) (now (ends .exit)) ⌝ }
+pub fn cut_counted(state: Cutter, piece: &[u8], ends: &mut [u64]) -> Counted
+    ensures { λ r. ⌜ CutIn state (now (piece .entry)) (now (ends .entry)) r (now (ends .exit)) ⌝ }
 {
     if !keeps(state) {
-        return Cutting {
-            state: state,
-            answer: Answer::Refused(Refusal::BrokenState),
-        };
+        return kept_back(Refusal::BrokenState);
     }
     let refusal = state.refusal;
     if let Check::Refuse(r) = refusal {
-        return Cutting {
-            state: state,
-            answer: Answer::Refused(r),
-        };
+        return kept_back(r);
     }
     if ends.len() < piece.len() {
-        return Cutting {
-            state: state,
-            answer: Answer::Refused(Refusal::OffsetRoom(piece.len() as u64)),
-        };
+        return kept_back(Refusal::OffsetRoom(piece.len() as u64));
     }
     let schema = state.schema;
     let walked = walk(schema, place_of(state), piece, ends);
     let check = walked.check;
+    let found = walked.ends;
     if let Check::Refuse(r) = check {
-        let last = refused(r);
-        return Cutting {
-            state: last,
+        return Counted {
             answer: Answer::Refused(r),
+            left: Left::Stopped(r),
+            ends: found,
         };
     }
     let place = walked.place;
-    let last = state_at(schema, place);
+    Counted {
+        answer: Answer::Done(found as u64, 0),
+        left: Left::Moved(place),
+        ends: found,
+    }
+}
+
+// The state after a call.
+fn state_left(state: Cutter, left: Left) -> Cutter
+    ensures { λ r. ⌜ r ≡ leaves state left ⌝ }
+{
+    let schema = state.schema;
+    match left {
+        Left::Same => state,
+        Left::Moved(place) => state_at(schema, place),
+        Left::Stopped(refusal) => refused(refusal),
+    }
+}
+
+// The same with the state, columns and all.
+pub fn cut(state: Cutter, piece: &[u8], ends: &mut [u64]) -> Cutting
+    ensures { λ r. ⌜ PieceCut state (now (piece .entry)) (now (ends .entry)) (r .answer) (r .state) (now (ends .exit)) ⌝ }
+{
+    let counted = cut_counted(state, piece, ends);
+    let answer = counted.answer;
+    let left = counted.left;
+    let last = state_left(state, left);
     Cutting {
         state: last,
-        answer: Answer::Done(walked.ends as u64, 0),
+        answer: answer,
     }
 }
 

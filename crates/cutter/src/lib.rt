@@ -9,11 +9,12 @@ use format::Refusal;
 use format::Spot;
 
 mod entry;
-mod rule;
+pub mod rule;
 mod step;
-mod walk;
+pub mod walk;
 
 pub use entry::cut;
+pub use entry::cut_counted;
 pub use entry::finish;
 pub use entry::start_listed;
 
@@ -21,6 +22,20 @@ pub use entry::start_listed;
 pub struct Cutting {
     pub state: Cutter,
     pub answer: Answer,
+}
+
+// What a call leaves of the state: all of it, its columns with other numbers, or a refusal.
+pub enum Left {
+    Same,
+    Moved(Place),
+    Stopped(Refusal),
+}
+
+// The same without the columns, which stay where they are, and how many ends are in the list.
+pub struct Counted {
+    pub answer: Answer,
+    pub left: Left,
+    pub ends: usize,
 }
 
 // The numbers of a state: rows ended, bytes of the stream, bytes of the row that is being read, its column, and where in that field.
@@ -59,7 +74,7 @@ pub struct Sums {
 }
 
 // The numbers of a state.
-fn place_of(state: Cutter) -> Place
+pub fn place_of(state: Cutter) -> Place
     ensures { λ r. ⌜ r ≡ placeOf state ⌝ }
 {
     let spot = state.spot;

@@ -29,6 +29,7 @@ use Rattle.format.specs.CutterBytes.{checkNumbers, checkOf}
 use Rattle.laws.proofs.Described.{column-again}
 use Rattle.basics.proofs.LowBytes.{length-lowBytes, low-lowBytes}
 use Rattle.basics.proofs.Lists.{Every, every-at, each-is, length-joined, long-at}
+use Rattle.lent_bytes.proofs.NumberBytes.{length-eights}
 use Rattle.cutter_laws.proofs.RuleMoves.{and-true}
 
 -- ---- numbers of eight bytes
@@ -41,12 +42,6 @@ Small ns = Every (λ n. n < 256 ^ 8) ns
 all-long : {A : Type 0} (f : A → List ℕ) (w : ℕ) → ((x : A) → length (f x) ≡ w) → (xs : List A) → Every (λ y. length y ≡ w) (map f xs)
 all-long f w h [] = tt
 all-long f w h (x ∷ xs) = (h x, all-long f w h xs)
-
-pub length-eights : (ns : List ℕ) → length (eightBytes ns) ≡ 8 * length ns
-length-eights ns =
-    length-joined 8 (map (lowBytes 8) ns) (all-long (lowBytes 8) 8 (length-lowBytes 8) ns)
-    ∙ ap (λ (n : ℕ). n * 8) (length-map ns (lowBytes 8))
-    ∙ mul-comm (length ns) 8
 
 pub eights-back : (ns : List ℕ) → Small ns → eights (eightBytes ns) ≡ ns
 eights-back ns h =

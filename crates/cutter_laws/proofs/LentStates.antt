@@ -45,11 +45,30 @@ lent-start-reads list state lent a b =
     rw (le-ltb (length lent) answerRoom a, le-ltb (length state) stateSize b) (over-reads (startState list) state (start-listed list) (start-keeps list .1))
 
 -- an array that is as a list has it is whole
-whole : {s : Cutter} → Listed s → Whole s
+pub whole : {s : Cutter} → Listed s → Whole s
 whole c =
     ap (λ (x : Schema). length (x .columns)) (c .schema)
     ∙ length-append (c .cols) (replicate (maxColumns - length (c .cols)) noColumn)
     ∙ omega (arith, length-replicate {A = Column} (maxColumns - length (c .cols)) noColumn, c .few)
+
+-- lent bytes are read as no more columns than there may be
+pub read-listed : (state : List ℕ) → Listed (stateOf (take stateSize state))
+unfolding stateOf
+read-listed state = record {
+  cols = columnsOf x count;
+  few = omega (arith, length-each 0 (cond (leb count maxColumns) count 0) (λ i. columnOf (codeAt (drop numbersSize x) i)), most (leb count maxColumns) refl);
+  schema = refl;
+}
+  where
+    x : List ℕ
+    x = take stateSize state
+
+    count : ℕ
+    count = getD (eights (take numbersSize x)) 12 0
+
+    most : (t : Bool) → leb count maxColumns ≡ t → cond t count 0 ≤ maxColumns
+    most true q = leb-true count maxColumns q
+    most false q = omega arith
 
 -- ---- lent bytes that keep the rule
 
@@ -65,33 +84,14 @@ module _ (state : List ℕ) (h : lentKeeps state ≡ true) where
   unfolding lentKeeps
   read-keeps = and-true {s = leb stateSize (length state) && same (stateBytes read) (take stateSize state)} {t = keeps read} h .1
 
-  -- no more columns than there may be
-  read-listed : Listed read
-  unfolding stateOf
-  read-listed = record {
-    cols = columnsOf x count;
-    few = omega (arith, length-each 0 (cond (leb count maxColumns) count 0) (λ i. columnOf (codeAt (drop numbersSize x) i)), most (leb count maxColumns) refl);
-    schema = refl;
-  }
-    where
-      x : List ℕ
-      x = take stateSize state
-
-      count : ℕ
-      count = getD (eights (take numbersSize x)) 12 0
-
-      most : (t : Bool) → leb count maxColumns ≡ t → cond t count 0 ≤ maxColumns
-      most true q = leb-true count maxColumns q
-      most false q = omega arith
-
 -- after a call
 pub lent-cut-reads : (state piece ends lent : List ℕ) → Bytes piece → answerRoom ≤ length lent → lentKeeps state ≡ true
     → Reads (lentCutState state piece ends lent) (cutState (lentState state) piece (length ends / 8))
 unfolding lentCutState
 lent-cut-reads state piece ends lent bs a h =
     rw (le-ltb (length lent) answerRoom a, h, lent-is state h)
-    (over-reads (cutState s piece room) state (cut-listed s piece room (read-listed state h))
-    (cut-keeps s piece room bs (whole (read-listed state h), read-keeps state h) .1))
+    (over-reads (cutState s piece room) state (cut-listed s piece room (read-listed state))
+    (cut-keeps s piece room bs (whole (read-listed state), read-keeps state h) .1))
   where
     s : Cutter
     s = read state h

@@ -33,10 +33,11 @@ use Rattle.format.specs.Cutter.{begun}
 use Rattle.format.specs.CutterBytes.{checkNumbers, spotNumbers, stateNumbers, numbersSize, stateBytes, stateSize, spotOf, columnsOf, stateFrom, stateOf, same, lentKeeps, lentState}
 use Rattle.basics.proofs.Lists.{every-at}
 use Rattle.laws.proofs.Columns.{Narrow}
+use Rattle.lent_bytes.proofs.NumberBytes.{length-eights}
 use Rattle.cutter_laws.specs.Calls.{Whole}
 use Rattle.cutter_laws.proofs.RuleMoves.{and-true, true-and, within-true, size-most}
 use Rattle.cutter_laws.proofs.RuleKept.{Stands, stands-of, many, rows-most}
-use Rattle.cutter_laws.proofs.Coding.{Small, TwoBytes, numberList, length-eights, eights-back, length-codes, columns-back, Written, refusal-written}
+use Rattle.cutter_laws.proofs.Coding.{Small, TwoBytes, numberList, eights-back, length-codes, columns-back, Written, refusal-written}
 
 -- ---- eight bytes hold each number of a state that keeps the rule
 
@@ -233,13 +234,13 @@ count-back (Nulls seen known) count = refl
 count-back (Value seen spelt) count = refl
 count-back (Block k seen marks) count = refl
 
-length-spot : (spot : Spot) (count : ℕ) → length (spotNumbers spot ++ count ∷ []) ≡ 5
+pub length-spot : (spot : Spot) (count : ℕ) → length (spotNumbers spot ++ count ∷ []) ≡ 5
 length-spot Start count = refl
 length-spot (Nulls seen known) count = refl
 length-spot (Value seen spelt) count = refl
 length-spot (Block k seen marks) count = refl
 
-same-self : (xs : List ℕ) → same xs xs ≡ true
+pub same-self : (xs : List ℕ) → same xs xs ≡ true
 same-self [] = refl
 same-self (x ∷ xs) = true-and (eq-eqb x x refl) (same-self xs)
 

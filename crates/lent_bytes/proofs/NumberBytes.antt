@@ -22,7 +22,7 @@ pub length-eights : (ns : List ℕ) → length (eightBytes ns) ≡ 8 * length ns
 length-eights [] = refl
 length-eights (n ∷ ns) = length-append (lowBytes 8 n) (eightBytes ns) ∙ omega (arith, length-eights ns, length-lowBytes 8 n)
 
-eights-append : (ms ns : List ℕ) → eightBytes (ms ++ ns) ≡ eightBytes ms ++ eightBytes ns
+pub eights-append : (ms ns : List ℕ) → eightBytes (ms ++ ns) ≡ eightBytes ms ++ eightBytes ns
 eights-append [] ns = refl
 eights-append (m ∷ ms) ns =
     ap (λ (l : List ℕ). lowBytes 8 m ++ l) (eights-append ms ns) ∙ sym (append-assoc (lowBytes 8 m) (eightBytes ms) (eightBytes ns))

@@ -15,6 +15,7 @@ use Rattle.format.specs.Columns.{spelledFault, spelledColumns}
 use Rattle.format.specs.Described.{held, columnOf, codes, descriptionsIn, descriptionsFault, ColumnList, spelled, described, coded, listFault, columns}
 use Rattle.format.specs.Entries.{readListCheck, readListAnswer, readListColumns, measureCheck, encodeCheck, measureAnswer, encodeAnswer, encodeRows, encodeOffsets, decodeCheck, decodeAnswer, decodeSheet}
 use Rattle.format.specs.Lookup.{lookupCheck, lookupAnswer}
+use Rattle.format.specs.Cutter.{startAnswer, startState}
 use Rattle.format.specs.Lent.{answerRoom, codeRoom, lentReadListCodes}
 use Rattle.format.specs.Promises.{ListRead, LentListRead}
 use Rattle.basics.proofs.Checks.{both-pass, answer-done}
@@ -28,7 +29,7 @@ use Rattle.readings.proofs.Made.{read-narrowed}
 -- ---- lists with the same fault and the same columns
 module _ (a b : ColumnList) (f : listFault a ≡ listFault b) (c : columns a ≡ columns b) where
   pub alike : BothWays a b
-  unfolding measureAnswer encodeAnswer encodeRows encodeOffsets decodeAnswer decodeSheet lookupAnswer measureCheck encodeCheck decodeCheck lookupCheck
+  unfolding measureAnswer encodeAnswer encodeRows encodeOffsets decodeAnswer decodeSheet lookupAnswer startAnswer startState measureCheck encodeCheck decodeCheck lookupCheck
   alike = record {
     measures = λ n sheet. rw (f, c);
     encodes = λ n sheet rowRoom offsetRoom. rw (f, c);
@@ -37,6 +38,8 @@ module _ (a b : ColumnList) (f : listFault a ≡ listFault b) (c : columns a ≡
     decodes = λ n rows offsets room. rw (f, c);
     sheet-bytes = λ n rows offsets sheet. rw (f, c);
     looks-up = λ k key n rows offsets. rw (f, c);
+    starts = rw (f, c);
+    start-state = rw (f, c);
   }
 
 -- ---- a list that is accepted: its columns, and their codes with a tail that does not count

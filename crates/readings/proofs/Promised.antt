@@ -5,11 +5,12 @@ use mathlib.Core.Path.{ap, _∙_}
 use mathlib.Core.List.{List}
 use lib.ListN.{length}
 use Rattle.format.specs.declared.Answer.{Answer}
+use Rattle.format.specs.declared.Cutter.{Cutter}
 use Rattle.format.specs.Described.{ColumnList}
 use Rattle.format.specs.Numbers.{numbersOf}
 use Rattle.format.specs.Lists.{over}
 use Rattle.format.specs.Lent.{eights, eightBytes, answerBytes, unlessShort, lentMeasure, lentEncode, lentEncodeRows, lentEncodeOffsets, lentDecode, lentDecodeSheet, lentLookup}
-use Rattle.format.specs.Promises.{Measured, Encoded, Decoded, LookedUp, LentMeasured, LentEncoded, LentDecoded, LentLookedUp}
+use Rattle.format.specs.Promises.{Measured, Encoded, Decoded, LookedUp, Started, LentMeasured, LentEncoded, LentDecoded, LentLookedUp}
 use Rattle.readings.specs.Readings.{BothWays}
 
 module _ {a b : ColumnList} (w : BothWays a b) where
@@ -34,6 +35,9 @@ module _ {a b : ColumnList} (w : BothWays a b) where
   pub looked-up-ways : {k : ℕ} {key : List ℕ} {n : ℕ} {rows offsets : List ℕ} {r : Answer} → LookedUp a k key n rows offsets r
       → LookedUp b k key n rows offsets r
   looked-up-ways {k} {key} {n} {rows} {offsets} h = record { answers = h .answers ∙ ap numbersOf (w .looks-up k key n rows offsets) }
+
+  pub started-ways : {r : Answer} {s : Cutter} → Started a r s → Started b r s
+  started-ways h = record { answers = h .answers ∙ ap numbersOf (w .starts); state = h .state ∙ w .start-state }
 
   -- ---- the C entries
   pub lent-measured-ways : {n : ℕ} {sheet lent lent′ : List ℕ} → LentMeasured a n sheet lent lent′ → LentMeasured b n sheet lent lent′

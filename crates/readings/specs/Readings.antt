@@ -16,6 +16,7 @@ use Rattle.format.specs.Described.{Description, codes, descriptionsFault, Colum
 use Rattle.format.specs.Numbers.{numbersOf}
 use Rattle.format.specs.Entries.{answer, measureAnswer, encodeAnswer, encodeRows, encodeOffsets, decodeAnswer, decodeSheet}
 use Rattle.format.specs.Lookup.{lookupAnswer}
+use Rattle.format.specs.Cutter.{startAnswer, startState}
 
 -- ---- made by a reading
 
@@ -47,6 +48,8 @@ pub record BothWays (a b : ColumnList) : Type 0 where
   pub decodes : (n : ℕ) (rows offsets : List ℕ) (room : ℕ) → decodeAnswer a n rows offsets room ≡ decodeAnswer b n rows offsets room
   pub sheet-bytes : (n : ℕ) (rows offsets sheet : List ℕ) → decodeSheet a n rows offsets sheet ≡ decodeSheet b n rows offsets sheet
   pub looks-up : (k : ℕ) (key : List ℕ) (n : ℕ) (rows offsets : List ℕ) → lookupAnswer a k key n rows offsets ≡ lookupAnswer b k key n rows offsets
+  pub starts : startAnswer a ≡ startAnswer b
+  pub start-state : startState a ≡ startState b
 
 -- ---- the list bytes of a description
 

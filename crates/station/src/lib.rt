@@ -7,3 +7,4 @@ pub mod join;
 pub mod list;
 pub mod look_up;
 pub mod measure;
+pub mod stream;

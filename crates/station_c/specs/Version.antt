@@ -7,7 +7,7 @@ major = 0
 
 -- the count between the dots; it rises when an entry, a kind or an option is added
 abbrev pub minor : ℕ
-minor = 1
+minor = 2
 
 -- the count after the last dot; it rises when nothing that a caller sees is changed
 abbrev pub patch : ℕ

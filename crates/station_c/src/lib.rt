@@ -18,6 +18,7 @@ use sized::look_up::look_up_sized;
 use sized::order::MAX_ORDER;
 use sized::order::join_bytes;
 
+mod stream;
 mod version;
 
 // An answer is four numbers; one that cannot hold them, and no lent byte changes.

@@ -7,5 +7,5 @@ ghost use Rattle.station_c.specs.Version.{version};
 pub extern "C" fn station_version() -> u64
     ensures { λ r. ⌜ r ≡ version ⌝ }
 {
-    1000
+    2000
 }

@@ -1,6 +1,8 @@
 // The public entries on lent columns: those of crate station, with exactly the columns handed on in place of list bytes.
 ghost use Rattle.format.specs.Described.{described as described·};
-ghost use Rattle.format.specs.Promises.{Measured, Encoded, Decoded, LookedUp, SheetsCompared, PairsCompared};
+ghost use Rattle.format.specs.Promises.{Measured, Encoded, Decoded, LookedUp, Started, SheetsCompared, PairsCompared};
+use cutter::Cutting;
+use cutter::start_listed;
 use decoder::decode_listed;
 use encoder::encode::encode_listed;
 use encoder::measure::measure_listed;
@@ -88,4 +90,11 @@ pub fn compare_pairs_read(
         r (now (answers .exit)) ⌝ }
 {
     compare_numbers_listed(described(columns), n0, sheet0, n1, sheet1, pairs, answers)
+}
+
+// The column count and 0, or the refusal; and the row cutter's state before the first byte.
+pub fn start_read(columns: &[Column]) -> Cutting
+    ensures { λ r. ⌜ Started (described· (now (columns .entry))) (r .answer) (r .state) ⌝ }
+{
+    start_listed(described(columns))
 }

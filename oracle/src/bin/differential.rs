@@ -4,7 +4,9 @@ use oracle::judge::Judge;
 use oracle::options::Options;
 use oracle::rng::Rng;
 use oracle::yard::Yard;
-use oracle::{comparisons, document, joins, lookups, misreads, reads, refusals, sweeps, trap};
+use oracle::{
+    comparisons, cuts, document, joins, lookups, misreads, reads, refusals, sweeps, trap,
+};
 use std::process::ExitCode;
 
 fn main() -> ExitCode {
@@ -48,10 +50,17 @@ fn main() -> ExitCode {
     comparisons::compared(&mut judge, &mut rng, sheets);
     comparisons::refused(&mut judge, &mut rng);
     comparisons::damaged(&mut judge, &mut rng, sheets);
+    cuts::streams(&mut judge, &mut rng, sheets / 10);
+    cuts::faults(&mut judge, &mut rng, sheets, !quick);
+    cuts::states(&mut judge, &mut rng);
+    cuts::starts(&mut judge);
+    cuts::rooms(&mut judge);
+    cuts::ceilings(&mut judge, &mut rng);
+    cuts::damaged(&mut judge, &mut rng, sheets);
     joins::joined(&mut judge, &mut rng, sheets / 10);
     joins::refused(&mut judge, &mut rng);
     joins::damaged(&mut judge, &mut rng, sheets);
 
     // Every answer of the entries must have come up.
-    judge.finish((0..25).chain(26..30).chain([31, 32]))
+    judge.finish((0..25).chain(26..30).chain(31..34))
 }

@@ -8,4 +8,5 @@ refused-spec =
     tie.close
     (tie.spec
     (λ c κs. search needs)
-    (λ c. rw (c .no-column .ensures)))
+    (λ c κs. search needs)
+    (λ c. rw (c .no-columns .ensures)))

@@ -1,0 +1,185 @@
+-- `cutter_bytes::parts::walk_parts` meets its contract. The invariant: so many bytes are walked, and the ends in them stored. The measure is
+-- the bytes left. Assumes nothing.
+use borrow.Author.Needs.{needs}
+use Prim.Native.Nat.{_+_, _-_, _*_, _≤_}
+use mathlib.Core.Path.{_≡_, refl, ap, sym, _∙_}
+use native.Mathlib.Omega.{arith}
+use lib.ListN.{length, take, drop, length-drop}
+use lib.Seq.{length-take-le}
+use borrow.Rule.Slice.PartMut.{putMid}
+use Rattle.format.specs.declared.Check.{Check}
+use Rattle.basics.proofs.Bytes.{bytes-of}
+use Rattle.cutter.specs.Places.{stateAt}
+use Rattle.cutter.specs.Walks.{walkedTo}
+use Rattle.cutter_bytes.proofs.Parting.{Stored, stored-begin, stored-is, stored-keeps, part-fits, part-few, part-room, numbers-long, stored-more, walks-whole, walks-refused}
+use Rattle.cutter_bytes.proofs.parts.walk_parts.Statement.{statement}
+use Rattle.cutter_bytes.proofs.parts.walk_parts.Tie as tie
+
+abbrev Inv-loop : tie.InvT-loop
+Inv-loop schema piece ends₀ numbers₀ at₀ n₀ i₀ ends numbers at n i =
+    (i ≤ length piece) × Stored schema at₀ piece ends₀ i (stateAt schema at) n ends × (length numbers ≡ length numbers₀)
+
+abbrev μ-loop : tie.MeasureT-loop
+μ-loop schema piece ends₀ numbers₀ at₀ n₀ i₀ ends numbers at n i = length piece - i
+
+-- ---- where the function starts, and where a turn starts that walked a part
+abbrev start : tie.At-loop Inv-loop μ-loop → tie.Start Inv-loop μ-loop
+start c = c .before .before .before .before
+
+abbrev ended : tie.After-walk Inv-loop μ-loop → tie.After-part-end Inv-loop μ-loop
+ended c = c .before .before .before
+
+abbrev head : tie.After-walk Inv-loop μ-loop → tie.At-loop Inv-loop μ-loop
+head c = ended c .before .before
+
+abbrev walked : tie.After-write-offsets Inv-loop μ-loop → tie.After-walk Inv-loop μ-loop
+walked c = c .before .before .before .before .before
+
+-- ---- what is known of a part that was walked
+few : (c : tie.After-walk Inv-loop μ-loop) → c .walk .result .ends ≤ ended c .part-end .result - head c .loop .i
+few c =
+    let s = start (head c) in
+    let e = ended c .part-end .ensures in
+    part-few (s .args .schema) (s .args .place) (s .args .piece .now) (s .args .ends .now) _ _ _ _ _ _ _ _ (e .0) (e .1) (s .pre .1 .0) (head c .loop .inv .1)
+    (c .walk .ensures)
+
+room : (c : tie.After-walk Inv-loop μ-loop) → 8 * head c .loop .n + 8 * c .walk .result .ends ≤ length (head c .loop .ends)
+room c =
+    let s = start (head c) in
+    let e = ended c .part-end .ensures in
+    part-room (s .args .schema) (s .args .place) (s .args .piece .now) (s .args .ends .now) _ _ _ _ _ _ _ _ (e .0) (e .1) (s .pre .1 .0) (head c .loop .inv .1)
+    (c .walk .ensures)
+
+long : (c : tie.After-walk Inv-loop μ-loop) → length (c .walk .last .1 .1 .1 .0) ≡ length (head c .loop .numbers)
+long c =
+    let s = start (head c) in
+    let e = ended c .part-end .ensures in
+    numbers-long (s .args .schema) (s .args .place) (s .args .piece .now) (s .args .ends .now) _ _ _ _ _ _ _ _ (e .0) (e .1) (s .pre .1 .0)
+    (head c .loop .inv .1) (c .walk .ensures) (e .2)
+
+stored : (c : tie.After-write-offsets Inv-loop μ-loop) → let w = walked c in let l = head w in let a = start l .args in
+    Stored (a .schema) (a .place) (a .piece .now) (a .ends .now) (ended w .part-end .result)
+    (walkedTo (w .walk .result .check) (a .schema) (w .walk .result .place))
+    (l .loop .n + w .walk .result .ends)
+    (putMid (8 * l .loop .n) (length (l .loop .ends) - 8 * l .loop .n) (l .loop .ends) (c .write-offsets .last .1 .0))
+stored c =
+    let w = walked c in
+    let s = start (head w) in
+    let e = ended w .part-end .ensures in
+    stored-more (s .args .schema) (s .args .place) (s .args .piece .now) (s .args .ends .now) _ _ _ _ _ _ _ _ (e .0) (e .1) (s .pre .1 .0)
+    (head w .loop .inv .1) (w .walk .ensures) _ (c .write-offsets .ensures)
+
+-- ---- the needs
+loop-holds : tie.Need-loop-holds Inv-loop μ-loop
+loop-holds c = let a = c .before .before .before .args in (omega arith, stored-begin (a .schema) (a .place) (a .piece .now) (a .ends .now), refl)
+
+part-end-requires : tie.Need-part-end-requires Inv-loop μ-loop
+part-end-requires c κs = c .before .loop .inv .0
+
+walk-requires : tie.Need-walk-requires Inv-loop μ-loop
+walk-requires c κs =
+    let e = c .before .before in
+    let l = e .before .before in
+    let s = start l in
+    let a = s .args in
+    let bytes = bytes-of (a .piece .now) (λ j. l .before .before .before .shared-slice-known .given j .fits) in (
+      stored-keeps (a .schema) (a .place) (a .piece .now) (a .ends .now) (s .good .0) bytes (s .pre .0) _ _ _ _ (l .loop .inv .1),
+      part-fits (a .piece .now) _ _ _ (e .part-end .ensures .1) (e .part-end .ensures .2),
+    )
+
+mul-from : tie.Need-mul-from Inv-loop μ-loop
+mul-from c = let w = c .before .before in omega (arith, room w, head w .loop .inv .1 .long, start (head w) .good .1 .1 .1 .0)
+
+slice-reshare-prefix-write-offsets : tie.Need-slice-reshare-prefix-write-offsets Inv-loop μ-loop
+slice-reshare-prefix-write-offsets c = let w = c .before .before in omega (arith, few w, long w, ended w .part-end .ensures)
+
+slice-aggregate-write-offsets : tie.Need-slice-aggregate-write-offsets Inv-loop μ-loop
+slice-aggregate-write-offsets c =
+    let w = c .before .before .before in
+    sym (length-take-le (w .walk .result .ends) (w .walk .last .1 .1 .1 .0) (omega (arith, few w, long w, ended w .part-end .ensures)))
+
+sub-write-offsets : tie.Need-sub-write-offsets Inv-loop μ-loop
+sub-write-offsets c = omega (arith, room (c .before .before .before))
+
+write-offsets-requires : tie.Need-write-offsets-requires Inv-loop μ-loop
+write-offsets-requires c κs =
+    let w = c .before .before .before .before in
+    let ends = head w .loop .ends in
+    omega (
+      arith,
+      room w,
+      length-take-le (w .walk .result .ends) (w .walk .last .1 .1 .1 .0) (omega (arith, few w, long w, ended w .part-end .ensures)),
+      length-take-le (length ends - 8 * head w .loop .n) (drop (8 * head w .loop .n) ends) (omega (arith, length-drop (8 * head w .loop .n) ends)),
+    )
+
+add-n : tie.Need-add-n Inv-loop μ-loop
+add-n c = let w = walked (c .before .before) in omega (arith, room w, head w .loop .inv .1 .long, start (head w) .good .1 .1 .1 .0)
+
+same-length : tie.Need-same-length Inv-loop μ-loop
+same-length c = stored (c .before .before .before .before .before .before) .long
+
+same-length-2 : tie.Need-same-length-2 Inv-loop μ-loop
+same-length-2 c = let w = walked (c .before .before .before .before .before .before) in long w ∙ head w .loop .inv .2
+
+returns : tie.Need-returns Inv-loop μ-loop
+returns c =
+    let written = c .before .before .before .before .before .before in
+    let w = walked written in
+    let a = start (head w) .args in
+    walks-refused (a .schema) (a .place) (a .piece .now) (a .ends .now) _ _ _ _ _ _ _ (stored written)
+    (ap (λ (d : Check). walkedTo d (a .schema) (w .walk .result .place)) (c .before .check .given .1))
+
+loop-less : tie.Need-loop-less Inv-loop μ-loop
+loop-less c =
+    let w = walked (c .before .before .before .before .before) in
+    let turn = ended w .before in
+    let e = ended w .part-end .ensures in
+    omega (arith, e .1, e .3 (turn .loop-test .taken) (omega (arith, start (head w) .pre .1 .1, head w .loop .inv .2)))
+
+loop-again : tie.Need-loop-again Inv-loop μ-loop
+loop-again c =
+    let written = c .before .before .before .before .before in
+    let w = walked written in
+    let a = start (head w) .args in
+    let passes = ap (λ (d : Check). walkedTo d (a .schema) (w .walk .result .place)) (c .enum-told .given .1) in (
+      ended w .part-end .ensures .1,
+      stored-is (a .schema) (a .place) (a .piece .now) (a .ends .now) _ _ _ _ _ passes (stored written),
+      long w ∙ head w .loop .inv .2,
+    )
+
+returns-2 : tie.Need-returns-2 Inv-loop μ-loop
+returns-2 c =
+    let at-loop = c .before in
+    let a = start at-loop .args in
+    walks-whole (a .schema) (a .place) (a .piece .now) (a .ends .now) _ _ _ _ (at-loop .loop .inv .1) (c .loop-test .left)
+
+pub walk-parts-spec : {M : Type 1} → statement M
+walk-parts-spec =
+    tie.close
+    (tie.spec
+    Inv-loop
+    μ-loop
+    loop-holds
+    part-end-requires
+    (λ c. c .part-end .ensures .0)
+    (λ c. search needs)
+    (λ c. search needs)
+    walk-requires
+    mul-from
+    slice-reshare-prefix-write-offsets
+    slice-aggregate-write-offsets
+    sub-write-offsets
+    sub-write-offsets
+    (λ c. search needs)
+    write-offsets-requires
+    add-n
+    (λ c. search needs)
+    same-length
+    same-length-2
+    returns
+    (λ c. search needs)
+    loop-less
+    loop-again
+    (λ c. c .before .loop .inv .1 .long)
+    (λ c. c .before .loop .inv .2)
+    returns-2)

@@ -1,0 +1,2 @@
+-- Laws of the C entries that stand here.
+pub mod Streaming

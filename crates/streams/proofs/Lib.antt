@@ -1,0 +1,2 @@
+-- What the demand rests on.
+pub mod Anywhere

@@ -1,0 +1,2 @@
+-- What is demanded of rows from a pipe.
+pub mod Anywhere
