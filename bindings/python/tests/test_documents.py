@@ -130,7 +130,7 @@ class Tables(unittest.TestCase):
             ("include/station.h", rf"enum {{ STATION_VERSION = {number} }};"),
             ("bindings/rust/Cargo.toml", rf'^version = "{library.VERSION}"$'),
             ("bindings/python/pyproject.toml", rf'^version = "{library.VERSION}"$'),
-            ("crates/station_c/specs/Version.antt", rf"^major = {major}$(.|\n)*^minor = {minor}$(.|\n)*^patch = {patch}$"),
+            ("crates/edition/specs/Version.antt", rf"^major = {major}$(.|\n)*^minor = {minor}$(.|\n)*^patch = {patch}$"),
         ):
             self.assertRegex((REPOSITORY / file).read_text(), re.compile(pattern, re.M), file)
 

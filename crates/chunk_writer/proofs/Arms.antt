@@ -1,20 +1,29 @@
 -- A column whose kind is named: what its loop needs, and what it gives. Assumes nothing.
-use Prim.Native.Nat.{ℕ, _+_, _*_, _<_, _≤_}
+use Prim.Native.Nat.{ℕ, _<_, _≤_}
 use mathlib.Core.Path.{_≡_, sym, ap, _∙_, subst}
 use mathlib.Core.Bool.{false}
-use mathlib.Core.List.{List}
+use mathlib.Core.List.{List, [], _∷_}
 use native.Mathlib.Omega.{arith}
+use types.Run.{OneOf, miss}
+use denote.Enum.Declared.{tagOf}
 use lib.ListN.{length}
+use Rattle.format.proofs.Kind.{the-type}
+use Rattle.format.specs.declared.Kind.{Kind}
+use Rattle.format.specs.declared.Kind.the-variants.{Variable}
+use Rattle.format.specs.declared.SortOptions.{SortOptions}
 use Rattle.format.specs.declared.Column.{Column}
 use Rattle.format.specs.Limits.{maxRows}
 use Rattle.format.specs.Kinds.{Fixed, Shape, fixed, width, columnShape}
-use Rattle.format.specs.Fold.{foldedSlot}
-use Rattle.format.specs.Field.{field, fieldLength}
-use Rattle.format.specs.Sheet.{wide, layout, layoutFor, columnBytes, columnFault, packed, slotAt}
+use Rattle.format.specs.Field.{fieldLength}
+use Rattle.format.specs.Sheet.{wide, layout, layoutFor, columnBytes, columnFault, slotAt}
 use Rattle.format.specs.Passed.{Passes}
 use Rattle.laws.proofs.Sheets.{column-room}
 use Rattle.chunk_writer.specs.Cursors.{Roomy, WroteEach, slotField}
 use Rattle.chunk_writer.specs.Words.{Ready}
+
+-- a column of a kind
+abbrev pub kindColumn : Kind → SortOptions → Column
+kindColumn k o = record { kind = k; options = o }
 
 module _ (col : Column) (n : ℕ) (s : List ℕ) (from to : ℕ) where
   -- fixed values of w bytes
@@ -31,8 +40,17 @@ module _ (col : Column) (n : ℕ) (s : List ℕ) (from to : ℕ) where
   }
 
   -- the same fields
-  pub named-wrote : (sh : Shape) {rows offsets rows′ offsets′ : List ℕ} → columnShape col ≡ sh
-      → WroteEach (λ r. field sh (col .options) (foldedSlot sh (col .options) (slotAt (layoutFor sh) n s r))) from to rows offsets rows′ offsets′
+  pub named-wrote : {k : Kind} {rows offsets rows′ offsets′ : List ℕ} → col .kind ≡ k
+      → WroteEach (slotField (kindColumn k (col .options)) n s) from to rows offsets rows′ offsets′
       → WroteEach (slotField col n s) from to rows offsets rows′ offsets′
-  named-wrote sh {rows} {offsets} {rows′} {offsets′} e w =
-      subst (λ (sh : Shape). WroteEach (λ r. field sh (col .options) (foldedSlot sh (col .options) (slotAt (layoutFor sh) n s r))) from to rows offsets rows′ offsets′) (sym e) w
+  named-wrote {k} {rows} {offsets} {rows′} {offsets′} e w =
+      subst (λ (k : Kind). WroteEach (slotField (kindColumn k (col .options)) n s) from to rows offsets rows′ offsets′) (sym e) w
+
+-- ---- the last arm
+
+-- the places of the kinds that no arm names: variable bytes, at 15, are none of them
+abbrev leftKeys : List ℕ
+leftKeys = 0 ∷ 1 ∷ 5 ∷ 12 ∷ 14 ∷ 16 ∷ 17 ∷ []
+
+pub left-fixed : (kind : Kind) → OneOf leftKeys (tagOf the-type kind) → kind ≡ Variable → ⊥
+left-fixed kind h e = miss leftKeys 15 tt (subst (λ (k : Kind). OneOf leftKeys (tagOf the-type k)) e h)

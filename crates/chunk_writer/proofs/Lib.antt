@@ -1,3 +1,4 @@
--- What the proofs of this crate share: pieces that are written at cursors, and columns whose kind is named.
+-- What the proofs of this crate share: pieces that are written at cursors, columns whose kind is named, and the fields of variable bytes.
 pub mod Placing
 pub mod Arms
+pub mod NameFields

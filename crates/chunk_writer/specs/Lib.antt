@@ -1,3 +1,4 @@
 -- What the promises of this crate cite beside crate format's definitions.
 pub mod Cursors
 pub mod Words
+pub mod Valid

@@ -1,20 +1,21 @@
 // A column by its kind.
+ghost use mathlib.Core.Path.{_≡_};
 ghost use mathlib.Core.Bool.{false};
 ghost use Prim.Native.Nat.{_<_, _≤_};
 ghost use lib.ListN.{length};
+ghost use Rattle.format.specs.declared.Kind.the-variants.{Variable};
 ghost use Rattle.format.specs.Limits.{maxRows};
 ghost use Rattle.format.specs.Sheet.{columnFault, layout};
 ghost use Rattle.format.specs.Passed.{Passes};
 ghost use Rattle.chunk_writer.specs.Cursors.{Roomy, WroteEach, slotField};
-use crate::words::write_words16;
-use crate::words::write_words32;
-use crate::words::write_words64;
+use crate::names::write_names;
+use crate::words::write_words;
 use field_writer::put_field;
 use format::Column;
 use format::Kind;
 use number::Coding;
 
-// Any kind, decided in each row.
+// Any fixed kind, decided in each row.
 fn write_fields(
     column: Column,
     n: usize,
@@ -24,6 +25,7 @@ fn write_fields(
     rows: &mut [u8],
     offsets: &mut [u64],
 )
+    requires { ⌜ (column .kind ≡ Variable → ⊥) ⌝ }
     requires { ⌜ (n ≤ maxRows) × (from ≤ to) × (to ≤ n) × (n < length (now offsets)) ⌝ }
     requires { ⌜ Passes (λ c. columnFault false (layout column) n c (now part)) ⌝ }
     requires { ⌜ Roomy column n (now part) from to (length (now rows)) (now offsets) ⌝ }
@@ -55,13 +57,25 @@ pub fn write_column(
         (now (rows .exit)) (now (offsets .exit)) ⌝ }
 {
     let kind = column.kind;
-    let options = column.options;
-    let fold = options.fold;
+    let fold = column.options.fold;
+    let signed = Coding::Signed;
+    let unsigned = Coding::Unsigned;
+    let float = Coding::Float;
     match kind {
-        Kind::I16 => write_words16(
-            Coding::Signed,
+        Kind::I16 => write_words(2, signed, false, column, n, part, from, to, rows, offsets),
+        Kind::U16 => write_words(2, unsigned, false, column, n, part, from, to, rows, offsets),
+        Kind::F16 => write_words(2, float, fold, column, n, part, from, to, rows, offsets),
+        Kind::I32 => write_words(4, signed, false, column, n, part, from, to, rows, offsets),
+        Kind::U32 => write_words(4, unsigned, false, column, n, part, from, to, rows, offsets),
+        Kind::F32 => write_words(4, float, fold, column, n, part, from, to, rows, offsets),
+        Kind::I64 => write_words(8, signed, false, column, n, part, from, to, rows, offsets),
+        Kind::U64 => write_words(8, unsigned, false, column, n, part, from, to, rows, offsets),
+        Kind::F64 => write_words(8, float, fold, column, n, part, from, to, rows, offsets),
+        Kind::MonthDayNano => write_words(
+            16,
+            signed,
             false,
-            options,
+            column,
             n,
             part,
             from,
@@ -69,94 +83,7 @@ pub fn write_column(
             rows,
             offsets,
         ),
-        Kind::U16 => write_words16(
-            Coding::Unsigned,
-            false,
-            options,
-            n,
-            part,
-            from,
-            to,
-            rows,
-            offsets,
-        ),
-        Kind::F16 => write_words16(
-            Coding::Float,
-            fold,
-            options,
-            n,
-            part,
-            from,
-            to,
-            rows,
-            offsets,
-        ),
-        Kind::I32 => write_words32(
-            Coding::Signed,
-            false,
-            options,
-            n,
-            part,
-            from,
-            to,
-            rows,
-            offsets,
-        ),
-        Kind::U32 => write_words32(
-            Coding::Unsigned,
-            false,
-            options,
-            n,
-            part,
-            from,
-            to,
-            rows,
-            offsets,
-        ),
-        Kind::F32 => write_words32(
-            Coding::Float,
-            fold,
-            options,
-            n,
-            part,
-            from,
-            to,
-            rows,
-            offsets,
-        ),
-        Kind::I64 => write_words64(
-            Coding::Signed,
-            false,
-            options,
-            n,
-            part,
-            from,
-            to,
-            rows,
-            offsets,
-        ),
-        Kind::U64 => write_words64(
-            Coding::Unsigned,
-            false,
-            options,
-            n,
-            part,
-            from,
-            to,
-            rows,
-            offsets,
-        ),
-        Kind::F64 => write_words64(
-            Coding::Float,
-            fold,
-            options,
-            n,
-            part,
-            from,
-            to,
-            rows,
-            offsets,
-        ),
+        Kind::Variable => write_names(column, n, part, from, to, rows, offsets),
         _ => write_fields(column, n, part, from, to, rows, offsets),
     }
 }

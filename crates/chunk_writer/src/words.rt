@@ -1,22 +1,23 @@
-// Columns of numbers, a loop for each width: the coding, a constant at each call, is decided outside of the loop.
+// Columns that are written word by word, in one loop: width and coding, constants at each call, are decided outside of it.
 ghost use mathlib.Core.Path.{_≡_};
 ghost use lib.ListN.{length};
 ghost use Rattle.format.specs.Fold.{folds};
-ghost use Rattle.fixed_decoder.specs.Worded.{coded};
+ghost use Rattle.fixed_decoder.specs.Worded.{Worded, worded};
 ghost use Rattle.chunk_writer.specs.Cursors.{WroteEach};
 ghost use Rattle.word_writer.specs.Words.{wideField};
 ghost use Rattle.chunk_writer.specs.Words.{Ready};
-use format::SortOptions;
+use crate::valid::all_valid;
+use crate::valid::has_value;
+use format::Column;
 use number::Coding;
-use word_writer::put_slot16;
-use word_writer::put_slot32;
-use word_writer::put_slot64;
+use word_writer::put_slot;
 
-// 16 bits.
-pub fn write_words16(
+// Values of so many bytes.
+pub fn write_words(
+    width: usize,
     coding: Coding,
     fold: bool,
-    options: SortOptions,
+    column: Column,
     n: usize,
     part: &[u8],
     from: usize,
@@ -24,74 +25,30 @@ pub fn write_words16(
     rows: &mut [u8],
     offsets: &mut [u64],
 )
-    requires { ⌜ Ready 2 n from to (now part) (length (now rows)) (now offsets) ⌝ }
-    requires { ⌜ fold ≡ folds (coded coding 2) (options .fold) ⌝ }
-    ensures { λ _. ⌜ WroteEach (wideField 2 (coded coding 2) options n (now (part .entry))) from to (now (rows .entry)) (now (offsets .entry))
+    requires { ⌜ Worded width ⌝ }
+    requires { ⌜ Ready width n from to (now part) (length (now rows)) (now offsets) ⌝ }
+    requires { ⌜ fold ≡ folds (worded coding width) (column .options .fold) ⌝ }
+    ensures { λ _. ⌜ WroteEach (wideField width (worded coding width) (column .options) n (now (part .entry))) from to (now (rows .entry)) (now (offsets .entry))
         (now (rows .exit)) (now (offsets .exit)) ⌝ }
 {
     let valid = bits::packed(n);
     let values = &part[valid..];
+    let full = all_valid(part, from, to);
     let mut r = from;
     while r < to {
         let at = offsets[r + 1] as usize;
-        let bit = bits::bit(part, r);
-        offsets[r + 1] = put_slot16(bit, values, r, coding, fold, options, rows, at) as u64;
-        r += 1;
-    }
-}
-
-// 32 bits.
-pub fn write_words32(
-    coding: Coding,
-    fold: bool,
-    options: SortOptions,
-    n: usize,
-    part: &[u8],
-    from: usize,
-    to: usize,
-    rows: &mut [u8],
-    offsets: &mut [u64],
-)
-    requires { ⌜ Ready 4 n from to (now part) (length (now rows)) (now offsets) ⌝ }
-    requires { ⌜ fold ≡ folds (coded coding 4) (options .fold) ⌝ }
-    ensures { λ _. ⌜ WroteEach (wideField 4 (coded coding 4) options n (now (part .entry))) from to (now (rows .entry)) (now (offsets .entry))
-        (now (rows .exit)) (now (offsets .exit)) ⌝ }
-{
-    let valid = bits::packed(n);
-    let values = &part[valid..];
-    let mut r = from;
-    while r < to {
-        let at = offsets[r + 1] as usize;
-        let bit = bits::bit(part, r);
-        offsets[r + 1] = put_slot32(bit, values, r, coding, fold, options, rows, at) as u64;
-        r += 1;
-    }
-}
-
-// 64 bits.
-pub fn write_words64(
-    coding: Coding,
-    fold: bool,
-    options: SortOptions,
-    n: usize,
-    part: &[u8],
-    from: usize,
-    to: usize,
-    rows: &mut [u8],
-    offsets: &mut [u64],
-)
-    requires { ⌜ Ready 8 n from to (now part) (length (now rows)) (now offsets) ⌝ }
-    requires { ⌜ fold ≡ folds (coded coding 8) (options .fold) ⌝ }
-    ensures { λ _. ⌜ WroteEach (wideField 8 (coded coding 8) options n (now (part .entry))) from to (now (rows .entry)) (now (offsets .entry))
-        (now (rows .exit)) (now (offsets .exit)) ⌝ }
-{
-    let valid = bits::packed(n);
-    let values = &part[valid..];
-    let mut r = from;
-    while r < to {
-        let at = offsets[r + 1] as usize;
-        let bit = bits::bit(part, r);
-        offsets[r + 1] = put_slot64(bit, values, r, coding, fold, options, rows, at) as u64;
+        let bit = has_value(full, part, r);
+        offsets[r + 1] = put_slot(
+            bit,
+            values,
+            r,
+            width,
+            coding,
+            fold,
+            column.options,
+            rows,
+            at,
+        ) as u64;
         r += 1;
     }
 }

@@ -13,14 +13,14 @@ use format::Column;
 use format::Refusal;
 use list_reader::Listed;
 use list_reader::answered;
-use runs::wide;
+use words::join16;
 
 // The width of the description at `at`.
-fn coded_width(codes: &[u8], at: usize) -> usize
+fn coded_width(codes: &[u8], at: usize) -> u16
     requires { ⌜ at + 4 ≤ length (now codes) ⌝ }
     ensures { λ r. ⌜ r ≡ getD (now (codes .entry)) (at + 2) 0 + 256 * getD (now (codes .entry)) (at + 3) 0 ⌝ }
 {
-    wide(codes[at + 2]) + 256 * wide(codes[at + 3])
+    join16(codes[at + 2], codes[at + 3])
 }
 
 // The first fault of description i.
@@ -29,7 +29,13 @@ fn check_code(codes: &[u8], i: usize) -> Check
     ensures { λ r. ⌜ r ≡ heldFault i (codeAt (now (codes .entry)) i) ⌝ }
 {
     let at = 4 * i;
-    check_numbers(i, codes[at], false, codes[at + 1], coded_width(codes, at))
+    check_numbers(
+        i,
+        codes[at],
+        false,
+        codes[at + 1],
+        coded_width(codes, at) as usize,
+    )
 }
 
 // The column that description i says.

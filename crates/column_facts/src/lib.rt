@@ -27,7 +27,7 @@ pub fn width(kind: Kind) -> usize
         Kind::F64 => 8,
         Kind::DayTime => 8,
         Kind::MonthDayNano => 16,
-        Kind::FixedBinary(w) => w,
+        Kind::FixedBinary(w) => w as usize,
         Kind::Variable => 0,
         Kind::I128 => 16,
         Kind::I256 => 32,

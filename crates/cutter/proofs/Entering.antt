@@ -27,13 +27,13 @@ use Rattle.format.specs.Cutter.{begun, refused, unless, fed, endsIn, startedWit
 use Rattle.format.specs.Promises.{Started, PieceCut, Finished}
 use Rattle.list_reader.specs.declared.Listed.{Listed}
 use Rattle.list_reader.specs.Listing.{ListedAs}
-use Rattle.cutter.specs.declared.Place.{Place}
+use Rattle.cutter_step.specs.declared.Place.{Place}
 use Rattle.cutter.specs.declared.Left.{Left}
 use Rattle.cutter.specs.declared.Left.the-variants.{Moved, Stopped}
 use Rattle.cutter.specs.declared.Counted.{Counted}
-use Rattle.cutter.specs.declared.Walked.{Walked}
-use Rattle.cutter.specs.Places.{stateAt, placeOf}
-use Rattle.cutter.specs.Walks.{walkedTo, Walks}
+use Rattle.cutter_walk.specs.declared.Walked.{Walked}
+use Rattle.cutter_step.specs.Places.{stateAt, placeOf}
+use Rattle.cutter_walk.specs.Walks.{walkedTo, Walks}
 use Rattle.cutter.specs.Calls.{keptBack, leaves, unlessRefused, CutIn}
 
 -- ---- start

@@ -14,7 +14,7 @@ use Rattle.format.specs.Promises.{PieceCut}
 use Rattle.cutter.specs.declared.Counted.{Counted}
 use Rattle.cutter.specs.declared.Left.{Left}
 use Rattle.cutter.specs.declared.Left.the-variants.{Same, Moved, Stopped}
-use Rattle.cutter.specs.Places.{stateAt}
+use Rattle.cutter_step.specs.Places.{stateAt}
 
 -- a call that is refused before a byte is read
 abbrev pub keptBack : Refusal → Counted

@@ -35,14 +35,14 @@ use Rattle.cutter_laws.proofs.LentStates.{read-listed}
 use Rattle.cutter_laws.proofs.Piece.{ends-few}
 use Rattle.cutter_laws.proofs.RuleMoves.{true-and}
 use Rattle.cutter_laws.proofs.Streams.{start-listed}
-use Rattle.cutter.specs.declared.Place.{Place}
-use Rattle.cutter.specs.declared.Walked.{Walked}
-use Rattle.cutter.specs.Places.{stateAt, placeOf}
-use Rattle.cutter.specs.Walks.{walkedTo}
-use Rattle.cutter_bytes.specs.Written.{stateWith, placeNumbers, columnBytes}
+use Rattle.cutter_step.specs.declared.Place.{Place}
+use Rattle.cutter_walk.specs.declared.Walked.{Walked}
+use Rattle.cutter_step.specs.Places.{stateAt, placeOf}
+use Rattle.cutter_walk.specs.Walks.{walkedTo}
+use Rattle.state_bytes.specs.Written.{stateWith, placeNumbers, columnBytes}
 use Rattle.cutter_bytes.specs.Calls.{WalksLent, StartedLent, PieceCutLent, FinishedLent}
-use Rattle.cutter_bytes.proofs.Writing.{length-numbers, state-parts}
-use Rattle.cutter_bytes.proofs.Reading.{same-eq}
+use Rattle.state_bytes.proofs.Writing.{length-numbers, state-parts}
+use Rattle.state_bytes.proofs.Reading.{same-eq}
 
 -- ---- a start
 

@@ -1,5 +1,3 @@
--- Laws of the cutter's bytes.
-pub mod Writing
-pub mod Reading
+-- What the cutter's calls on lent bytes rest on.
 pub mod Parting
 pub mod Entering

@@ -14,10 +14,10 @@ use Rattle.format.specs.Described.{ColumnList}
 use Rattle.format.specs.Lent.{eights, eightBytes}
 use Rattle.format.specs.Cutter.{endsIn, fed, startAnswer, startState, cutAnswer, cutState, cutEnds, finishAnswer}
 use Rattle.format.specs.CutterBytes.{stateBytes, noRoom, lentKeeps, lentState}
-use Rattle.cutter.specs.declared.Place.{Place}
-use Rattle.cutter.specs.declared.Walked.{Walked}
-use Rattle.cutter.specs.Places.{stateAt}
-use Rattle.cutter.specs.Walks.{walkedTo}
+use Rattle.cutter_step.specs.declared.Place.{Place}
+use Rattle.cutter_walk.specs.declared.Walked.{Walked}
+use Rattle.cutter_step.specs.Places.{stateAt}
+use Rattle.cutter_walk.specs.Walks.{walkedTo}
 
 -- a walk over the whole piece: the state after it, how many rows end in it, and the lent bytes at exit
 pub record WalksLent (schema : Schema) (p : Place) (piece ends : List ℕ) (r : Walked) (ends′ : List ℕ) : Type 0 where

@@ -1,21 +1,21 @@
 // The cutter's calls on lent bytes.
 ghost use Rattle.list_reader.specs.Listing.{OfList, OfEach};
 ghost use Rattle.cutter_bytes.specs.Calls.{StartedLent, PieceCutLent, FinishedLent};
-use crate::STATE_BYTES;
 use crate::parts::walk_sized;
-use crate::read::read_state;
-use crate::read::written_as;
-use crate::write::put_numbers;
-use crate::write::put_refused;
-use crate::write::put_state;
 use cutter::finish;
 use cutter::place_of;
-use cutter::rule::keeps;
 use cutter::start_listed;
+use cutter_rule::keeps;
 use format::Answer;
 use format::Check;
 use format::Refusal;
 use list_reader::Listed;
+use state_bytes::STATE_BYTES;
+use state_bytes::put_numbers;
+use state_bytes::put_refused;
+use state_bytes::put_state;
+use state_bytes::read_state;
+use state_bytes::written_as;
 
 // Before the first byte, under a list that was read: the state is written on a list fault too.
 pub fn start_lent(listed: Listed, state: &mut [u8]) -> Answer

@@ -1,3 +1,2 @@
--- What the moves rest on.
-pub mod Arms
-pub mod Marks
+-- What a spot in a null says.
+pub mod Nulls

@@ -1,2 +1,2 @@
--- What a byte does to its field, as the code answers it.
+-- What a byte may count on.
 pub mod Moves

@@ -3,25 +3,17 @@
 ghost use mathlib.Core.Path.{_≡_};
 ghost use Rattle.format.specs.Kinds.{columnShape};
 ghost use Rattle.format.specs.Cutter.{move as moveOf};
-ghost use Rattle.cutter_moves.specs.Moves.{asMove, Stood};
+ghost use Rattle.moves.specs.Moves.{asMove};
+ghost use Rattle.cutter_moves.specs.Moves.{Stood};
+use block_moves::block_byte;
 use column_facts::width;
 use format::Column;
-use format::RowFault;
 use format::Spot;
-
-mod block;
-mod lead;
-mod nulls;
-mod value;
-
-pub use block::bytes_before;
-
-// The field goes on, it is whole, or a fault shows: which, and the place of the bad byte in the row.
-pub enum Moved {
-    On(Spot),
-    Whole,
-    Bad(RowFault, u64),
-}
+use moves::Moved;
+use moves::lead::lead;
+use moves::lead::turned;
+use moves::nulls::null_byte;
+use value_moves::value_byte;
 
 // A byte of a column's field, by where in the field it stands; `at` is its place in the row.
 pub fn move_in(column: Column, spot: Spot, at: u64, byte: u8) -> Moved
@@ -31,11 +23,9 @@ pub fn move_in(column: Column, spot: Spot, at: u64, byte: u8) -> Moved
     let kind = column.kind;
     let options = column.options;
     match spot {
-        Spot::Start => lead::lead(kind, options, at, byte),
-        Spot::Nulls(seen, known) => nulls::null_byte(width(kind), seen, known, at, byte),
-        Spot::Value(seen, spelt) => value::value_byte(kind, options, seen, spelt, at, byte),
-        Spot::Block(k, seen, marks) => {
-            block::block_byte(k, seen, marks, at, lead::turned(options, byte))
-        }
+        Spot::Start => lead(kind, options, at, byte),
+        Spot::Nulls(seen, known) => null_byte(width(kind), seen, known, at, byte),
+        Spot::Value(seen, spelt) => value_byte(kind, options, seen, spelt, at, byte),
+        Spot::Block(k, seen, marks) => { block_byte(k, seen, marks, at, turned(options, byte)) }
     }
 }

@@ -26,9 +26,10 @@ use Rattle.row_reader.specs.declared.Checked.{Checked}
 use Rattle.batch_reader.specs.Batch.{Checks}
 use Rattle.sheet_writer.specs.declared.Written.{Written}
 use Rattle.sheet_writer.specs.Writing.{Clears}
+use Rattle.room_checks.specs.Room.{sheetRoomFault}
 use Rattle.checks.specs.Begun.{Begun}
 use Rattle.checks.proofs.Begun.{both-grouped}
-use Rattle.decoder.specs.Decoding.{sheetRoomFault, SheetReady, SheetLeft}
+use Rattle.decoder.specs.Decoding.{SheetReady, SheetLeft}
 
 -- ---- the writing walk
 module _ (fault : Check) (schema : Schema) (n : ℕ) (rows offsets sheet : List ℕ) where

@@ -1,21 +1,14 @@
--- What decode asks of its room, and of its writing walk; and what that leaves in the buffer.
+-- What decode asks of its writing walk, and what that leaves in the buffer.
 use Prim.Native.Nat.{ℕ}
 use mathlib.Core.Path.{_≡_}
 use mathlib.Core.List.{List}
-use lib.Dec.{ltb}
 use Rattle.format.specs.declared.Check.{Check}
 use Rattle.format.specs.declared.Check.the-variants.{Pass}
-use Rattle.format.specs.declared.Refusal.the-variants.{SheetRoom}
 use Rattle.format.specs.declared.Schema.{Schema}
-use Rattle.format.specs.Check.{failIf}
 use Rattle.format.specs.Schemas.{colsOf}
 use Rattle.format.specs.Sheet.{nulls}
 use Rattle.format.specs.Entries.{cutRows, rowsSlots, decodedSheet, written}
 use Rattle.sheet_writer.specs.Writing.{Decodable}
-
--- 24
-abbrev pub sheetRoomFault : ℕ → ℕ → Check
-sheetRoomFault bytes room = failIf (ltb room bytes) (SheetRoom bytes) Pass
 
 -- where nothing is at fault, the writing walk has what it asks
 abbrev pub SheetReady : Check → Schema → ℕ → List ℕ → List ℕ → List ℕ → Type 0

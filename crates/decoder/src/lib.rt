@@ -1,27 +1,16 @@
 // Decoding under a list that was read, however it came: the cleared sheet of a batch of rows.
-ghost use mathlib.Core.Path.{_≡_};
 ghost use Rattle.format.specs.Promises.{Decoded};
 ghost use Rattle.list_reader.specs.Listing.{OfList, OfEach};
-ghost use Rattle.decoder.specs.Decoding.{sheetRoomFault, SheetReady, SheetLeft};
+ghost use Rattle.decoder.specs.Decoding.{SheetReady, SheetLeft};
 use batch_reader::check_rows;
 use checks::answer;
 use checks::begin;
 use format::Answer;
 use format::Check;
-use format::Refusal;
 use format::Schema;
 use list_reader::Listed;
+use room_checks::sheet::room_fault;
 use sheet_writer::write_sheet;
-
-// 24.
-fn room_fault(bytes: usize, room: usize) -> Check
-    ensures { λ r. ⌜ r ≡ sheetRoomFault bytes room ⌝ }
-{
-    if room < bytes {
-        return Check::Refuse(Refusal::SheetRoom(bytes));
-    }
-    Check::Pass
-}
 
 // The sheet of checked rows where nothing is at fault, and its null total; where something is, no byte changes.
 fn write_passed(

@@ -11,7 +11,7 @@ use format::Refusal;
 use format::SortOptions;
 
 // The kind that a kind byte from 1 to 18 says; fixed binary takes its width along.
-pub fn kind_of(b: u8, width: usize) -> Kind
+pub fn kind_of(b: u8, width: u16) -> Kind
     ensures { λ r. ⌜ r ≡ kindOf b width ⌝ }
 {
     match b {

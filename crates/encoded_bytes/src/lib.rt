@@ -2,7 +2,7 @@
 ghost use lib.ListN.{length};
 ghost use Rattle.list_reader.specs.Listing.{OfList, OfEach};
 ghost use Rattle.encoded_bytes.specs.Stored.{Held, EncodedBytes};
-use encoder::encode::encode_listed;
+use encoder::encode_listed;
 use format::Answer;
 use lent_bytes::write_offsets;
 use list_reader::Listed;

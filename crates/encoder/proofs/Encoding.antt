@@ -1,14 +1,11 @@
 -- What `encode` answers and leaves in the buffers: where list, 6 or sheet refuses, and where 12, 13 and 14 are asked. Assumes nothing.
-use Prim.Native.Nat.{ℕ, suc, _+_, _<_, _≤_}
+use Prim.Native.Nat.{ℕ, _≤_}
 use mathlib.Core.Path.{_≡_, refl, sym, ap, _∙_}
 use mathlib.Core.List.{List}
-use native.Mathlib.Numerals.{add-one}
 use native.Mathlib.Omega.{arith}
 use lib.ListN.{length, length-map}
 use lib.Seq.{sets}
-use borrow.Author.Tests.{lt-ltb, le-ltb}
 use Rattle.format.specs.declared.Refusal.{Refusal}
-use Rattle.format.specs.declared.Refusal.the-variants.{RowRoom, OffsetRoom}
 use Rattle.format.specs.declared.Check.{Check}
 use Rattle.format.specs.declared.Check.the-variants.{Pass, Refuse}
 use Rattle.format.specs.declared.Column.{Column}
@@ -23,13 +20,14 @@ use Rattle.format.specs.Sheet.{sheetSlots, turned}
 use Rattle.format.specs.Entries.{sheetRows, sheetTotal, totalFault, answer, written, encodeCheck, encodeAnswer, encodeRows, encodeOffsets}
 use Rattle.format.specs.Promises.{Encoded}
 use Rattle.basics.proofs.Append.{over-sets}
-use Rattle.basics.proofs.Checks.{enough, both-pass}
 use Rattle.basics.proofs.Lists.{length-each, length-ends}
 use Rattle.sheet_reader.specs.declared.sheet.Facts.{Facts}
-use Rattle.encoder.specs.declared.measure.Measuring.{Measuring}
-use Rattle.encoder.specs.Measuring.{batchCheck, Found, Measures}
-use Rattle.encoder.specs.Encoding.{roomFault, RowsReady, RowsLeft}
-use Rattle.encoder.proofs.Measuring.{batch-first}
+use Rattle.measurer.specs.declared.Measuring.{Measuring}
+use Rattle.measurer.specs.Measuring.{batchCheck, Found, Measures}
+use Rattle.encoder.specs.Encoding.{RowsReady, RowsLeft}
+use Rattle.measurer.proofs.Batches.{batch-first}
+use Rattle.room_checks.specs.Room.{roomFault}
+use Rattle.room_checks.proofs.Rooms.{has-room}
 use Rattle.checks.proofs.Begun.{both-grouped}
 
 -- a sheet of n rows gives n of them
@@ -60,23 +58,6 @@ module _ (fault : Check) (schema : Schema) (n : ℕ) (sheet rows offsets : List 
 -- two checks made one after the other
 pub in-order : (x y first second fault : Check) → x ≡ first → y ≡ second → fault ≡ both x y → fault ≡ both first second
 in-order x y first second fault p q e = rw (← p, ← q) e
-
--- ---- 13, 14
-module _ (total room n ends : ℕ) where
-  pub small-rows : room < total → Refuse (RowRoom total) ≡ roomFault total room n ends
-  small-rows h = rw (lt-ltb room total h)
-
-  pub few-offsets : total ≤ room → ends < n + 1 → Refuse (OffsetRoom (n + 1)) ≡ roomFault total room n ends
-  few-offsets r h = rw (le-ltb room total r, add-one n, lt-ltb ends (suc n) (omega arith))
-
-  pub enough-room : total ≤ room → n + 1 ≤ ends → Pass ≡ roomFault total room n ends
-  enough-room r h = rw (le-ltb room total r, le-ltb ends (suc n) (omega arith))
-
-  -- where 12, 13 and 14 pass there is room
-  pub has-room : (fault : Check) → fault ≡ both (totalFault total) (roomFault total room n ends) → fault ≡ Pass → (total ≤ room) × (n < ends)
-  has-room fault f e =
-      let r = enough room total (RowRoom total) _ (both-pass (totalFault total) _ (sym f ∙ e) .1) in
-      (r .0, enough ends (suc n) (OffsetRoom (suc n)) Pass (r .1) .0)
 
 -- a batch that passes is ready where its total has room
 pub ready : (list : ColumnList) (n : ℕ) (sheet : List ℕ) (m : Measuring) → Found list n sheet m → (fault : Check) (rows offsets : List ℕ)

@@ -1,3 +1,2 @@
--- How each way out of measuring and encoding follows.
-pub mod Measuring
+-- How each way out of encoding follows.
 pub mod Encoding

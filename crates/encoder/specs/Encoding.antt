@@ -1,24 +1,17 @@
--- What encode asks of its room, and of its writing walk; and what that leaves in the buffers.
+-- What encode asks of its writing walk, and what that leaves in the buffers.
 use Prim.Native.Nat.{ℕ, _<_, _≤_}
 use mathlib.Core.Path.{_≡_}
 use mathlib.Core.List.{List}
-use lib.Dec.{ltb}
 use lib.ListN.{length}
 use Rattle.format.specs.declared.Check.{Check}
 use Rattle.format.specs.declared.Check.the-variants.{Pass}
-use Rattle.format.specs.declared.Refusal.the-variants.{RowRoom}
 use Rattle.format.specs.declared.Schema.{Schema}
 use Rattle.format.specs.Limits.{maxColumns, maxRows}
 use Rattle.format.specs.Lists.{joined, endsFrom}
-use Rattle.format.specs.Check.{failIf}
 use Rattle.format.specs.Schemas.{colsOf}
-use Rattle.format.specs.Entries.{sheetRows, sheetTotal, offsetRoomFault, written}
+use Rattle.format.specs.Entries.{sheetRows, sheetTotal, written}
 use Rattle.sheet_reader.specs.declared.sheet.Facts.{Facts}
 use Rattle.sheet_reader.specs.Sheets.{Known}
-
--- 13, 14
-abbrev pub roomFault : ℕ → ℕ → ℕ → ℕ → Check
-roomFault total rowRoom n offsetRoom = failIf (ltb rowRoom total) (RowRoom total) (offsetRoomFault n offsetRoom)
 
 -- few rows and columns, and what is known of them; and where nothing is at fault, room for the rows and their offsets
 pub record RowsReady (fault : Check) (schema : Schema) (n : ℕ) (sheet : List ℕ) (facts : List Facts) (rows offsets : List ℕ) : Type 0 where

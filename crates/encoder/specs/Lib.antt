@@ -1,3 +1,2 @@
--- What the parts of measuring and encoding promise one another.
-pub mod Measuring
+-- What the writing walk asks, and what it leaves.
 pub mod Encoding

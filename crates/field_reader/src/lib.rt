@@ -5,12 +5,13 @@ ghost use Rattle.format.specs.Kinds.{Slot, columnShape};
 ghost use Rattle.format.specs.Sheet.{layout};
 ghost use Rattle.format.specs.Read.{fieldRead, readField};
 ghost use Rattle.format.specs.Cleared.{slotLength, added};
-ghost use Rattle.field_reader.specs.Counts.{Counts};
+ghost use Rattle.field_reader.specs.Counts.{Adds, Counts};
 use column_facts::width;
 use format::Column;
 use format::FieldRead;
 use format::Kind;
 use variable_reader::Short;
+use variable_reader::read_short;
 
 // The field in front of a row.
 pub fn read_field(row: &[u8], column: Column) -> FieldRead
@@ -28,18 +29,6 @@ pub fn read_field(row: &[u8], column: Column) -> FieldRead
     }
 }
 
-// The same of a short value in a column of variable bytes; of anything else it says nothing.
-pub fn read_short(row: &[u8], column: Column) -> Short
-    ensures { λ r. ⌜ (0 < r .field → Counts column (now (row .entry)) (r .field) (r .value)) ⌝ }
-{
-    let kind = column.kind;
-    let options = column.options;
-    match kind {
-        Kind::Variable => variable_reader::read_short(row, options),
-        _ => Short { field: 0, value: 0 },
-    }
-}
-
 // The bytes that a value of so many bytes adds to its column: its own in a variable column, none in a fixed one.
 pub fn added_bytes(column: Column, value: usize) -> usize
     ensures { λ r. ⌜ ((s : Slot) → slotLength s ≡ value → r ≡ added (layout column) s) ⌝ }
@@ -49,4 +38,33 @@ pub fn added_bytes(column: Column, value: usize) -> usize
         Kind::Variable => value,
         _ => 0,
     }
+}
+
+// An answer that is no fault, in two numbers: how long the field is, and what it adds. A field of no bytes says nothing.
+fn counted(read: FieldRead, column: Column) -> Short
+    ensures { λ r. ⌜ (0 < r .field → Adds column (r .field) (r .value) read) ⌝ }
+{
+    match read {
+        FieldRead::Null(field) => Short { field, value: 0 },
+        FieldRead::Value(field, value) => Short {
+            field,
+            value: added_bytes(column, value),
+        },
+        FieldRead::Fault(_, _) => Short { field: 0, value: 0 },
+    }
+}
+
+// The field in front of a row, counted so; of variable bytes the short ones are asked for first.
+pub fn count_field(row: &[u8], column: Column) -> Short
+    ensures { λ r. ⌜ (0 < r .field → Counts column (now (row .entry)) (r .field) (r .value)) ⌝ }
+{
+    let kind = column.kind;
+    let options = column.options;
+    if let Kind::Variable = kind {
+        let short = read_short(row, options);
+        if 0 < short.field {
+            return short;
+        }
+    }
+    counted(read_field(row, column), column)
 }

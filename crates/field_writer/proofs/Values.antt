@@ -10,11 +10,11 @@ use denote.Enum.Declared.{tagOf}
 use Rattle.format.proofs.Kind.{the-type}
 use Rattle.format.specs.declared.SortOptions.{SortOptions}
 use Rattle.format.specs.declared.Kind.{Kind}
-use Rattle.format.specs.declared.Kind.the-variants.{Bool, Variable}
-use Rattle.format.specs.Kinds.{bool, variable, Shape, Slot, shape, valueBytes}
+use Rattle.format.specs.declared.Kind.the-variants.{Bool}
+use Rattle.format.specs.Kinds.{bool, Shape, Slot, shape, valueBytes}
 use Rattle.format.specs.Fold.{foldedSlot}
 use Rattle.format.specs.Field.{field, fixedField, fieldLength, nullByte}
-use Rattle.format.specs.Sheet.{Layout, ended, wide, layoutFor, bit, boolByte, valueAt}
+use Rattle.format.specs.Sheet.{Layout, wide, layoutFor, bit, boolByte, valueAt}
 use Rattle.basics.proofs.Sorts.{wide-layout, fixedKeys, fixed-arm}
 use Rattle.basics.specs.Wide.{WideKind}
 use Rattle.basics.specs.Wrote.{Wrote}
@@ -44,12 +44,9 @@ module _ (o : SortOptions) (at next : ℕ) (entry exit : List ℕ) where
     abbrev Promised : Kind → Type 0
     Promised kind = Wrote (field (shape kind) o (foldedSlot (shape kind) o (some (valueAt (layoutFor (shape kind)) n s r)))) at entry exit next
 
-    -- the three sorts
+    -- the two sorts
     pub bool-promised : {kind : Kind} (b : Truth) → kind ≡ Bool → b ≡ bit s r → Wrote (fixedField bool o (some (boolByte b))) at entry exit next → Promised kind
     bool-promised b e h p = rw (e, ← h) p
-
-    pub variable-promised : {kind : Kind} → kind ≡ Variable → Wrote (field variable o (some (valueAt ended n s r))) at entry exit next → Promised kind
-    variable-promised e p = rw e p
 
     pub wide-promised : {kind : Kind} → WideKind kind
         → Wrote (field (shape kind) o (foldedSlot (shape kind) o (some (valueAt (wide (valueBytes kind)) n s r)))) at entry exit next → Promised kind

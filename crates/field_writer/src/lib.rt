@@ -1,30 +1,34 @@
 // The field of one slot of a checked column, from a place of the row buffer on. Each writer returns the place after the field.
+ghost use mathlib.Core.Path.{_≡_};
 ghost use mathlib.Core.Bool.{false};
 ghost use mathlib.Core.Option.{none, some};
 ghost use Prim.Native.Nat.{_+_, _<_, _≤_};
 ghost use lib.ListN.{length};
+ghost use Rattle.format.specs.declared.Kind.the-variants.{Variable};
 ghost use Rattle.format.specs.Limits.{maxRows};
 ghost use Rattle.format.specs.Kinds.{variable as variableShape, columnShape};
 ghost use Rattle.format.specs.Fold.{foldedSlot};
 ghost use Rattle.format.specs.Field.{field, fieldLength};
-ghost use Rattle.format.specs.Sheet.{ended, layout, valuesFault, valueAt, columnFault, slotAt};
+ghost use Rattle.format.specs.Sheet.{ended, layout, valuesFault, valueAt, columnFault, slotAt, slotIf};
 ghost use Rattle.format.specs.Passed.{Ended, Passes};
 ghost use Rattle.basics.specs.Wrote.{Wrote};
 use format::Column;
 use format::Kind;
 use format::SortOptions;
-use sheet_reader::sheet::end_at;
+use sheet_ends::end_at;
 
-// Null: the null byte, and for fixed kinds zeros to the length of a value.
+// Null of a fixed kind: the null byte, and zeros to the length of a value.
 fn put_null(column: Column, rows: &mut [u8], at: usize) -> usize
+    requires { ⌜ (column .kind ≡ Variable → ⊥) ⌝ }
     requires { ⌜ at + fieldLength (columnShape column) none ≤ length (now rows) ⌝ }
     ensures { λ x. ⌜ Wrote (field (columnShape column) (column .options) none) at (now (rows .entry)) (now (rows .exit)) x ⌝ }
 {
     let kind = column.kind;
     let options = column.options;
     match kind {
-        Kind::Variable => variable_writer::encode_null(rows, at, options),
-        _ => fixed_writer::encode_null(rows, at, column_facts::width(kind), options),
+        // Not handed.
+        Kind::Variable => at,
+        _ => null_writer::encode_null(rows, at, column_facts::width(kind), options),
     }
 }
 
@@ -48,9 +52,32 @@ fn put_variable(
     variable_writer::encode_one(rows, at, &values[..to], from, options)
 }
 
-// The value of row r, out of the values of the column, folded where the column folds. Two tests before encode's match, and not a match around it: the
+// The slot of row r in a column of variable bytes, out of the values of the column: its value, or the null byte.
+pub fn put_name(
+    valid: bool,
+    values: &[u8],
+    n: usize,
+    r: usize,
+    options: SortOptions,
+    rows: &mut [u8],
+    at: usize,
+) -> usize
+    requires { ⌜ (n ≤ maxRows) × (r < n) ⌝ }
+    requires { ⌜ Ended n (now values) ⌝ }
+    requires { ⌜ at + fieldLength variableShape (slotIf valid (valueAt ended n (now values) r)) ≤ length (now rows) ⌝ }
+    ensures { λ x. ⌜ Wrote (field variableShape options (slotIf valid (valueAt ended n (now (values .entry)) r))) at
+        (now (rows .entry)) (now (rows .exit)) x ⌝ }
+{
+    if valid {
+        return put_variable(values, n, r, options, rows, at);
+    }
+    variable_writer::encode_null(rows, at, options)
+}
+
+// The value of row r in a fixed column, out of its values, folded where the column folds. Two tests before encode's match, and not a match around it: the
 // optimiser makes one jump of these.
 fn put_value(values: &[u8], n: usize, r: usize, column: Column, rows: &mut [u8], at: usize) -> usize
+    requires { ⌜ (column .kind ≡ Variable → ⊥) ⌝ }
     requires { ⌜ (n ≤ maxRows) × (r < n) ⌝ }
     requires { ⌜ Passes (λ c. valuesFault (layout column) n c (now values)) ⌝ }
     requires { ⌜ at + fieldLength (columnShape column) (some (valueAt (layout column) n (now values) r)) ≤ length (now rows) ⌝ }
@@ -59,16 +86,17 @@ fn put_value(values: &[u8], n: usize, r: usize, column: Column, rows: &mut [u8],
 {
     let kind = column.kind;
     let options = column.options;
+    // Not handed.
     if let Kind::Variable = kind {
-        return put_variable(values, n, r, options, rows, at);
+        return at;
     }
     if let Kind::Bool = kind {
-        return fixed_writer::encode_boolean(rows, at, bits::bit(values, r), options);
+        return null_writer::encode_boolean(rows, at, bits::bit(values, r), options);
     }
     fixed_writer::encode(rows, at, kind, values, r, options)
 }
 
-// The slot of row r of the column in front of the part, as encode takes it.
+// The slot of row r of the fixed column in front of the part, as encode takes it.
 pub fn put_field(
     part: &[u8],
     n: usize,
@@ -77,6 +105,7 @@ pub fn put_field(
     rows: &mut [u8],
     at: usize,
 ) -> usize
+    requires { ⌜ (column .kind ≡ Variable → ⊥) ⌝ }
     requires { ⌜ (n ≤ maxRows) × (r < n) ⌝ }
     requires { ⌜ Passes (λ c. columnFault false (layout column) n c (now part)) ⌝ }
     requires { ⌜ at + fieldLength (columnShape column) (slotAt (layout column) n (now part) r) ≤ length (now rows) ⌝ }

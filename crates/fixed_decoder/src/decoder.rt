@@ -54,7 +54,7 @@ fn decode_value(row: &[u8], kind: Kind, descending: bool, out: &mut [u8], at: us
         Kind::I8 => take_number8(out, at, row, 1, Coding::Signed, descending),
         Kind::U8 => take_number8(out, at, row, 1, Coding::Unsigned, descending),
         Kind::DayTime => decode_day_time(row, descending, out, at),
-        Kind::FixedBinary(w) => copy_bytes(out, at, row, 1, w, descending),
+        Kind::FixedBinary(w) => copy_bytes(out, at, row, 1, w as usize, descending),
         Kind::I128 => take_words(out, at, row, 1, 2, descending),
         Kind::I256 => take_words(out, at, row, 1, 4, descending),
         // Not handed.

@@ -10,7 +10,7 @@ use Rattle.format.specs.Kinds.{shape, valueBytes}
 use Rattle.format.specs.Fold.{foldedSlot}
 use Rattle.format.specs.Field.{field}
 use Rattle.basics.specs.Wrote.{Wrote}
-use Rattle.fixed_writer.proofs.Writing.{led, wrote-as}
+use Rattle.number_writer.proofs.Writing.{led, wrote-as}
 
 -- what it is handed: the values of a column of a kind, a row, and where the value of the row is to be written
 pub record Handed : Type 0 where

@@ -1,5 +1,2 @@
--- What the proofs of the functions share.
-pub mod Writing
-pub mod Parts
-pub mod Words
+-- The arms of the match on a kind.
 pub mod EncodeArms

@@ -33,7 +33,7 @@ pub enum Kind {
     F64,
     DayTime,
     MonthDayNano,
-    FixedBinary(usize),
+    FixedBinary(u16),
     Variable,
     I128,
     I256,

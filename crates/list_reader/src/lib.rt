@@ -14,7 +14,7 @@ use format::Check;
 use format::Column;
 use format::Refusal;
 use format::Schema;
-use runs::wide;
+use words::join16;
 
 // What a list says: its first fault, and the columns of one that has none.
 pub struct Listed {
@@ -34,14 +34,14 @@ fn description_bytes(b: u8) -> usize
 }
 
 // The width of the column whose description stands at `at`: two bytes, low byte first, and 0 outside kind 15.
-fn width_at(list: &[u8], at: usize) -> usize
+fn width_at(list: &[u8], at: usize) -> u16
     requires { ⌜ at + descriptionBytes (getD (now list) at 0) ≤ length (now list) ⌝ }
     ensures { λ r. ⌜ r ≡ widthAt (now (list .entry)) at ⌝ }
 {
     if list[at] != 15 {
         return 0;
     }
-    wide(list[at + 2]) + 256 * wide(list[at + 3])
+    join16(list[at + 2], list[at + 3])
 }
 
 // The first fault of the description at `at`.
@@ -53,7 +53,7 @@ fn check_description(list: &[u8], at: usize) -> Check
     if list.len() - at < description_bytes(kind) {
         return check_numbers(at, kind, true, 0, 0);
     }
-    check_numbers(at, kind, false, list[at + 1], width_at(list, at))
+    check_numbers(at, kind, false, list[at + 1], width_at(list, at) as usize)
 }
 
 // The column whose description stands at `at`.

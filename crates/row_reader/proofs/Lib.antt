@@ -1,3 +1,2 @@
 -- The laws that the proof of the walk cites.
-pub mod Taken
 pub mod Turns

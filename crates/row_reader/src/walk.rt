@@ -8,17 +8,15 @@ ghost use Rattle.row_reader.specs.Walk.{Finds};
 use crate::Checked;
 use field_reader::added_bytes;
 use field_reader::read_field;
-use field_reader::read_short;
 use format::Check;
 use format::FieldRead;
 use format::Refusal;
 use format::RowFault;
 use format::Schema;
-use plain_fields::plain_lengths;
-use plain_fields::plain_there;
+use quick_rows::pass_rows;
 
-// The first fault in row order, then column order; each field is read from the part of the row that the previous one left,
-// but where a plain field or a short value stands there.
+// The first fault in row order, then column order, looked for from the first row on that the quick check did not pass; each field is
+// read from the part of the row that the previous one left.
 // A fault's place in the row is the row's length less the bytes left from the bad byte on.
 pub fn check_fields(schema: Schema, n: usize, rows: &[u8], offsets: &[u64]) -> Checked
     requires { ⌜ n ≤ maxRows ⌝ }
@@ -28,10 +26,10 @@ pub fn check_fields(schema: Schema, n: usize, rows: &[u8], offsets: &[u64]) -> C
 {
     let count = schema.count;
     let columns = schema.columns;
-    let lengths = plain_lengths(schema);
+    let passed = pass_rows(schema, n, rows, offsets);
     let mut check = Check::Pass;
-    let mut bytes: usize = 0;
-    let mut r = 0;
+    let mut bytes: usize = passed.bytes;
+    let mut r = passed.rows;
     'rows: while r < n {
         let start = offsets[r] as usize;
         let end = offsets[r + 1] as usize;
@@ -39,32 +37,21 @@ pub fn check_fields(schema: Schema, n: usize, rows: &[u8], offsets: &[u64]) -> C
         let mut at = 0;
         let mut c = 0;
         while c < count {
-            let len = lengths[c];
-            if plain_there(row, at, len) {
-                at += len;
-            } else {
-                let column = columns[c];
-                let rest = &row[at..];
-                let short = read_short(rest, column);
-                if 0 < short.field {
-                    at += short.field;
-                    bytes += short.value;
-                } else {
-                    let read = read_field(rest, column);
-                    match read {
-                        FieldRead::Null(len) => {
-                            at += len;
-                        }
-                        FieldRead::Value(len, value) => {
-                            at += len;
-                            bytes += added_bytes(column, value);
-                        }
-                        FieldRead::Fault(fault, left) => {
-                            let place = row.len() - left;
-                            check = Check::Refuse(Refusal::Row(fault, r, c, place));
-                            break 'rows;
-                        }
-                    }
+            let column = columns[c];
+            let rest = &row[at..];
+            let read = read_field(rest, column);
+            match read {
+                FieldRead::Null(len) => {
+                    at += len;
+                }
+                FieldRead::Value(len, value) => {
+                    at += len;
+                    bytes += added_bytes(column, value);
+                }
+                FieldRead::Fault(fault, left) => {
+                    let place = row.len() - left;
+                    check = Check::Refuse(Refusal::Row(fault, r, c, place));
+                    break 'rows;
                 }
             }
             c += 1;

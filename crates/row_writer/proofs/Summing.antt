@@ -18,8 +18,8 @@ use Rattle.format.specs.Lists.{each, joined, sum}
 use Rattle.format.specs.Passed.{Passes}
 use Rattle.format.specs.Sheet.{columnFault, ended, layout, slotAt}
 use Rattle.basics.proofs.Sorts.{fixedKeys}
-use Rattle.sheet_reader.specs.Measures.{variableLength}
-use Rattle.sheet_reader.proofs.Arms.{field-arm}
+use Rattle.sheet_lengths.specs.Measures.{variableLength}
+use Rattle.sheet_lengths.proofs.Arms.{field-arm}
 use Rattle.basics.proofs.Compare.{choose}
 use Rattle.basics.proofs.Lists.{each-same}
 use Rattle.chunk_writer.specs.Cursors.{cursor}

@@ -8,7 +8,7 @@ use Rattle.format.specs.Kinds.{columnShape}
 use Rattle.format.specs.Lists.{each, joined, sum}
 use Rattle.format.specs.Field.{fieldLength}
 use Rattle.format.specs.Sheet.{layout, slotAt}
-use Rattle.sheet_reader.specs.Measures.{variableLength}
+use Rattle.sheet_lengths.specs.Measures.{variableLength}
 use Rattle.chunk_writer.specs.Cursors.{cursor}
 
 -- nothing but the cursors of n rows has changed

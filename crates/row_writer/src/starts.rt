@@ -9,7 +9,7 @@ ghost use Rattle.row_writer.specs.Rows.{AllStand, rowAt, rowsTotal};
 ghost use Rattle.row_writer.specs.Starts.{CursorsAt, Fits, GrownFits, Longer, grown, rowStart, startOf};
 use format::Column;
 use format::Kind;
-use sheet_reader::measure::variable_length;
+use sheet_lengths::variable_length;
 use sheet_reader::sheet::Facts;
 
 // Every cursor is 0.

@@ -1,7 +1,4 @@
--- What the proofs of this crate share: the arms of a match on a kind; for each loop what holds at its head, and what each way out of a
--- turn gives. And the slots of checked columns, for the crates that read them.
-pub mod Arms
-pub mod EndTurns
+-- What the proof of the walk shares: what holds at the head of its loop, and what each way out of a turn gives. And the slots of the
+-- checked columns, for the crates that read them.
 pub mod SheetTurns
-pub mod Measures
 pub mod Values

@@ -9,11 +9,7 @@ use Rattle.format.specs.Sheet.{sheetFault, sheetSlots, nulls, place}
 use Rattle.sheet_reader.specs.declared.sheet.Facts.{Facts}
 use Rattle.sheet_reader.specs.declared.sheet.Sheeted.{Sheeted}
 use Rattle.format.specs.Schemas.{noColumn}
-use Rattle.format.specs.Passed.{Stands, Step}
-
--- the ends of n rows neither fall nor step too far
-abbrev pub Steps : ℕ → List ℕ → Type 0
-Steps n s = (j : ℕ) → j < n → Step s j
+use Rattle.format.specs.Passed.{Stands}
 
 -- what fills the array after the columns in use
 abbrev pub noFacts : Facts

@@ -1,3 +1,2 @@
-// The sheet: checked against its columns, and its rows measured.
-pub mod measure;
+// The sheet, checked against its columns.
 pub mod sheet;

@@ -104,7 +104,7 @@ fn write_rows(
 }
 
 // The same in an array of 8 cursors.
-fn write_few(schema: Schema, n: usize, rows: &[u8], offsets: &[u64], sheet: &mut [u8]) -> Written
+fn write_8(schema: Schema, n: usize, rows: &[u8], offsets: &[u64], sheet: &mut [u8]) -> Written
     requires { ⌜ n ≤ 8 ⌝ }
     requires { ⌜ Decodable schema n (now rows) (now offsets) (now sheet) ⌝ }
     ensures { λ r. ⌜ Clears n (colsOf schema) (rowsSlots (colsOf schema) (cutRows n (now (rows .entry)) (now (offsets .entry))))
@@ -114,8 +114,19 @@ fn write_few(schema: Schema, n: usize, rows: &[u8], offsets: &[u64], sheet: &mut
     write_rows(schema, n, rows, offsets, &mut cursors, sheet)
 }
 
+// The same in an array of 32 cursors.
+fn write_32(schema: Schema, n: usize, rows: &[u8], offsets: &[u64], sheet: &mut [u8]) -> Written
+    requires { ⌜ n ≤ 32 ⌝ }
+    requires { ⌜ Decodable schema n (now rows) (now offsets) (now sheet) ⌝ }
+    ensures { λ r. ⌜ Clears n (colsOf schema) (rowsSlots (colsOf schema) (cutRows n (now (rows .entry)) (now (offsets .entry))))
+        (now (sheet .entry)) (now (sheet .exit)) r ⌝ }
+{
+    let mut cursors = [0usize; 32];
+    write_rows(schema, n, rows, offsets, &mut cursors, sheet)
+}
+
 // The same in an array of 64 cursors.
-fn write_some(schema: Schema, n: usize, rows: &[u8], offsets: &[u64], sheet: &mut [u8]) -> Written
+fn write_64(schema: Schema, n: usize, rows: &[u8], offsets: &[u64], sheet: &mut [u8]) -> Written
     requires { ⌜ n ≤ 64 ⌝ }
     requires { ⌜ Decodable schema n (now rows) (now offsets) (now sheet) ⌝ }
     ensures { λ r. ⌜ Clears n (colsOf schema) (rowsSlots (colsOf schema) (cutRows n (now (rows .entry)) (now (offsets .entry))))
@@ -125,8 +136,19 @@ fn write_some(schema: Schema, n: usize, rows: &[u8], offsets: &[u64], sheet: &mu
     write_rows(schema, n, rows, offsets, &mut cursors, sheet)
 }
 
+// The same in an array of 128 cursors.
+fn write_128(schema: Schema, n: usize, rows: &[u8], offsets: &[u64], sheet: &mut [u8]) -> Written
+    requires { ⌜ n ≤ 128 ⌝ }
+    requires { ⌜ Decodable schema n (now rows) (now offsets) (now sheet) ⌝ }
+    ensures { λ r. ⌜ Clears n (colsOf schema) (rowsSlots (colsOf schema) (cutRows n (now (rows .entry)) (now (offsets .entry))))
+        (now (sheet .entry)) (now (sheet .exit)) r ⌝ }
+{
+    let mut cursors = [0usize; 128];
+    write_rows(schema, n, rows, offsets, &mut cursors, sheet)
+}
+
 // The same in an array of 512 cursors.
-fn write_more(schema: Schema, n: usize, rows: &[u8], offsets: &[u64], sheet: &mut [u8]) -> Written
+fn write_512(schema: Schema, n: usize, rows: &[u8], offsets: &[u64], sheet: &mut [u8]) -> Written
     requires { ⌜ n ≤ 512 ⌝ }
     requires { ⌜ Decodable schema n (now rows) (now offsets) (now sheet) ⌝ }
     ensures { λ r. ⌜ Clears n (colsOf schema) (rowsSlots (colsOf schema) (cutRows n (now (rows .entry)) (now (offsets .entry))))
@@ -136,8 +158,19 @@ fn write_more(schema: Schema, n: usize, rows: &[u8], offsets: &[u64], sheet: &mu
     write_rows(schema, n, rows, offsets, &mut cursors, sheet)
 }
 
+// The same in an array of 2,048 cursors.
+fn write_2048(schema: Schema, n: usize, rows: &[u8], offsets: &[u64], sheet: &mut [u8]) -> Written
+    requires { ⌜ n ≤ 2048 ⌝ }
+    requires { ⌜ Decodable schema n (now rows) (now offsets) (now sheet) ⌝ }
+    ensures { λ r. ⌜ Clears n (colsOf schema) (rowsSlots (colsOf schema) (cutRows n (now (rows .entry)) (now (offsets .entry))))
+        (now (sheet .entry)) (now (sheet .exit)) r ⌝ }
+{
+    let mut cursors = [0usize; 2048];
+    write_rows(schema, n, rows, offsets, &mut cursors, sheet)
+}
+
 // The same in an array of 4,096 cursors.
-fn write_many(schema: Schema, n: usize, rows: &[u8], offsets: &[u64], sheet: &mut [u8]) -> Written
+fn write_4096(schema: Schema, n: usize, rows: &[u8], offsets: &[u64], sheet: &mut [u8]) -> Written
     requires { ⌜ n ≤ maxRows ⌝ }
     requires { ⌜ Decodable schema n (now rows) (now offsets) (now sheet) ⌝ }
     ensures { λ r. ⌜ Clears n (colsOf schema) (rowsSlots (colsOf schema) (cutRows n (now (rows .entry)) (now (offsets .entry))))
@@ -147,7 +180,8 @@ fn write_many(schema: Schema, n: usize, rows: &[u8], offsets: &[u64], sheet: &mu
     write_rows(schema, n, rows, offsets, &mut cursors, sheet)
 }
 
-// The same with the smallest array of cursors that will do: each size has a function of its own, so that a call clears no more.
+// The same with the smallest array of cursors that will do: each size has a function of its own, so that a call clears no more. Six tests stand
+// before the arrays of more than 512, so that the optimiser takes these calls for rare and leaves the arrays out of the caller's frame.
 pub fn write_sheet(
     schema: Schema,
     n: usize,
@@ -160,13 +194,22 @@ pub fn write_sheet(
         (now (sheet .entry)) (now (sheet .exit)) r ⌝ }
 {
     if n <= 8 {
-        return write_few(schema, n, rows, offsets, sheet);
+        return write_8(schema, n, rows, offsets, sheet);
+    }
+    if n <= 32 {
+        return write_32(schema, n, rows, offsets, sheet);
     }
     if n <= 64 {
-        return write_some(schema, n, rows, offsets, sheet);
+        return write_64(schema, n, rows, offsets, sheet);
+    }
+    if n <= 128 {
+        return write_128(schema, n, rows, offsets, sheet);
     }
     if n <= 512 {
-        return write_more(schema, n, rows, offsets, sheet);
+        return write_512(schema, n, rows, offsets, sheet);
     }
-    write_many(schema, n, rows, offsets, sheet)
+    if n <= 2048 {
+        return write_2048(schema, n, rows, offsets, sheet);
+    }
+    write_4096(schema, n, rows, offsets, sheet)
 }

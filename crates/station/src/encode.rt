@@ -1,7 +1,7 @@
 // Encoding: the rows of a sheet into the row buffer, and where each begins and the last ends into the offsets.
 ghost use Rattle.format.specs.Described.{spelled};
 ghost use Rattle.format.specs.Promises.{Encoded};
-use encoder::encode::encode_listed;
+use encoder::encode_listed;
 use format::Answer;
 use list_reader::read_list;
 

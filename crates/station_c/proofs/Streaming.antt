@@ -14,7 +14,7 @@ use Rattle.format.specs.Lent.{eights, eightBytes, numberBytes, answerRoom}
 use Rattle.format.specs.Cutter.{startAnswer, startState, cutAnswer, cutState, cutEnds, finishAnswer}
 use Rattle.format.specs.CutterBytes.{stateBytes, noRoom, lentKeeps, lentState, lentStart, lentStartState, lentCut, lentCutState, lentCutEnds, lentFinish}
 use Rattle.format.specs.Promises.{LentStarted, LentPieceCut, LentFinished}
-use Rattle.sized.proofs.Entries.{short-answer, short-kept, long-answer, long-new}
+use Rattle.lent_calls.proofs.Entries.{short-answer, short-kept, long-answer, long-new}
 use Rattle.cutter_bytes.specs.Calls.{StartedLent, PieceCutLent, FinishedLent}
 
 -- ---- an answer that cannot hold the four numbers

@@ -1,22 +1,20 @@
 // The C entries: a slice is a pointer and a length, offsets and answers are lent as bytes, eight a number, low byte first, and
-// descriptions as four bytes a column. Thin over crates `station` and `sized`; include/station.h says how to call them.
+// descriptions as four bytes a column. Thin over crate `station` and those below it; include/station.h says how to call them.
 ghost use Rattle.format.specs.Described.{spelled, coded};
 ghost use Rattle.format.specs.Promises.{LentListChecked, LentListRead, LentMeasured, LentEncoded, LentDecoded, LentJoined, LentLookedUp, LentSheetsCompared, LentPairsCompared, Compared};
 use code_reader::read_codes;
-use encoder::measure::measure_listed;
-use format::MAX_OFFSETS;
 use lent_bytes::put_answer;
 use lent_bytes::used_entries;
 use lent_bytes::used_offsets;
+use lent_calls::list_codes;
 use list_reader::read_list;
+use measurer::measure_listed;
 use pairs::compare_pairs_listed;
 use pairs::compare_sheets_listed;
-use sized::codes::list_codes;
-use sized::decode::decode_sized;
-use sized::encode::encode_sized;
-use sized::look_up::look_up_sized;
-use sized::order::MAX_ORDER;
-use sized::order::join_bytes;
+use sized_decode::decode_sized;
+use sized_encode::encode_sized;
+use sized_join::join_sized;
+use sized_look_up::look_up_sized;
 
 mod stream;
 mod version;
@@ -167,13 +165,10 @@ pub extern "C" fn station_join(
     if answer.len() < ANSWER_BYTES {
         return;
     }
-    let mut first = [0u64; MAX_OFFSETS];
-    let mut second = [0u64; MAX_OFFSETS];
-    let mut list = [0u64; MAX_ORDER];
     let f = used_offsets(n0, offsets0.len());
     let s = used_offsets(n1, offsets1.len());
     let k = used_entries(n0, n1, order.len());
-    let r = join_bytes(
+    join_sized(
         n0,
         rows0,
         offsets0,
@@ -181,11 +176,11 @@ pub extern "C" fn station_join(
         rows1,
         offsets1,
         order,
-        &mut first[..f],
-        &mut second[..s],
-        &mut list[..k],
+        answer,
+        f,
+        s,
+        k,
     );
-    put_answer(answer, r);
 }
 
 // Finds the rows of a sorted batch that begin with a key, the fields of the first k columns.

@@ -4,11 +4,11 @@ ghost use Rattle.format.specs.Promises.{Measured, Encoded, Decoded, LookedUp, S
 use cutter::Cutting;
 use cutter::start_listed;
 use decoder::decode_listed;
-use encoder::encode::encode_listed;
-use encoder::measure::measure_listed;
+use encoder::encode_listed;
 use format::Answer;
 use format::Column;
 use lent_columns::described;
+use measurer::measure_listed;
 use pairs::compare_numbers_listed;
 use pairs::compare_sheets_listed;
 use searcher::look_up_listed;

@@ -9,7 +9,7 @@ use byte_order::compare;
 use number_order::ABOVE;
 use number_order::BELOW;
 use number_order::EQUAL;
-use sheet_reader::sheet::end_at;
+use sheet_ends::end_at;
 
 // Of two byte strings: unsigned bytes, a proper beginning first.
 fn order_bytes(a: &[u8], b: &[u8]) -> u8

@@ -43,7 +43,7 @@ fn order_wide(kind: Kind, fold: bool, a: &[u8], i: usize, b: &[u8], j: usize) ->
         Kind::F64 => order64(Coding::Float, fold, a, i, b, j),
         Kind::DayTime => order_day_time(a, i, b, j),
         Kind::MonthDayNano => order_month_day_nano(a, i, b, j),
-        Kind::FixedBinary(w) => order_binary(w, a, i, b, j),
+        Kind::FixedBinary(w) => order_binary(w as usize, a, i, b, j),
         Kind::I128 => order_words(2, a, i * 2, b, j * 2),
         Kind::I256 => order_words(4, a, i * 4, b, j * 4),
         // Not handed.

@@ -72,7 +72,7 @@ module _ (t : List ℕ) (at k c size end : ℕ) (few : k < at) (is : size ≡ bl
 -- ---- the last block
 
 -- the test for zeros, by the count from the first other byte on
-zero-clear : (x : List ℕ) → fromBad x ≡ 0 → allZero x ≡ true
+pub zero-clear : (x : List ℕ) → fromBad x ≡ 0 → allZero x ≡ true
 zero-clear [] h = refl
 zero-clear (y ∷ x) h = go (eqb y 0) refl h (zero-clear x)
   where

@@ -5,7 +5,7 @@ use mathlib.Core.Bool.{Bool}
 use mathlib.Core.List.{List, []}
 use lib.ListN.{length, take, drop}
 use Rattle.format.specs.declared.FieldRead.{FieldRead}
-use Rattle.format.specs.declared.FieldRead.the-variants.{Value, Fault}
+use Rattle.format.specs.declared.FieldRead.the-variants.{Null, Value, Fault}
 use Rattle.format.specs.Limits.{maxSlot}
 use Rattle.format.specs.Field.{directed, blockSize}
 use Rattle.format.specs.Read.{Parsed, got, fault, readBlock, readBlocks}
@@ -35,3 +35,9 @@ valueOf (fault f l) = []
 abbrev pub restOf : Parsed (List ℕ) → List ℕ
 restOf (got v r) = r
 restOf (fault f l) = []
+
+-- an answer that is no fault, in two numbers: the field's length, and the value's, which is 0 of a null
+abbrev pub Told : ℕ → ℕ → FieldRead → Type 0
+Told len value (Null l) = (len ≡ l) × (value ≡ 0)
+Told len value (Value l v) = (len ≡ l) × (value ≡ v)
+Told len value (Fault f l) = ⊥

@@ -1,12 +1,19 @@
 -- The fields of fixed values that stand as whole bytes.
 use Prim.Native.Nat.{ℕ}
-use mathlib.Core.Bool.{Bool}
+use mathlib.Core.Bool.{Bool, cond}
 use mathlib.Core.List.{List}
 use Rattle.format.specs.declared.SortOptions.{SortOptions}
+use Rattle.format.specs.Lists.{low, lowBytes}
 use Rattle.format.specs.Kinds.{Fixed, fixed}
-use Rattle.format.specs.Fold.{foldedSlot}
-use Rattle.format.specs.Field.{field}
+use Rattle.format.specs.Fold.{foldedBits, foldedSlot}
+use Rattle.format.specs.Field.{directed, field}
 use Rattle.format.specs.Sheet.{wide, slotAt, slotIf}
+use Rattle.number.specs.declared.Coding.{Coding}
+use Rattle.number.specs.Codings.{codingKey}
+
+-- the value bytes of a number v of w bytes, folded or not
+abbrev pub keyBytes : Coding → ℕ → Bool → Bool → List ℕ → List ℕ
+keyBytes c w fold d v = directed d (codingKey c (cond fold (lowBytes w (foldedBits w (low v))) v))
 
 -- the field of a value v, or of a null
 abbrev pub wordField : Fixed → SortOptions → Bool → List ℕ → List ℕ

@@ -1,14 +1,19 @@
-// The field of a number's slot. Which byte leads it, and whether its value or zeros follow, is no branch, since a row's nulls cannot be
-// foretold.
+// The field of a slot that is written word by word: numbers of 16, 32 and 64 bits, and months, days and nanoseconds. Which byte leads it, and
+// whether its value or zeros follow, is no branch, since a row's nulls cannot be foretold.
 ghost use mathlib.Core.Path.{_≡_};
 ghost use mathlib.Core.Bool.{cond};
-ghost use Prim.Native.Nat.{_+_, _*_, _≤_};
-ghost use lib.ListN.{length, take, drop};
+ghost use mathlib.Core.List.{[], _∷_};
+ghost use Prim.Native.Nat.{_+_, _*_, _^_, _<_, _≤_};
+ghost use lib.ListN.{length, take, drop, replicate};
+ghost use lib.Seq.{sets};
+ghost use Rattle.format.specs.Lists.{lowBytes};
+ghost use Rattle.format.specs.Key.{partsKey};
 ghost use Rattle.format.specs.Fold.{folds};
-ghost use Rattle.format.specs.Field.{nullByte};
+ghost use Rattle.format.specs.Field.{directed, nullByte};
 ghost use Rattle.basics.specs.Wrote.{Wrote};
-ghost use Rattle.fixed_decoder.specs.Worded.{coded};
-ghost use Rattle.word_writer.specs.Words.{wordField};
+ghost use Rattle.number_reader.specs.Words.{WordWidth};
+ghost use Rattle.fixed_decoder.specs.Worded.{Worded, worded};
+ghost use Rattle.word_writer.specs.Words.{keyBytes, wordField};
 use column_facts::null_sentinel;
 use format::SortOptions;
 use number::Coding;
@@ -24,86 +29,143 @@ use number::folded64;
 use number::low16;
 use number::low32;
 use number::low64;
-use number::put16;
-use number::put32;
-use number::put64;
+use number_reader::put_number;
 
 // 01, or the null byte.
-pub fn lead(valid: bool, options: SortOptions) -> u8
+fn lead(valid: bool, options: SortOptions) -> u8
     ensures { λ x. ⌜ x ≡ cond valid 1 (nullByte options) ⌝ }
 {
     let null = null_sentinel(options);
     if valid { 1 } else { null }
 }
 
-// 16 bits.
-pub fn put_slot16(
-    valid: bool,
+// The value bytes of the number that stands at a place of the values, as a number. Folding is a branch, since a column folds all or none.
+fn key_at(
     values: &[u8],
-    r: usize,
+    from: usize,
+    width: usize,
     coding: Coding,
     fold: bool,
-    options: SortOptions,
-    rows: &mut [u8],
-    at: usize,
-) -> usize
-    requires { ⌜ r * 2 + 2 ≤ length (now values) ⌝ }
-    requires { ⌜ at + (1 + 2) ≤ length (now rows) ⌝ }
-    requires { ⌜ fold ≡ folds (coded coding 2) (options .fold) ⌝ }
-    ensures { λ x. ⌜ Wrote (wordField (coded coding 2) options valid (take 2 (drop (r * 2) (now (values .entry))))) at
-        (now (rows .entry)) (now (rows .exit)) x ⌝ }
+    descending: bool,
+) -> u64
+    requires { ⌜ WordWidth width ⌝ }
+    requires { ⌜ from + width ≤ length (now values) ⌝ }
+    ensures { λ x. ⌜ x < 256 ^ width ⌝ }
+    ensures { λ x. ⌜ lowBytes width x ≡ keyBytes coding width fold descending (take width (drop from (now (values .entry)))) ⌝ }
 {
-    let value = folded16(fold, low16(values, r * 2));
-    let word = directed16(options.descending, encode16(coding, value));
-    rows[at] = lead(valid, options);
-    put16(rows, at + 1, if valid { word } else { 0 });
-    at + 3
+    if width == 2 {
+        let x = low16(values, from);
+        let value = if fold { folded16(true, x) } else { x };
+        return directed16(descending, encode16(coding, value)) as u64;
+    }
+    if width == 4 {
+        let x = low32(values, from);
+        let value = if fold { folded32(true, x) } else { x };
+        return directed32(descending, encode32(coding, value)) as u64;
+    }
+    let x = low64(values, from);
+    let value = if fold { folded64(true, x) } else { x };
+    directed64(descending, encode64(coding, value))
 }
 
-// 32 bits.
-pub fn put_slot32(
-    valid: bool,
-    values: &[u8],
-    r: usize,
-    coding: Coding,
-    fold: bool,
-    options: SortOptions,
+// The value bytes of a number, or zeros.
+fn put_word(
     rows: &mut [u8],
     at: usize,
-) -> usize
-    requires { ⌜ r * 4 + 4 ≤ length (now values) ⌝ }
-    requires { ⌜ at + (1 + 4) ≤ length (now rows) ⌝ }
-    requires { ⌜ fold ≡ folds (coded coding 4) (options .fold) ⌝ }
-    ensures { λ x. ⌜ Wrote (wordField (coded coding 4) options valid (take 4 (drop (r * 4) (now (values .entry))))) at
-        (now (rows .entry)) (now (rows .exit)) x ⌝ }
+    values: &[u8],
+    from: usize,
+    width: usize,
+    coding: Coding,
+    fold: bool,
+    descending: bool,
+    valid: bool,
+)
+    requires { ⌜ WordWidth width ⌝ }
+    requires { ⌜ from + width ≤ length (now values) ⌝ }
+    requires { ⌜ at + width ≤ length (now rows) ⌝ }
+    ensures { λ _. ⌜ now (rows .exit) ≡ sets (now (rows .entry)) at
+        (cond valid (keyBytes coding width fold descending (take width (drop from (now (values .entry))))) (replicate width 0)) ⌝ }
 {
-    let value = folded32(fold, low32(values, r * 4));
-    let word = directed32(options.descending, encode32(coding, value));
-    rows[at] = lead(valid, options);
-    put32(rows, at + 1, if valid { word } else { 0 });
-    at + 5
+    let word = key_at(values, from, width, coding, fold, descending);
+    put_number(rows, at, width, if valid { word } else { 0 });
 }
 
-// 64 bits.
-pub fn put_slot64(
+// Those of months, days and nanoseconds, or zeros.
+fn put_interval(
+    rows: &mut [u8],
+    at: usize,
+    values: &[u8],
+    from: usize,
+    descending: bool,
+    valid: bool,
+)
+    requires { ⌜ from + 16 ≤ length (now values) ⌝ }
+    requires { ⌜ at + 16 ≤ length (now rows) ⌝ }
+    ensures { λ _. ⌜ now (rows .exit) ≡ sets (now (rows .entry)) at
+        (cond valid (directed descending (partsKey (4 ∷ 4 ∷ 8 ∷ []) (take 16 (drop from (now (values .entry)))))) (replicate 16 0)) ⌝ }
+{
+    let signed = Coding::Signed;
+    put_word(rows, at, values, from, 4, signed, false, descending, valid);
+    put_word(
+        rows,
+        at + 4,
+        values,
+        from + 4,
+        4,
+        signed,
+        false,
+        descending,
+        valid,
+    );
+    put_word(
+        rows,
+        at + 8,
+        values,
+        from + 8,
+        8,
+        signed,
+        false,
+        descending,
+        valid,
+    );
+}
+
+// The field of slot r, of so many value bytes.
+pub fn put_slot(
     valid: bool,
     values: &[u8],
     r: usize,
+    width: usize,
     coding: Coding,
     fold: bool,
     options: SortOptions,
     rows: &mut [u8],
     at: usize,
 ) -> usize
-    requires { ⌜ r * 8 + 8 ≤ length (now values) ⌝ }
-    requires { ⌜ at + (1 + 8) ≤ length (now rows) ⌝ }
-    requires { ⌜ fold ≡ folds (coded coding 8) (options .fold) ⌝ }
-    ensures { λ x. ⌜ Wrote (wordField (coded coding 8) options valid (take 8 (drop (r * 8) (now (values .entry))))) at
+    requires { ⌜ Worded width ⌝ }
+    requires { ⌜ r * width + width ≤ length (now values) ⌝ }
+    requires { ⌜ at + (1 + width) ≤ length (now rows) ⌝ }
+    requires { ⌜ fold ≡ folds (worded coding width) (options .fold) ⌝ }
+    ensures { λ x. ⌜ Wrote (wordField (worded coding width) options valid (take width (drop (r * width) (now (values .entry))))) at
         (now (rows .entry)) (now (rows .exit)) x ⌝ }
 {
-    let value = folded64(fold, low64(values, r * 8));
-    let word = directed64(options.descending, encode64(coding, value));
+    let descending = options.descending;
+    let from = r * width;
     rows[at] = lead(valid, options);
-    put64(rows, at + 1, if valid { word } else { 0 });
-    at + 9
+    if width == 16 {
+        put_interval(rows, at + 1, values, from, descending, valid);
+        return at + 17;
+    }
+    put_word(
+        rows,
+        at + 1,
+        values,
+        from,
+        width,
+        coding,
+        fold,
+        descending,
+        valid,
+    );
+    at + 1 + width
 }

@@ -32,6 +32,7 @@ width-spec =
     (λ c. search needs)
     (λ c. search needs)
     (λ c. search needs)
+    (λ c. search needs)
     (λ c. told (c .enum-told .given .1))
     (λ c. told (c .enum-told2 .given .1))
     (λ c. told (c .enum-told3 .given .1))

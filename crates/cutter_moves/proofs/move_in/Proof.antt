@@ -8,9 +8,10 @@ use Rattle.format.specs.declared.Spot.{Spot}
 use Rattle.format.specs.declared.Spot.the-variants.{Nulls, Value, Block}
 use Rattle.format.specs.Kinds.{columnShape}
 use Rattle.format.specs.Cutter.{move, nullMove, blockMove}
-use Rattle.cutter_moves.specs.Moves.{asMove, Stood}
-use Rattle.cutter_moves.proofs.Arms.{null-shape}
-use Rattle.cutter_moves.proofs.Marks.{InBlock, block-shape}
+use Rattle.moves.specs.Moves.{asMove}
+use Rattle.cutter_moves.specs.Moves.{Stood}
+use Rattle.cutter_moves.proofs.Nulls.{null-shape}
+use Rattle.block_moves.proofs.Marks.{InBlock, block-shape}
 use Rattle.cutter_moves.proofs.move_in.Statement.{statement}
 use Rattle.cutter_moves.proofs.move_in.Tie as tie
 

@@ -11,14 +11,14 @@ use Rattle.format.specs.Kinds.{Slot, columnShape}
 use Rattle.format.specs.Sheet.{layout, packed, valueAt, slotAt}
 use Rattle.laws.proofs.Parts.{part-rest}
 use Rattle.laws.proofs.Sheets.{valid-bytes}
-use Rattle.sheet_reader.proofs.Values.{values-pass, slot-valid, slot-null}
+use Rattle.sheet_slots.proofs.Values.{values-pass, slot-valid, slot-null}
 use Rattle.field_writer.proofs.Values.{value-wrote}
 use Rattle.field_writer.proofs.put_field.Statement.{statement}
 use Rattle.field_writer.proofs.put_field.Tie as tie
 
 -- the validity bytes are there
 there : (s : tie.Start) → packed (s .args .n) ≤ length (s .args .part .now)
-there s = valid-bytes false (layout (s .args .column)) (s .args .n) (s .args .part .now) (s .pre .1 .0)
+there s = valid-bytes false (layout (s .args .column)) (s .args .n) (s .args .part .now) (s .pre .1 .1 .0)
 
 -- what was known at the entry
 abbrev entry : tie.After-bit → tie.Start
@@ -43,7 +43,7 @@ null c =
     slot-null (layout (a .column)) (a .n) (a .part .now) (a .r) (sym (c .before .bit .ensures) ∙ c .if1 .left)
 
 bit-requires : tie.Need-bit-requires
-bit-requires c κs = omega (arith, there (c .before .before), c .before .before .pre .0 .1)
+bit-requires c κs = omega (arith, there (c .before .before), c .before .before .pre .1 .0 .1)
 
 put-value-requires : tie.Need-put-value-requires
 put-value-requires c κs =
@@ -51,7 +51,7 @@ put-value-requires c κs =
     let t = at-packed .before in
     let s = entry (t .before) in
     rw (at-packed .packed .ensures .0, part-rest (s .args .part .now) (packed (s .args .n)))
-    (s .pre .0, (values-pass (layout (s .args .column)) (s .args .n) (s .args .part .now) (s .pre .1 .0), rw (valid t) at (s .pre .1 .1)))
+    (s .pre .0, (s .pre .1 .0, (values-pass (layout (s .args .column)) (s .args .n) (s .args .part .now) (s .pre .1 .1 .0), rw (valid t) at (s .pre .1 .1 .1))))
 
 returns : tie.Need-returns
 returns c =
@@ -64,7 +64,9 @@ returns c =
     (at-value .put-value .ensures)
 
 put-null-requires : tie.Need-put-null-requires
-put-null-requires c κs = rw (null (c .before)) at (entry (c .before .before) .pre .1 .1)
+put-null-requires c κs =
+    let s = entry (c .before .before) in
+    (s .pre .0, rw (null (c .before)) at (s .pre .1 .1 .1))
 
 returns-2 : tie.Need-returns-2
 returns-2 c = rw (null (c .before .before .before .before)) (c .before .before .put-null .ensures)

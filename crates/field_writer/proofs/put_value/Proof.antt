@@ -6,30 +6,20 @@ use mathlib.Core.Option.{some}
 use Rattle.format.specs.Sheet.{layout, valueAt}
 use Rattle.basics.specs.Wide.{WideKind}
 use Rattle.basics.proofs.Sorts.{wide-left}
-use Rattle.sheet_reader.proofs.Values.{bool-asked, variable-asked, wide-asked}
-use Rattle.field_writer.proofs.Values.{bool-promised, variable-promised, wide-long, wide-promised}
+use Rattle.sheet_slots.proofs.Values.{bool-asked, wide-asked}
+use Rattle.field_writer.proofs.Values.{bool-promised, wide-long, wide-promised}
 use Rattle.field_writer.proofs.put_value.Statement.{statement}
 use Rattle.field_writer.proofs.put_value.Tie as tie
-
-put-variable-requires : tie.Need-put-variable-requires
-put-variable-requires c κs =
-    let s = c .before .before .before .before .before .before in (
-      s .pre .0,
-      (
-        variable-asked (s .args .n) (s .args .r) (s .args .values .now) (s .pre .0 .1) (s .pre .1 .0) (c .before .enum-told .given .1),
-        rw (c .before .enum-told .given .1) at (s .pre .1 .1),
-      ),
-    )
 
 bit-requires : tie.Need-bit-requires
 bit-requires c κs =
     let s = c .before .before .before .before .before .before .before in
-    bool-asked (s .args .n) (s .args .r) (s .args .values .now) (s .pre .0 .1) (s .pre .1 .0) (c .before .enum-told2 .given .1)
+    bool-asked (s .args .n) (s .args .r) (s .args .values .now) (s .pre .1 .0 .1) (s .pre .1 .1 .0) (c .before .enum-told2 .given .1)
 
 encode-boolean-requires : tie.Need-encode-boolean-requires
 encode-boolean-requires c κs =
     let s = c .before .before .before .before .before .before .before .before in
-    rw (c .before .before .enum-told2 .given .1) at (s .pre .1 .1)
+    rw (c .before .before .enum-told2 .given .1) at (s .pre .1 .1 .1)
 
 -- what was known at the entry, where both tests fail
 abbrev entry : tie.At-match2-keys2 → tie.Start
@@ -45,16 +35,14 @@ encode-requires c κs =
     let w = fixed-wide (c .before) in (
       w,
       (
-        wide-asked (s .args .n) (s .args .r) (s .args .values .now) (s .pre .0 .1) (s .pre .1 .0) w,
-        omega (arith, s .pre .1 .1, wide-long (some (valueAt (layout (s .args .column)) (s .args .n) (s .args .values .now) (s .args .r))) w),
+        wide-asked (s .args .n) (s .args .r) (s .args .values .now) (s .pre .1 .0 .1) (s .pre .1 .1 .0) w,
+        omega (arith, s .pre .1 .1 .1, wide-long (some (valueAt (layout (s .args .column)) (s .args .n) (s .args .values .now) (s .args .r))) w),
       ),
     )
 
+-- variable bytes are not handed
 returns : tie.Need-returns
-returns c =
-    let s = c .before .before .before .before .before .before .before .before .before in
-    variable-promised (s .args .column .options) (s .args .at) _ (s .args .rows .now) _ (s .args .n) (s .args .r) (s .args .values .now)
-    (c .before .before .before .before .enum-told .given .1) (c .before .before .put-variable .ensures)
+returns c = absurd (c .before .before .before .before .before .pre .0 (c .enum-told .given .1))
 
 returns-2 : tie.Need-returns-2
 returns-2 c =
@@ -73,8 +61,6 @@ pub put-value-spec : {M : Type 1} → statement M
 put-value-spec =
     tie.close
     (tie.spec
-    (λ c. search needs)
-    put-variable-requires
     (λ c. search needs)
     returns
     (λ c. search needs)

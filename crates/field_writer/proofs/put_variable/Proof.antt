@@ -8,7 +8,7 @@ use lib.ListN.{length, drop, take}
 use lib.Seq.{length-take-le}
 use Rattle.format.specs.Sheet.{ended, valueAt}
 use Rattle.number.proofs.Tops.{drop-take}
-use Rattle.sheet_reader.proofs.Values.{Between, between}
+use Rattle.sheet_slots.proofs.Values.{Between, between}
 use Rattle.field_writer.proofs.put_variable.Statement.{statement}
 use Rattle.field_writer.proofs.put_variable.Tie as tie
 

@@ -194,7 +194,7 @@ module _ {M : Type 1} (𝓤 : URA M) (H : Heap 𝓤) (A : Atoms 𝓤) (W : Given
         stays ! (load ! (from ! (stop !)) (look ! 2 refl)) $
         assigns ! (bin ! (load ! (from ! (stop !)) (look ! 1 refl)) (lit ! tt) (record { fits = far })) (from ! (stop !)) (init ! 3 refl (tt, record { fits = far })) $
         assigns ! (bin ! (load ! (from ! (fld ! refl (stop !))) (look-in ! 11 (sub ! 0 refl (whole !)))) (load ! (from ! (stop !)) (look ! 3 refl)) tt) (from ! (stop !)) (init ! 4 refl (tt, tt)) $
-        rewrite ! 4 (λ (p : ℕ). ‵ (fat fullShare tyPtr l₈ 0 (vptr b p))) (sym (place-is 24 o i)) refl $
+        rewrite ! 4 (λ (p : ℕ). ‵ (fat fullShare tyPtr l₈ 0 (vptr b p))) (sym (place-is 8 o i)) refl $
         move ! (9 ∷ []) $ fsplit ! $ move ! (1 ∷ []) $ fsplit ! $ move ! (1 ∷ 12 ∷ []) $
         looks-slice ! tt R (Is R) (shows 𝓤 H A R) (LL.vals D L) (LL.tells D L) (LL.copy D T′.the-copy 𝓤 H A W) ys b o (λ q′.
         elem-out ! R (Is R) (shows 𝓤 H A R) (LL.vals D L) (LL.tells D L) q′ ys i noColumn b o inside (λ g.
@@ -208,7 +208,7 @@ module _ {M : Type 1} (𝓤 : URA M) (H : Heap 𝓤) (A : Atoms 𝓤) (W : Given
         assigns ! (bin ! (load ! (from ! (stop !)) (look ! 4 refl)) (lit ! tt) (record { fits = far })) (from ! (stop !)) (init ! 9 refl (tt, record { fits = far })) $
         assigns ! (addr ! (from ! (stop !))) (from ! (stop !)) (init ! 10 refl (tt, tt)) $
         assigns ! (bin ! (load ! (from ! (stop !)) (look ! 10 refl)) (load ! (from ! (stop !)) (look ! 9 refl)) tt) (from ! (stop !)) (init ! 11 refl (tt, tt)) $
-        rewrite ! 11 (λ (p : ℕ). ‵ (fat fullShare tyPtr l₁₂ 0 (vptr l₄ p))) (sym (place-is 24 0 i)) refl $
+        rewrite ! 11 (λ (p : ℕ). ‵ (fat fullShare tyPtr l₁₂ 0 (vptr l₄ p))) (sym (place-is 8 0 i)) refl $
         move ! (3 ∷ []) $ elem-out ! R (Is R) (shows 𝓤 H A R) (LL.vals D L) (LL.tells D L) fullShare (made ys zs i) i noColumn l₄ 0 room (λ _.
         assigns ! (of-opd ! (load ! (from ! (stop !)) (look ! 10 refl))) (from ! (hop ! (look ! 13 refl) (stop !))) (store-raw ! 0 refl (LL.lawful D L 𝓤 H A W .typed elem (val elem ∷ []) g .0)) $
         move ! (1 ∷ []) $ let-go ! $ move ! (0 ∷ 4 ∷ 1 ∷ []) $ elem-put ! R fullShare (made ys zs i) i elem (val elem ∷ []) l₄ 0 room $
@@ -228,7 +228,7 @@ module _ {M : Type 1} (𝓤 : URA M) (H : Heap 𝓤) (A : Atoms 𝓤) (W : Given
         room : i < length (made ys zs i)
         room = omega (arith, made-long ys zs i (omega arith) (omega (arith, long)), long)
 
-        far : i * 24 < 2 ^ 64
+        far : i * 8 < 2 ^ 64
         far = omega arith
 
         next-fits : i + 1 < 2 ^ 64

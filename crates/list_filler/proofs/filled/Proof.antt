@@ -210,7 +210,7 @@ module _ {M : Type 1} (𝓤 : URA M) (H : Heap 𝓤) (A : Atoms 𝓤) (W : Given
         assigns ! (bin ! (load ! (from ! (stop !)) (look ! 2 refl)) (lit ! tt) (record { fits = far })) (from ! (stop !)) (init ! 4 refl (tt, record { fits = far })) $
         assigns ! (addr ! (from ! (stop !))) (from ! (stop !)) (init ! 5 refl (tt, tt)) $
         assigns ! (bin ! (load ! (from ! (stop !)) (look ! 5 refl)) (load ! (from ! (stop !)) (look ! 4 refl)) tt) (from ! (stop !)) (init ! 6 refl (tt, tt)) $
-        rewrite ! 6 (λ (p : ℕ). ‵ (fat fullShare tyPtr l₉ 0 (vptr l₄ p))) (sym (place-is 24 0 i)) refl $
+        rewrite ! 6 (λ (p : ℕ). ‵ (fat fullShare tyPtr l₉ 0 (vptr l₄ p))) (sym (place-is 8 0 i)) refl $
         move ! (1 ∷ []) $ elem-out ! R (Is R) (shows 𝓤 H A R) (LL.vals D L) (LL.tells D L) fullShare zs i noColumn l₄ 0 inside (λ g.
         -- [from[i]; what it owns; the others; the slice; _5; _6; _7; _8; _9; _10; _11; _12; …]
         assigns ! (of-opd ! (load ! (from ! (hop ! (look ! 8 refl) (stop !))) (look-raw ! 0 refl))) (from ! (stop !)) (init ! 9 refl (LL.lawful D L 𝓤 H A W .typed elem (val elem ∷ []) g .0)) $
@@ -220,7 +220,7 @@ module _ {M : Type 1} (𝓤 : URA M) (H : Heap 𝓤) (A : Atoms 𝓤) (W : Given
         -- [the array; what the column owns; the slice; _5; _6; _7; _8; _9; _10; _11; _12; …]
         assigns ! (bin ! (load ! (from ! (stop !)) (look ! 3 refl)) (lit ! tt) (record { fits = far })) (from ! (stop !)) (init ! 9 refl (tt, record { fits = far })) $
         assigns ! (bin ! (load ! (from ! (fld ! refl (stop !))) (look-in ! 14 (sub ! 0 refl (whole !)))) (load ! (from ! (stop !)) (look ! 9 refl)) tt) (from ! (stop !)) (init ! 10 refl (tt, tt)) $
-        rewrite ! 10 (λ (p : ℕ). ‵ (fat fullShare tyPtr l₁₂ 0 (vptr b p))) (sym (place-is 24 o i)) refl $
+        rewrite ! 10 (λ (p : ℕ). ‵ (fat fullShare tyPtr l₁₂ 0 (vptr b p))) (sym (place-is 8 o i)) refl $
         move ! (2 ∷ []) $ elem-out ! R (Is R) (shows 𝓤 H A R) (LL.vals D L) (LL.tells D L) fullShare (front i) i noColumn b o room (λ _.
         -- [columns[i]; what it owns; the others; the array; what the column owns; _5; _6; _7; _8; _9; _10; _11; _12; …]
         assigns ! (of-opd ! (load ! (from ! (stop !)) (look ! 10 refl))) (from ! (hop ! (look ! 12 refl) (stop !))) (store-raw ! 0 refl (LL.lawful D L 𝓤 H A W .typed elem (val elem ∷ []) g .0)) $
@@ -240,7 +240,7 @@ module _ {M : Type 1} (𝓤 : URA M) (H : Heap 𝓤) (A : Atoms 𝓤) (W : Given
         room : i < length (front i)
         room = omega (arith, fill-long zs ys i (omega (arith, long)) (omega arith))
 
-        far : i * 24 < 2 ^ 64
+        far : i * 8 < 2 ^ 64
         far = omega arith
 
         next-fits : i + 1 < 2 ^ 64

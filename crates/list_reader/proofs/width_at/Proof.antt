@@ -14,16 +14,16 @@ shared-slice-read-if1 c = omega (arith, bytes-least (getD (c .before .before .ar
 returns : tie.Need-returns
 returns c = let a = c .before .before .before .args in sym (width-plain (a .list .now) (a .at) (c .if1 .taken))
 
-shared-slice-read-wide : tie.Need-shared-slice-read-wide
-shared-slice-read-wide c = omega (arith, bytes-wide _ (c .before .if1 .left))
+shared-slice-read-join16 : tie.Need-shared-slice-read-join16
+shared-slice-read-join16 c = omega (arith, bytes-wide _ (c .before .if1 .left))
 
-shared-slice-read-wide-2 : tie.Need-shared-slice-read-wide-2
-shared-slice-read-wide-2 c = omega (arith, bytes-wide _ (c .before .before .before .if1 .left))
+shared-slice-read-join16-2 : tie.Need-shared-slice-read-join16-2
+shared-slice-read-join16-2 c = omega (arith, bytes-wide _ (c .before .before .if1 .left))
 
 returns-2 : tie.Need-returns-2
 returns-2 c =
-    let a = c .before .before .before .before .before .before .before .args in
-    omega (arith, width-wide (a .list .now) (a .at) (c .before .before .before .before .if1 .left))
+    let a = c .before .before .before .before .before .before .args in
+    omega (arith, width-wide (a .list .now) (a .at) (c .before .before .before .if1 .left))
 
 pub width-at-spec : {M : Type 1} → statement M
 width-at-spec =
@@ -32,11 +32,8 @@ width-at-spec =
     shared-slice-read-if1
     returns
     (λ c. search needs)
-    shared-slice-read-wide
+    shared-slice-read-join16
+    (λ c. search needs)
+    shared-slice-read-join16-2
     (λ c κs. search needs)
-    (λ c. search needs)
-    shared-slice-read-wide-2
-    (λ c κs. search needs)
-    (λ c. search needs)
-    (λ c. search needs)
     returns-2)

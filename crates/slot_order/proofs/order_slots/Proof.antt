@@ -10,7 +10,7 @@ use lib.ListN.{length, drop}
 use Rattle.format.specs.Kinds.{Slot, columnShape}
 use Rattle.format.specs.Sheet.{layout, packed, valueAt, slotAt}
 use Rattle.laws.proofs.Sheets.{valid-bytes}
-use Rattle.sheet_reader.proofs.Values.{slot-valid, slot-null}
+use Rattle.sheet_slots.proofs.Values.{slot-valid, slot-null}
 use Rattle.format.specs.CompareSheets.{rank}
 use Rattle.value_order.proofs.Values.{foldedOrder, value-null, null-value, null-null, other-side, rank-most}
 use Rattle.slot_order.proofs.order_slots.Statement.{statement}

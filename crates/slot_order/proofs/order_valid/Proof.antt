@@ -16,7 +16,7 @@ use Rattle.basics.proofs.Bytes.{bytes-drop, bytes-of}
 use Rattle.basics.proofs.Sorts.{signs}
 use Rattle.laws.proofs.Parts.{part-rest}
 use Rattle.laws.proofs.Sheets.{valid-bytes, value-fits}
-use Rattle.sheet_reader.proofs.Values.{values-pass}
+use Rattle.sheet_slots.proofs.Values.{values-pass}
 use Rattle.number_order.specs.Orders.{valueKey, Ordered}
 use Rattle.number_order.proofs.Spelled.{ordered-as}
 use Rattle.value_order.proofs.Values.{values-rise, values-fall, at-most-two}

@@ -1,7 +1,7 @@
 -- `station_c::station_check_list` meets its contract. Assumes nothing.
 use borrow.Author.Needs.{needs}
 use native.Mathlib.Omega.{arith}
-use Rattle.sized.proofs.Entries.{list-short, list-long}
+use Rattle.lent_calls.proofs.Entries.{list-short, list-long}
 use Rattle.station_c.proofs.station_check_list.Statement.{statement}
 use Rattle.station_c.proofs.station_check_list.Tie as tie
 

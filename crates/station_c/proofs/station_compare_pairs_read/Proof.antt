@@ -1,7 +1,7 @@
 -- `station_c::station_compare_pairs_read` meets its contract: no row number is in a list. Assumes nothing.
 use borrow.Author.Needs.{needs}
 use native.Mathlib.Omega.{arith}
-use Rattle.sized.proofs.Comparing.{pairs-short, pairs-long}
+use Rattle.lent_calls.proofs.Comparing.{pairs-short, pairs-long}
 use Rattle.station_c.proofs.station_compare_pairs_read.Statement.{statement}
 use Rattle.station_c.proofs.station_compare_pairs_read.Tie as tie
 

@@ -1,7 +1,7 @@
 -- `station_c::station_compare_sheets` meets its contract. Assumes nothing.
 use borrow.Author.Needs.{needs}
 use native.Mathlib.Omega.{arith}
-use Rattle.sized.proofs.Comparing.{sheets-short, sheets-long}
+use Rattle.lent_calls.proofs.Comparing.{sheets-short, sheets-long}
 use Rattle.station_c.proofs.station_compare_sheets.Statement.{statement}
 use Rattle.station_c.proofs.station_compare_sheets.Tie as tie
 

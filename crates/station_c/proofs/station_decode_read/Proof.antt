@@ -1,7 +1,7 @@
 -- `station_c::station_decode_read` meets its contract: nothing is done, or what is ensured of every list that was read so holds of this one. Assumes
 -- nothing.
 use borrow.Author.Needs.{needs}
-use Rattle.sized.proofs.Entries.{decode-short}
+use Rattle.lent_calls.proofs.Entries.{decode-short}
 use Rattle.station_c.proofs.station_decode_read.Statement.{statement}
 use Rattle.station_c.proofs.station_decode_read.Tie as tie
 

@@ -1,6 +1,6 @@
 -- `station_c::station_look_up` meets its contract. Assumes nothing.
 use borrow.Author.Needs.{needs}
-use Rattle.sized.proofs.LookUps.{look-up-short}
+use Rattle.sized_look_up.proofs.LookUps.{look-up-short}
 use Rattle.station_c.proofs.station_look_up.Statement.{statement}
 use Rattle.station_c.proofs.station_look_up.Tie as tie
 

@@ -1,7 +1,7 @@
 -- `station_c::station_measure` meets its contract. Assumes nothing.
 use borrow.Author.Needs.{needs}
 use native.Mathlib.Omega.{arith}
-use Rattle.sized.proofs.Entries.{measure-short, measure-long}
+use Rattle.lent_calls.proofs.Entries.{measure-short, measure-long}
 use Rattle.station_c.proofs.station_measure.Statement.{statement}
 use Rattle.station_c.proofs.station_measure.Tie as tie
 

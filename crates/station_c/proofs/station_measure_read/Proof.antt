@@ -1,6 +1,6 @@
 -- `station_c::station_measure_read` meets its contract. Assumes nothing.
 use borrow.Author.Needs.{needs}
-use Rattle.sized.proofs.Entries.{measure-short, measure-long}
+use Rattle.lent_calls.proofs.Entries.{measure-short, measure-long}
 use Rattle.station_c.proofs.station_measure_read.Statement.{statement}
 use Rattle.station_c.proofs.station_measure_read.Tie as tie
 

@@ -1,6 +1,6 @@
 -- `station_c::station_read_list` meets its contract. Assumes nothing.
 use borrow.Author.Needs.{needs}
-use Rattle.sized.proofs.Entries.{read-short, read-long}
+use Rattle.lent_calls.proofs.Entries.{read-short, read-long}
 use Rattle.station_c.proofs.station_read_list.Statement.{statement}
 use Rattle.station_c.proofs.station_read_list.Tie as tie
 

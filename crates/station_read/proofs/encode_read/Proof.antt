@@ -52,10 +52,10 @@ use Rattle.lent_columns.proofs.described as described
 use Rattle.lent_columns.proofs.described.Symbol as described-def
 use Rattle.lent_columns.proofs.described.Symbol.{name as #described}
 use Rattle.lent_columns.proofs.described.Met as described-thm
-use Rattle.encoder.proofs.encode.encode_listed as encode
-use Rattle.encoder.proofs.encode.encode_listed.Symbol as encode-def
-use Rattle.encoder.proofs.encode.encode_listed.Symbol.{name as #encode}
-use Rattle.encoder.proofs.encode.encode_listed.Met as encode-thm
+use Rattle.encoder.proofs.encode_listed as encode
+use Rattle.encoder.proofs.encode_listed.Symbol as encode-def
+use Rattle.encoder.proofs.encode_listed.Symbol.{name as #encode}
+use Rattle.encoder.proofs.encode_listed.Met as encode-thm
 use Rattle.station_read.proofs.encode_read.Key.{name as #encode-read}
 use Rattle.station_read.proofs.encode_read as read
 use Rattle.station_read.proofs.encode_read.Statement as stated
@@ -272,4 +272,4 @@ encode-read-spec 𝓤 H 𝓜 𝓖 𝓡 =
     (tables 𝓤 H 𝓜 𝓡 code.env .C) (tables 𝓤 H 𝓜 𝓡 code.env .Λ) #encode-read code.function (code.unfolded 𝓤 H 𝓜 𝓡)
     (encode-read-meets 𝓤 H (𝓖 .A) (givenOf 𝓤 H 𝓜 𝓖) (𝓜 .mem) (𝓡 .run) (tablesOf 𝓤 H 𝓜 (tables 𝓤 H 𝓜 𝓡 code.env))
     (cited 𝓤 H (Reads 𝓤 H (𝓖 .A) (𝓜 .mem) (𝓡 .run)) 𝓜 𝓡 code.env #described described-def.routine code.calls-lent-columns·described (described-thm.met 𝓤 H 𝓜 𝓖 𝓡))
-    (cited 𝓤 H (Encodes 𝓤 H (𝓖 .A) (𝓜 .mem) (𝓡 .run)) 𝓜 𝓡 code.env #encode encode-def.routine code.calls-encoder·encode·encode-listed (encode-thm.met 𝓤 H 𝓜 𝓖 𝓡)))
+    (cited 𝓤 H (Encodes 𝓤 H (𝓖 .A) (𝓜 .mem) (𝓡 .run)) 𝓜 𝓡 code.env #encode encode-def.routine code.calls-encoder·encode-listed (encode-thm.met 𝓤 H 𝓜 𝓖 𝓡)))

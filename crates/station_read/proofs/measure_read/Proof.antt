@@ -51,10 +51,10 @@ use Rattle.lent_columns.proofs.described as described
 use Rattle.lent_columns.proofs.described.Symbol as described-def
 use Rattle.lent_columns.proofs.described.Symbol.{name as #described}
 use Rattle.lent_columns.proofs.described.Met as described-thm
-use Rattle.encoder.proofs.measure.measure_listed as measure
-use Rattle.encoder.proofs.measure.measure_listed.Symbol as measure-def
-use Rattle.encoder.proofs.measure.measure_listed.Symbol.{name as #measure}
-use Rattle.encoder.proofs.measure.measure_listed.Met as measure-thm
+use Rattle.measurer.proofs.measure_listed as measure
+use Rattle.measurer.proofs.measure_listed.Symbol as measure-def
+use Rattle.measurer.proofs.measure_listed.Symbol.{name as #measure}
+use Rattle.measurer.proofs.measure_listed.Met as measure-thm
 use Rattle.station_read.proofs.measure_read.Key.{name as #measure-read}
 use Rattle.station_read.proofs.measure_read as read
 use Rattle.station_read.proofs.measure_read.Statement as stated
@@ -199,4 +199,4 @@ measure-read-spec 𝓤 H 𝓜 𝓖 𝓡 =
     (tables 𝓤 H 𝓜 𝓡 code.env .C) (tables 𝓤 H 𝓜 𝓡 code.env .Λ) #measure-read code.function (code.unfolded 𝓤 H 𝓜 𝓡)
     (measure-read-meets 𝓤 H (𝓖 .A) (givenOf 𝓤 H 𝓜 𝓖) (𝓜 .mem) (𝓡 .run) (tablesOf 𝓤 H 𝓜 (tables 𝓤 H 𝓜 𝓡 code.env))
     (cited 𝓤 H (Reads 𝓤 H (𝓖 .A) (𝓜 .mem) (𝓡 .run)) 𝓜 𝓡 code.env #described described-def.routine code.calls-lent-columns·described (described-thm.met 𝓤 H 𝓜 𝓖 𝓡))
-    (cited 𝓤 H (Measures 𝓤 H (𝓖 .A) (𝓜 .mem) (𝓡 .run)) 𝓜 𝓡 code.env #measure measure-def.routine code.calls-encoder·measure·measure-listed (measure-thm.met 𝓤 H 𝓜 𝓖 𝓡)))
+    (cited 𝓤 H (Measures 𝓤 H (𝓖 .A) (𝓜 .mem) (𝓡 .run)) 𝓜 𝓡 code.env #measure measure-def.routine code.calls-measurer·measure-listed (measure-thm.met 𝓤 H 𝓜 𝓖 𝓡)))

@@ -19,7 +19,7 @@ put-field-requires : tie.Need-put-field-requires Inv-loop μ-loop
 put-field-requires c κs =
     let t = c .before .before .before in
     let s = t .before .before .before .before in
-    ((s .pre .0 .0, omega arith), (s .pre .1 .0, placing-room (t .loop .inv) _ (s .pre .1 .1) (omega arith)))
+    (s .pre .0, ((s .pre .1 .0 .0, omega arith), (s .pre .1 .1 .0, placing-room (t .loop .inv) _ (s .pre .1 .1 .1) (omega arith))))
 
 loop-again : tie.Need-loop-again Inv-loop μ-loop
 loop-again c =

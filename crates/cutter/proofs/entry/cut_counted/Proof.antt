@@ -6,8 +6,10 @@ use mathlib.Core.Bool.{true}
 use borrow.Author.Tests.{not-true, not-false}
 use Rattle.format.specs.declared.Check.the-variants.{Pass}
 use Rattle.format.specs.CutterRule.{keeps}
-use Rattle.cutter.specs.declared.Place.{Place}
-use Rattle.cutter.specs.Places.{stateAt}
+use Rattle.cutter_step.specs.declared.Place.{Place}
+use Rattle.cutter_step.specs.Places.{stateAt}
+use Rattle.cutter_walk.specs.Walks.{Walks}
+use Rattle.cutter_walk.proofs.Walking.{whole-walk}
 use Rattle.cutter.proofs.Entering.{cut-broken, cut-stands, cut-kept, cut-short, cut-refused, cut-done}
 use Rattle.cutter.proofs.entry.cut_counted.Statement.{statement}
 use Rattle.cutter.proofs.entry.cut_counted.Tie as tie
@@ -55,11 +57,16 @@ walk-requires : tie.Need-walk-requires
 walk-requires c κs =
     let placed = c .before in
     let enough = placed .before .before in
-    let a = start enough .args in (
-      subst (λ (p : Place). keeps (stateAt (a .state .schema) p) ≡ true) (sym (placed .place-of .ensures))
-          (cut-kept (a .state) (a .piece .now) (a .ends .now) (keeping (unrefused enough)) (passes enough)),
-      enough .if2 .left,
-    )
+    let a = start enough .args in
+    subst (λ (p : Place). keeps (stateAt (a .state .schema) p) ≡ true) (sym (placed .place-of .ensures))
+    (cut-kept (a .state) (a .piece .now) (a .ends .now) (keeping (unrefused enough)) (passes enough))
+
+walks : (c : tie.After-walk) → let a = start (c .before .before .before .before) .args in
+    Walks (a .state .schema) (c .before .before .place-of .result) (a .piece .now) (a .ends .now) (c .walk .result) (c .walk .last .1 .1 .1 .0)
+walks c =
+    let enough = c .before .before .before .before in
+    let a = start enough .args in
+    whole-walk (a .state .schema) _ (a .piece .now) (a .ends .now) (c .walk .result) _ (enough .if2 .left) (c .walk .ensures .0) (c .walk .ensures .1)
 
 returns-4 : tie.Need-returns-4
 returns-4 c =
@@ -67,7 +74,8 @@ returns-4 c =
     let called = told .before .before .before .before in
     let enough = called .before .before .before .before in
     let a = start enough .args in
-    cut-refused (a .state) (a .piece .now) (a .ends .now) (keeping (unrefused enough)) (passes enough) (enough .if2 .left) _ (called .before .before .place-of .ensures) _ _ (called .walk .ensures) _
+    cut-refused (a .state) (a .piece .now) (a .ends .now) (keeping (unrefused enough)) (passes enough) (enough .if2 .left) _
+    (called .before .before .place-of .ensures) _ _ (walks called) _
     (told .check .given .1)
 
 returns-5 : tie.Need-returns-5
@@ -76,7 +84,8 @@ returns-5 c =
     let called = told .before .before .before .before in
     let enough = called .before .before .before .before in
     let a = start enough .args in
-    cut-done (a .state) (a .piece .now) (a .ends .now) (keeping (unrefused enough)) (passes enough) (enough .if2 .left) _ (called .before .before .place-of .ensures) _ _ (called .walk .ensures)
+    cut-done (a .state) (a .piece .now) (a .ends .now) (keeping (unrefused enough)) (passes enough) (enough .if2 .left) _
+    (called .before .before .place-of .ensures) _ _ (walks called)
     (told .enum-told2 .given .1)
 
 pub cut-counted-spec : {M : Type 1} → statement M

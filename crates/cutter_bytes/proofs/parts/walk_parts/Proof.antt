@@ -1,17 +1,18 @@
 -- `cutter_bytes::parts::walk_parts` meets its contract. The invariant: so many bytes are walked, and the ends in them stored. The measure is
 -- the bytes left. Assumes nothing.
 use borrow.Author.Needs.{needs}
-use Prim.Native.Nat.{_+_, _-_, _*_, _≤_}
+use Prim.Native.Nat.{ℕ, _+_, _-_, _*_, _≤_}
 use mathlib.Core.Path.{_≡_, refl, ap, sym, _∙_}
 use native.Mathlib.Omega.{arith}
 use lib.ListN.{length, take, drop, length-drop}
 use lib.Seq.{length-take-le}
 use borrow.Rule.Slice.PartMut.{putMid}
 use Rattle.format.specs.declared.Check.{Check}
+use Rattle.format.specs.declared.Check.the-variants.{Pass}
 use Rattle.basics.proofs.Bytes.{bytes-of}
-use Rattle.cutter.specs.Places.{stateAt}
-use Rattle.cutter.specs.Walks.{walkedTo}
-use Rattle.cutter_bytes.proofs.Parting.{Stored, stored-begin, stored-is, stored-keeps, part-fits, part-few, part-room, numbers-long, stored-more, walks-whole, walks-refused}
+use Rattle.cutter_step.specs.Places.{stateAt}
+use Rattle.cutter_walk.specs.Walks.{walkedTo, Walks}
+use Rattle.cutter_bytes.proofs.Parting.{Stored, took, stored-begin, stored-is, stored-keeps, taken-within, taken-some, taken-walks, part-room, numbers-fit, stored-more, walks-whole, walks-refused}
 use Rattle.cutter_bytes.proofs.parts.walk_parts.Statement.{statement}
 use Rattle.cutter_bytes.proofs.parts.walk_parts.Tie as tie
 
@@ -26,77 +27,80 @@ abbrev μ-loop : tie.MeasureT-loop
 abbrev start : tie.At-loop Inv-loop μ-loop → tie.Start Inv-loop μ-loop
 start c = c .before .before .before .before
 
-abbrev ended : tie.After-walk Inv-loop μ-loop → tie.After-part-end Inv-loop μ-loop
-ended c = c .before .before .before
-
 abbrev head : tie.After-walk Inv-loop μ-loop → tie.At-loop Inv-loop μ-loop
-head c = ended c .before .before
+head c = c .before .before .before .before
 
 abbrev walked : tie.After-write-offsets Inv-loop μ-loop → tie.After-walk Inv-loop μ-loop
 walked c = c .before .before .before .before .before
 
 -- ---- what is known of a part that was walked
-few : (c : tie.After-walk Inv-loop μ-loop) → c .walk .result .ends ≤ ended c .part-end .result - head c .loop .i
-few c =
+abbrev bytes-taken : tie.After-walk Inv-loop μ-loop → ℕ
+bytes-taken c = took (c .walk .result .check) (c .walk .result .read) (length (start (head c) .args .piece .now) - head c .loop .i)
+
+within : (c : tie.After-walk Inv-loop μ-loop) → head c .loop .i + bytes-taken c ≤ length (start (head c) .args .piece .now)
+within c =
+    let a = start (head c) .args in
+    omega (
+      arith,
+      head c .loop .inv .0,
+      taken-within (a .schema) (a .place) (a .piece .now) (a .ends .now) (head c .loop .i) (head c .loop .at)
+          (head c .loop .numbers) (c .walk .result) (c .walk .last .1 .1 .1 .0) (c .walk .ensures .0),
+    )
+
+walks : (c : tie.After-walk Inv-loop μ-loop) → let a = start (head c) .args in let l = head c .loop in
+    Walks (a .schema) (l .at) (take (bytes-taken c) (drop (l .i) (a .piece .now))) (l .numbers) (c .walk .result) (c .walk .last .1 .1 .1 .0)
+walks c = let a = start (head c) .args in taken-walks (a .schema) (a .place) (a .piece .now) (a .ends .now) (head c .loop .i) (head c .loop .at)
+    (head c .loop .numbers) (c .walk .result) (c .walk .last .1 .1 .1 .0) (c .walk .ensures .0)
+
+fit : (c : tie.After-walk Inv-loop μ-loop) → c .walk .result .ends ≤ length (c .walk .last .1 .1 .1 .0)
+fit c =
     let s = start (head c) in
-    let e = ended c .part-end .ensures in
-    part-few (s .args .schema) (s .args .place) (s .args .piece .now) (s .args .ends .now) _ _ _ _ _ _ _ _ (e .0) (e .1) (s .pre .1 .0) (head c .loop .inv .1)
-    (c .walk .ensures)
+    numbers-fit (s .args .schema) (s .args .place) (s .args .piece .now) (s .args .ends .now) _ _ _ _ _ _ _ _ (within c) (s .pre .1 .0)
+    (head c .loop .inv .1) (walks c)
 
 room : (c : tie.After-walk Inv-loop μ-loop) → 8 * head c .loop .n + 8 * c .walk .result .ends ≤ length (head c .loop .ends)
 room c =
     let s = start (head c) in
-    let e = ended c .part-end .ensures in
-    part-room (s .args .schema) (s .args .place) (s .args .piece .now) (s .args .ends .now) _ _ _ _ _ _ _ _ (e .0) (e .1) (s .pre .1 .0) (head c .loop .inv .1)
-    (c .walk .ensures)
-
-long : (c : tie.After-walk Inv-loop μ-loop) → length (c .walk .last .1 .1 .1 .0) ≡ length (head c .loop .numbers)
-long c =
-    let s = start (head c) in
-    let e = ended c .part-end .ensures in
-    numbers-long (s .args .schema) (s .args .place) (s .args .piece .now) (s .args .ends .now) _ _ _ _ _ _ _ _ (e .0) (e .1) (s .pre .1 .0)
-    (head c .loop .inv .1) (c .walk .ensures) (e .2)
+    part-room (s .args .schema) (s .args .place) (s .args .piece .now) (s .args .ends .now) _ _ _ _ _ _ _ _ (within c) (s .pre .1 .0)
+    (head c .loop .inv .1) (walks c)
 
 stored : (c : tie.After-write-offsets Inv-loop μ-loop) → let w = walked c in let l = head w in let a = start l .args in
-    Stored (a .schema) (a .place) (a .piece .now) (a .ends .now) (ended w .part-end .result)
+    Stored (a .schema) (a .place) (a .piece .now) (a .ends .now) (l .loop .i + bytes-taken w)
     (walkedTo (w .walk .result .check) (a .schema) (w .walk .result .place))
     (l .loop .n + w .walk .result .ends)
     (putMid (8 * l .loop .n) (length (l .loop .ends) - 8 * l .loop .n) (l .loop .ends) (c .write-offsets .last .1 .0))
 stored c =
     let w = walked c in
     let s = start (head w) in
-    let e = ended w .part-end .ensures in
-    stored-more (s .args .schema) (s .args .place) (s .args .piece .now) (s .args .ends .now) _ _ _ _ _ _ _ _ (e .0) (e .1) (s .pre .1 .0)
-    (head w .loop .inv .1) (w .walk .ensures) _ (c .write-offsets .ensures)
+    stored-more (s .args .schema) (s .args .place) (s .args .piece .now) (s .args .ends .now) _ _ _ _ _ _ _ _ (within w) (s .pre .1 .0)
+    (head w .loop .inv .1) (walks w) _ (c .write-offsets .ensures)
+
+-- a walk that passed: the bytes that it read
+read : (c : tie.After-walk Inv-loop μ-loop) → c .walk .result .check ≡ Pass → bytes-taken c ≡ c .walk .result .read
+read c e = ap (λ (d : Check). took d (c .walk .result .read) (length (start (head c) .args .piece .now) - head c .loop .i)) e
 
 -- ---- the needs
 loop-holds : tie.Need-loop-holds Inv-loop μ-loop
 loop-holds c = let a = c .before .before .before .args in (omega arith, stored-begin (a .schema) (a .place) (a .piece .now) (a .ends .now), refl)
 
-part-end-requires : tie.Need-part-end-requires Inv-loop μ-loop
-part-end-requires c κs = c .before .loop .inv .0
-
 walk-requires : tie.Need-walk-requires Inv-loop μ-loop
 walk-requires c κs =
-    let e = c .before .before in
-    let l = e .before .before in
+    let l = c .before .before .before in
     let s = start l in
     let a = s .args in
-    let bytes = bytes-of (a .piece .now) (λ j. l .before .before .before .shared-slice-known .given j .fits) in (
-      stored-keeps (a .schema) (a .place) (a .piece .now) (a .ends .now) (s .good .0) bytes (s .pre .0) _ _ _ _ (l .loop .inv .1),
-      part-fits (a .piece .now) _ _ _ (e .part-end .ensures .1) (e .part-end .ensures .2),
-    )
+    let bytes = bytes-of (a .piece .now) (λ j. l .before .before .before .shared-slice-known .given j .fits) in
+    stored-keeps (a .schema) (a .place) (a .piece .now) (a .ends .now) (s .good .0) bytes (s .pre .0) _ _ _ _ (l .loop .inv .1)
 
 mul-from : tie.Need-mul-from Inv-loop μ-loop
 mul-from c = let w = c .before .before in omega (arith, room w, head w .loop .inv .1 .long, start (head w) .good .1 .1 .1 .0)
 
 slice-reshare-prefix-write-offsets : tie.Need-slice-reshare-prefix-write-offsets Inv-loop μ-loop
-slice-reshare-prefix-write-offsets c = let w = c .before .before in omega (arith, few w, long w, ended w .part-end .ensures)
+slice-reshare-prefix-write-offsets c = fit (c .before .before)
 
 slice-aggregate-write-offsets : tie.Need-slice-aggregate-write-offsets Inv-loop μ-loop
 slice-aggregate-write-offsets c =
     let w = c .before .before .before in
-    sym (length-take-le (w .walk .result .ends) (w .walk .last .1 .1 .1 .0) (omega (arith, few w, long w, ended w .part-end .ensures)))
+    sym (length-take-le (w .walk .result .ends) (w .walk .last .1 .1 .1 .0) (fit w))
 
 sub-write-offsets : tie.Need-sub-write-offsets Inv-loop μ-loop
 sub-write-offsets c = omega (arith, room (c .before .before .before))
@@ -108,7 +112,7 @@ write-offsets-requires c κs =
     omega (
       arith,
       room w,
-      length-take-le (w .walk .result .ends) (w .walk .last .1 .1 .1 .0) (omega (arith, few w, long w, ended w .part-end .ensures)),
+      length-take-le (w .walk .result .ends) (w .walk .last .1 .1 .1 .0) (fit w),
       length-take-le (length ends - 8 * head w .loop .n) (drop (8 * head w .loop .n) ends) (omega (arith, length-drop (8 * head w .loop .n) ends)),
     )
 
@@ -119,7 +123,7 @@ same-length : tie.Need-same-length Inv-loop μ-loop
 same-length c = stored (c .before .before .before .before .before .before) .long
 
 same-length-2 : tie.Need-same-length-2 Inv-loop μ-loop
-same-length-2 c = let w = walked (c .before .before .before .before .before .before) in long w ∙ head w .loop .inv .2
+same-length-2 c = let w = walked (c .before .before .before .before .before .before) in walks w .long ∙ head w .loop .inv .2
 
 returns : tie.Need-returns Inv-loop μ-loop
 returns c =
@@ -131,20 +135,31 @@ returns c =
 
 loop-less : tie.Need-loop-less Inv-loop μ-loop
 loop-less c =
-    let w = walked (c .before .before .before .before .before) in
-    let turn = ended w .before in
-    let e = ended w .part-end .ensures in
-    omega (arith, e .1, e .3 (turn .loop-test .taken) (omega (arith, start (head w) .pre .1 .1, head w .loop .inv .2)))
+    let w = walked (c .before .before .before .before .before .before) in
+    let a = start (head w) .args in
+    let turn = w .before .before .before in
+    let passed = c .before .enum-told .given .1 in
+    let some = taken-some (a .schema) (a .place) (a .piece .now) (a .ends .now) (head w .loop .i) (head w .loop .at) (head w .loop .numbers)
+    (w .walk .result) (w .walk .last .1 .1 .1 .0)
+    (w .walk .ensures .0)
+    (omega (arith, start (head w) .pre .1 .1, head w .loop .inv .2)) (turn .loop-test .taken) passed (w .walk .ensures .1) in
+    omega (arith, some, turn .loop-test .taken)
+
+add-i : tie.Need-add-i Inv-loop μ-loop
+add-i c = let w = walked (c .before .before .before .before .before .before) in omega
+    (arith, within w, read w (c .before .enum-told .given .1), start (head w) .good)
 
 loop-again : tie.Need-loop-again Inv-loop μ-loop
 loop-again c =
-    let written = c .before .before .before .before .before in
+    let written = c .before .before .before .before .before .before in
     let w = walked written in
     let a = start (head w) .args in
-    let passes = ap (λ (d : Check). walkedTo d (a .schema) (w .walk .result .place)) (c .enum-told .given .1) in (
-      ended w .part-end .ensures .1,
-      stored-is (a .schema) (a .place) (a .piece .now) (a .ends .now) _ _ _ _ _ passes (stored written),
-      long w ∙ head w .loop .inv .2,
+    let passed = c .before .enum-told .given .1 in
+    let passes = ap (λ (d : Check). walkedTo d (a .schema) (w .walk .result .place)) passed in
+    let to = ap (λ (k : ℕ). head w .loop .i + k) (read w passed) in (
+      omega (arith, within w, read w passed),
+      stored-is (a .schema) (a .place) (a .piece .now) (a .ends .now) _ _ _ _ _ _ to passes (stored written),
+      walks w .long ∙ head w .loop .inv .2,
     )
 
 returns-2 : tie.Need-returns-2 Inv-loop μ-loop
@@ -160,8 +175,7 @@ walk-parts-spec =
     Inv-loop
     μ-loop
     loop-holds
-    part-end-requires
-    (λ c. c .part-end .ensures .0)
+    (λ c. search needs)
     (λ c. search needs)
     (λ c. search needs)
     walk-requires
@@ -178,6 +192,7 @@ walk-parts-spec =
     same-length-2
     returns
     (λ c. search needs)
+    add-i
     loop-less
     loop-again
     (λ c. c .before .loop .inv .1 .long)

@@ -42,6 +42,7 @@ decode-value-spec =
     (λ c. search needs)
     (λ c κs. let at-arm = c .before in omega (arith, fits (taken (at-arm .before .before)) (at-arm .enum-told3 .given .1)))
     (λ c. search needs)
+    (λ c. search needs)
     (λ c κs. let at-arm = c .before .before in omega (arith, fits (taken (at-arm .before .before)) (at-arm .kind .given .1)))
     (λ c. search needs)
     (λ c κs. let at-arm = c .before in (omega arith, omega (arith, fits (taken (at-arm .before .before)) (at-arm .enum-told4 .given .1))))

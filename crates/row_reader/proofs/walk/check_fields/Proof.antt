@@ -19,7 +19,7 @@ use Rattle.format.specs.declared.FieldRead.the-variants.{Null, Value}
 use Rattle.format.specs.declared.Refusal.the-variants as refusal
 use Rattle.format.specs.declared.RowFault.the-variants.{Extra}
 use Rattle.format.specs.Kinds.{Slot, columnShape}
-use Rattle.format.specs.Limits.{maxRows}
+use Rattle.format.specs.Limits.{maxColumns, maxRows}
 use Rattle.format.specs.Lists.{Bytes}
 use Rattle.format.specs.Sheet.{layout}
 use Rattle.format.specs.Schemas.{Limited, colsOf, noColumn}
@@ -29,23 +29,26 @@ use Rattle.format.specs.Passed.{AllLie}
 use Rattle.basics.proofs.Bytes.{bytes-of, bytes-take, bytes-drop}
 use Rattle.laws.proofs.FaultPlace.{fault-inside}
 use Rattle.laws.proofs.InUse.{Held, in-use, next-in-use}
-use Rattle.row_reader.proofs.Taken.{Says, says, says-rest, null-added}
-use Rattle.row_reader.proofs.Turns.{Fields, starts, taken, broken, longer, Rows, begins, ends, InRow, bytes-small, faulty, passed}
+use Rattle.quick_rows.specs.Quick.{Rows, mostRow}
+use Rattle.quick_rows.proofs.Taken.{Says, says-rest, null-added}
+use Rattle.quick_rows.proofs.Turns.{Fields, starts, taken, whole}
+use Rattle.quick_rows.proofs.Passing.{InRow, bytes-small, passed}
+use Rattle.row_reader.proofs.Turns.{broken, longer, ends, faulty}
 use Rattle.row_reader.proofs.walk.check_fields.Statement.{statement}
 use Rattle.row_reader.proofs.walk.check_fields.Tie as tie
 
 abbrev Inv-loop : tie.InvT-loop
-Inv-loop n rows offsets count columns lengths check₀ bytes₀ r start end row at₀ c₀ check bytes at c =
-    (check ≡ Pass) × Fields (take count columns) row r bytes₀ bytes at c
+Inv-loop n rows offsets count columns check₀ bytes₀ r start end row at₀ c₀ check bytes at c =
+    (check ≡ Pass) × Fields (take count columns) row bytes₀ bytes at c
 
 abbrev μ-loop : tie.MeasureT-loop
-μ-loop n rows offsets count columns lengths check₀ bytes₀ r start end row at₀ c₀ check bytes at c = count - c
+μ-loop n rows offsets count columns check₀ bytes₀ r start end row at₀ c₀ check bytes at c = count - c
 
 abbrev Inv-rows : tie.InvT-rows
-Inv-rows n rows offsets count columns lengths check₀ bytes₀ r₀ check bytes r = (check ≡ Pass) × Rows (take count columns) (rowBytes rows offsets) n bytes r
+Inv-rows n rows offsets count columns check₀ bytes₀ r₀ check bytes r = (check ≡ Pass) × Rows (take count columns) (rowBytes rows offsets) n bytes r
 
 abbrev μ-rows : tie.MeasureT-rows
-μ-rows n rows offsets count columns lengths check₀ bytes₀ r₀ check bytes r = n - r
+μ-rows n rows offsets count columns check₀ bytes₀ r₀ check bytes r = n - r
 
 -- ---- at the entry
 
@@ -153,7 +156,6 @@ Stands c =
 stands : (c : Row) → Stands c
 stands c = record {
   most = few-rows (start c);
-  few = omega (arith, full (start c), limited (start c) .few);
   inside = in-rows (c .before) .rows-test .taken;
   head = at-rows c .rows .inv .1;
   is = rw add-one;
@@ -180,50 +182,7 @@ here c =
 
 -- where the next turn stands
 abbrev Next : Turn → ℕ → ℕ → Type 0
-Next c bytes′ at′ = Fields (cols (start (row c))) (bytes (row c)) (r (row c)) (at-rows (row c) .rows .bytes) bytes′ at′ (at-loop c .loop .c + 1)
-
--- ---- a plain field stands there
-
-abbrev Asked : Type 0
-Asked = tie.After-plain-there Inv-loop μ-loop Inv-rows μ-rows
-
-abbrev len : Asked → ℕ
-len c = getD (at-rows (row (c .before)) .before .plain-lengths .result) (at-loop (c .before) .loop .c) 0
-
-past-plain : (c : Asked) {bytes′ at′ : ℕ} → c .plain-there .result ≡ true → bytes′ ≡ at-loop (c .before) .loop .bytes
-    → at′ ≡ at-loop (c .before) .loop .at + len c → Next (c .before) bytes′ at′
-past-plain c stood p o =
-    let t = c .before in
-    let at = at-loop t .loop .at in
-    let inv = at-loop t .loop .inv .1 in
-    let there = c .plain-there .ensures stood in
-    let plain = at-rows (row t) .before .plain-lengths .ensures (at-loop t .loop .c) (t .loop-test .taken) (there .0) in
-    let whole = length-drop at (bytes (row t)) in
-    let one = getD-drop at (bytes (row t)) 0 0 ∙ ap (λ (i : ℕ). getD (bytes (row t)) i 0) (omega arith) ∙ there .2 in
-    let said = says (col t) (drop at (bytes (row t))) _ (bytes-drop at (bytes (row t)) (bytes-are (row t)))
-    (sym (plain .reads (drop at (bytes (row t))) (omega (arith, there .1, whole)) one)) in
-    taken inv (here t) (some (said .0)) _ _ _ (said .2) (omega (arith, p, plain .adds (some (said .0)))) o
-
--- ---- a short value stands there
-
-abbrev other : tie.Else1 Inv-loop μ-loop Inv-rows μ-rows → Turn
-other c = c .before .before
-
-abbrev Short : Type 0
-Short = tie.After-read-short Inv-loop μ-loop Inv-rows μ-rows
-
-abbrev asked-of : Short → Turn
-asked-of c = other (c .before .before .before)
-
-past-short : (c : Short) {bytes′ at′ : ℕ} → 0 < c .read-short .result .field → bytes′ ≡ at-loop (asked-of c) .loop .bytes + c .read-short .result .value
-    → at′ ≡ at-loop (asked-of c) .loop .at + c .read-short .result .field → Next (asked-of c) bytes′ at′
-past-short c some-bytes p o =
-    let t = asked-of c in
-    let at = at-loop t .loop .at in
-    let counts = c .read-short .ensures some-bytes in
-    let said = says-rest (col t) (bytes (row t)) at _ (bytes-are (row t)) (counts .reads) in
-    let value = said .0 in
-    taken (at-loop t .loop .inv .1) (here t) (some value) _ _ _ (said .2) (omega (arith, p, counts .adds (some value) (said .1))) o
+Next c bytes′ at′ = Fields (cols (start (row c))) (bytes (row c)) (at-rows (row c) .rows .bytes) bytes′ at′ (at-loop c .loop .c + 1)
 
 -- ---- the field reader has answered of the rest of the row
 
@@ -231,7 +190,7 @@ abbrev Called : Type 0
 Called = tie.After-read-field Inv-loop μ-loop Inv-rows μ-rows
 
 abbrev turn : Called → Turn
-turn c = asked-of (c .before .before .before)
+turn c = c .before .before .before
 
 abbrev loop : Called → tie.At-loop Inv-loop μ-loop Inv-rows μ-rows
 loop c = at-loop (turn c)
@@ -258,13 +217,17 @@ past-value c more e adds p o =
     let told = v .2 in
     taken (loop c .loop .inv .1) (here t) (some value) _ _ _ told (p ∙ ap (λ (n : ℕ). loop c .loop .bytes + n) (adds (some value) (v .1))) o
 
+-- a row adds no more than its columns may
+few-more : {row : List ℕ} {bytes₀ bytes at c : ℕ} (s : Start) → Fields (cols s) row bytes₀ bytes at c → bytes ≤ bytes₀ + mostRow
+few-more s u = omega (arith, u .small, u .inside, full s, limited s .few)
+
 -- ---- the needs
 
-plain-lengths-requires : tie.Need-plain-lengths-requires Inv-loop μ-loop Inv-rows μ-rows
-plain-lengths-requires c κs = limited (c .before .before .before)
+pass-rows-requires : tie.Need-pass-rows-requires Inv-loop μ-loop Inv-rows μ-rows
+pass-rows-requires c κs = let s = c .before .before .before in (few-rows s, (limited s, lie s))
 
 rows-holds : tie.Need-rows-holds Inv-loop μ-loop Inv-rows μ-rows
-rows-holds c = (refl, begins _ _ _)
+rows-holds c = (refl, c .pass-rows .ensures)
 
 mul-start : tie.Need-mul-start Inv-loop μ-loop Inv-rows μ-rows
 mul-start c = omega arith
@@ -291,56 +254,22 @@ part-row-end : tie.Need-part-row-end Inv-loop μ-loop Inv-rows μ-rows
 part-row-end c = inside c
 
 loop-holds : tie.Need-loop-holds Inv-loop μ-loop Inv-rows μ-rows
-loop-holds c = (at-rows c .rows .inv .0, starts _ _ _ _)
-
-mul-len : tie.Need-mul-len Inv-loop μ-loop Inv-rows μ-rows
-mul-len c = omega arith
-
-array-read-len : tie.Need-array-read-len Inv-loop μ-loop Inv-rows μ-rows
-array-read-len c = omega (arith, c .loop-test .taken, limited (start (row c)) .few)
-
-plain-there-requires : tie.Need-plain-there-requires Inv-loop μ-loop Inv-rows μ-rows
-plain-there-requires c κs = at-loop c .loop .inv .1 .within
-
-add-at : tie.Need-add-at Inv-loop μ-loop Inv-rows μ-rows
-add-at c =
-    let next = past-plain (c .before) (c .if1 .taken) refl refl in
-    omega (arith, next .within, short (row (c .before .before)), fits (start (row (c .before .before))))
+loop-holds c = (at-rows c .rows .inv .0, starts _ _ _)
 
 mul-column : tie.Need-mul-column Inv-loop μ-loop Inv-rows μ-rows
-mul-column c = omega arith
+mul-column c = omega (arith, c .loop-test .taken, limited (start (row c)) .few)
 
 array-copy-out-column : tie.Need-array-copy-out-column Inv-loop μ-loop Inv-rows μ-rows
-array-copy-out-column c = omega arith
+array-copy-out-column c = omega (arith, c .loop-test .taken, limited (start (row c)) .few)
 
 sub-rest : tie.Need-sub-rest Inv-loop μ-loop Inv-rows μ-rows
-sub-rest c = at-loop (other (c .before)) .loop .inv .1 .within
+sub-rest c = at-loop (c .before) .loop .inv .1 .within
 
 part-rest-start : tie.Need-part-rest-start Inv-loop μ-loop Inv-rows μ-rows
-part-rest-start c = at-loop (other (c .before)) .loop .inv .1 .within
+part-rest-start c = at-loop (c .before) .loop .inv .1 .within
 
 part-rest-end : tie.Need-part-rest-end Inv-loop μ-loop Inv-rows μ-rows
 part-rest-end c = omega arith
-
-read-short-requires : tie.Need-read-short-requires Inv-loop μ-loop Inv-rows μ-rows
-read-short-requires c κs = search needs
-
--- where the next turn stands past a short value
-after-short : (c : tie.Then2 Inv-loop μ-loop Inv-rows μ-rows) → let short = c .before .before in
-    Next (asked-of short) (at-loop (asked-of short) .loop .bytes + short .read-short .result .value)
-    (at-loop (asked-of short) .loop .at + short .read-short .result .field)
-after-short c = past-short (c .before .before) (c .if2 .taken) refl refl
-
-add-at-2 : tie.Need-add-at-2 Inv-loop μ-loop Inv-rows μ-rows
-add-at-2 c =
-    let told = c .before in
-    let t = asked-of (told .before .before) in
-    omega (arith, after-short told .within, short (row t), fits (start (row t)))
-
-add-bytes : tie.Need-add-bytes Inv-loop μ-loop Inv-rows μ-rows
-add-bytes c =
-    let told = c .before .before in
-    omega (arith, bytes-small (stands (row (asked-of (told .before .before)))) (after-short told))
 
 read-field-requires : tie.Need-read-field-requires Inv-loop μ-loop Inv-rows μ-rows
 read-field-requires c κs = search needs
@@ -348,8 +277,8 @@ read-field-requires c κs = search needs
 enum-known-read : tie.Need-enum-known-read Inv-loop μ-loop Inv-rows μ-rows
 enum-known-read c = search needs
 
-add-at-3 : tie.Need-add-at-3 Inv-loop μ-loop Inv-rows μ-rows
-add-at-3 c =
+add-at : tie.Need-add-at Inv-loop μ-loop Inv-rows μ-rows
+add-at c =
     let called = c .before .before .before in
     let next = past-null called (c .before .read .given .1) refl refl in
     omega (arith, next .within, short (row (turn called)), fits (start (row (turn called))))
@@ -357,8 +286,8 @@ add-at-3 c =
 enum-known-read-2 : tie.Need-enum-known-read-2 Inv-loop μ-loop Inv-rows μ-rows
 enum-known-read-2 c = search needs
 
-add-at-4 : tie.Need-add-at-4 Inv-loop μ-loop Inv-rows μ-rows
-add-at-4 c =
+add-at-2 : tie.Need-add-at-2 Inv-loop μ-loop Inv-rows μ-rows
+add-at-2 c =
     let called = c .before .before .before in
     let t = turn called in
     let took = said called (c .before .read2 .given .1) .2 in
@@ -367,12 +296,12 @@ add-at-4 c =
 added-bytes-requires : tie.Need-added-bytes-requires Inv-loop μ-loop Inv-rows μ-rows
 added-bytes-requires c κs = search needs
 
-add-bytes-2 : tie.Need-add-bytes-2 Inv-loop μ-loop Inv-rows μ-rows
-add-bytes-2 c =
+add-bytes : tie.Need-add-bytes Inv-loop μ-loop Inv-rows μ-rows
+add-bytes c =
     let told = c .before .before in
     let called = told .before .before in
     let next = past-value called (c .added-bytes .result) (told .read2 .given .1) (c .added-bytes .ensures) refl refl in
-    omega (arith, bytes-small (stands (row (turn called))) next)
+    omega (arith, bytes-small (stands (row (turn called))) _ (few-more (start (row (turn called))) next))
 
 enum-known-read-3 : tie.Need-enum-known-read-3 Inv-loop μ-loop Inv-rows μ-rows
 enum-known-read-3 c = search needs
@@ -394,23 +323,12 @@ loop-less c = omega arith
 
 loop-again : tie.Need-loop-again Inv-loop μ-loop Inv-rows μ-rows
 loop-again c =
-    let asked = c .before in (
-      at-loop (asked .before) .loop .inv .0,
+    let called = c .before in (
+      loop called .loop .inv .0,
       ⊎-elim
-          (λ w. past-plain asked (w .0 .taken) (w .1) (w .2))
-          (⊎-elim
-          (λ w.
-          let short : Short = record { before = record { before = record { before = record { before = asked; if1 = w .0 }; column = w .1 }; rest = w .2 }; read-short = w .3 } in
-          past-short short (w .5 .taken) (w .8) (w .9))
-          (⊎-elim
-          (λ w.
-          let short : Short = record { before = record { before = record { before = record { before = asked; if1 = w .0 }; column = w .1 }; rest = w .2 }; read-short = w .3 } in
-          past-null (record { before = record { before = record { before = short; struct-known = w .4 }; if2 = w .5 }; read-field = w .6 }) (w .8 .given .1) (w .10) (w .11))
-          (λ w.
-          let short : Short = record { before = record { before = record { before = record { before = asked; if1 = w .0 }; column = w .1 }; rest = w .2 }; read-short = w .3 } in
-          past-value (record { before = record { before = record { before = short; struct-known = w .4 }; if2 = w .5 }; read-field = w .6 })
-          (w .10 .result) (w .8 .given .1) (w .10 .ensures) (w .11) (w .12))))
-          (c .if1 .came),
+          (λ w. past-null called (w .1 .given .1) (w .3) (w .4))
+          (λ w. past-value called (w .3 .result) (w .1 .given .1) (w .3 .ensures) (w .4) (w .5))
+          (c .match .came),
     )
 
 add-r : tie.Need-add-r Inv-loop μ-loop Inv-rows μ-rows
@@ -426,7 +344,8 @@ all-read c = omega (arith, full (start (c .before .before)), c .loop-test .left)
 rows-again : tie.Need-rows-again Inv-loop μ-loop Inv-rows μ-rows
 rows-again c =
     let at = c .before .before in
-    (at .loop .inv .0, passed (stands (at .before)) (at .loop .inv .1) (all-read (c .before)) (c .if3 .left))
+    let w = whole (at .loop .inv .1) (all-read (c .before)) (c .if1 .left) in
+    (at .loop .inv .0, passed (stands (at .before)) _ (w .passes _) (w .adds) (few-more (start (at .before)) (at .loop .inv .1)))
 
 returns : tie.Need-returns Inv-loop μ-loop Inv-rows μ-rows
 returns c =
@@ -438,13 +357,13 @@ returns-2 c =
     let told = c .before in
     let called = told .before .before in
     let inv = loop called .loop .inv .1 in
-    faulty (stands (row (turn called))) inv (broken inv (here (turn called)) _ _ (said called (told .read3 .given .1)))
+    faulty (stands (row (turn called))) _ (few-more (start (row (turn called))) inv) (broken inv _ (here (turn called)) _ _ (said called (told .read3 .given .1)))
 
 returns-3 : tie.Need-returns-3 Inv-loop μ-loop Inv-rows μ-rows
 returns-3 c =
     let at = c .before .before in
-    let extra = longer (at .loop .inv .1) (all-read (c .before)) (c .if3 .taken) in
-    faulty (stands (at .before)) (at .loop .inv .1)
+    let extra = longer (at .loop .inv .1) _ (all-read (c .before)) (c .if1 .taken) in
+    faulty (stands (at .before)) _ (few-more (start (at .before)) (at .loop .inv .1))
     (extra ∙ ap (λ (n : ℕ). Refuse (refusal.Row Extra (r (at .before)) n (at .loop .at))) (full (start (at .before))))
 
 pub check-fields-spec : {M : Type 1} → statement M
@@ -455,7 +374,7 @@ check-fields-spec =
     μ-loop
     Inv-rows
     μ-rows
-    plain-lengths-requires
+    pass-rows-requires
     rows-holds
     mul-start
     shared-slice-read-start
@@ -466,25 +385,18 @@ check-fields-spec =
     part-row-start
     part-row-end
     loop-holds
-    mul-len
-    array-read-len
-    plain-there-requires
-    add-at
     mul-column
     array-copy-out-column
     sub-rest
     part-rest-start
     part-rest-end
-    read-short-requires
-    add-at-2
-    add-bytes
     read-field-requires
     enum-known-read
-    add-at-3
+    add-at
     enum-known-read-2
-    add-at-4
+    add-at-2
     added-bytes-requires
-    add-bytes-2
+    add-bytes
     enum-known-read-3
     sub-place
     add-c

@@ -1,7 +1,7 @@
 -- `value_order::bytes::order_variable` meets its contract: each value lies between two ends that do not fall, within the bytes that the last
 -- end says. Assumes nothing.
 use borrow.Author.Needs.{needs}
-use Rattle.sheet_reader.proofs.Values.{Between, between}
+use Rattle.sheet_slots.proofs.Values.{Between, between}
 use Rattle.number_order.proofs.Spelled.{ordered-as}
 use Rattle.value_order.proofs.bytes.order_variable.Statement.{statement}
 use Rattle.value_order.proofs.bytes.order_variable.Tie as tie

@@ -3,7 +3,7 @@
 use borrow.Author.Needs.{needs}
 use Rattle.basics.specs.Wide.{WideKind}
 use Rattle.basics.proofs.Sorts.{wide-left}
-use Rattle.sheet_reader.proofs.Values.{bool-asked, variable-asked, wide-asked}
+use Rattle.sheet_slots.proofs.Values.{bool-asked, variable-asked, wide-asked}
 use Rattle.value_order.proofs.Values.{variable-ordered, bool-ordered, wide-ordered}
 use Rattle.value_order.proofs.value.order_values.Statement.{statement}
 use Rattle.value_order.proofs.value.order_values.Tie as tie

@@ -69,6 +69,7 @@ order-wide-spec =
     (λ c. search needs)
     (λ c κs. fits (handed (c .before .before)) (c .enum-told13 .given .1))
     (λ c. search needs)
+    (λ c. search needs)
     (λ c κs. let at-arm = c .before in omega (arith, fits (handed (at-arm .before .before)) (at-arm .kind .given .1)))
     (λ c. search needs)
     (λ c. omega (arith, fits (handed (c .before .before)) (c .enum-told14 .given .1)))

@@ -1,0 +1,2 @@
+-- The marks of a block, and its end byte.
+pub mod Marks

@@ -1,0 +1,3 @@
+-- What the rule's functions rest on.
+pub mod Rules
+pub mod Summing

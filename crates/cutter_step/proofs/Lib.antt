@@ -1,0 +1,2 @@
+-- What a byte's step rests on.
+pub mod Stepping

@@ -1,0 +1,3 @@
+-- What the walks over a piece rest on.
+pub mod Walking
+pub mod Fields

@@ -1,0 +1,2 @@
+-- What the walks over a piece promise.
+pub mod Walks

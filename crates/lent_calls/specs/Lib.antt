@@ -1,0 +1,2 @@
+-- What the C entries do with the lent bytes that they use.
+pub mod Stored

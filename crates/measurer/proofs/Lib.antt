@@ -1,0 +1,2 @@
+-- How each way out of measuring follows.
+pub mod Batches

@@ -1,0 +1,2 @@
+-- What measuring promises encoding.
+pub mod Measuring

@@ -1,0 +1,2 @@
+-- What the moves rest on.
+pub mod Arms

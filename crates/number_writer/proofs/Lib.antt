@@ -1,0 +1,2 @@
+-- What the proofs of the writers share.
+pub mod Writing

@@ -1,0 +1,2 @@
+-- 13 and 14, case by case.
+pub mod Rooms

@@ -1,0 +1,3 @@
+// The room that encode and decode ask for.
+pub mod rows;
+pub mod sheet;

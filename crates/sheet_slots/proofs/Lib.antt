@@ -1,0 +1,2 @@
+-- The values of a column that passes, for the crates that read them.
+pub mod Values

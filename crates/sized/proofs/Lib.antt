@@ -1,7 +1,0 @@
--- What the proofs of this crate and of the C entries share.
-pub mod Enough
-pub mod Entries
-pub mod Joins
-pub mod LookUps
-pub mod ListRead
-pub mod Comparing

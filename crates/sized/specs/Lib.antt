@@ -1,3 +1,0 @@
--- What the C entries do with the lent bytes that they use.
-pub mod Stored
-pub mod Order

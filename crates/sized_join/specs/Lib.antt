@@ -1,0 +1,2 @@
+-- Join on lent bytes.
+pub mod Order

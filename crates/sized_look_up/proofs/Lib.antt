@@ -1,0 +1,2 @@
+-- What the proofs of the look-up and of its C entries share.
+pub mod LookUps

@@ -1,0 +1,3 @@
+-- Laws of a state's bytes.
+pub mod Writing
+pub mod Reading

@@ -1,0 +1,2 @@
+-- A state as bytes.
+pub mod Written

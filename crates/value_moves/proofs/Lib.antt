@@ -1,0 +1,2 @@
+-- What the moves in a value rest on.
+pub mod Arms

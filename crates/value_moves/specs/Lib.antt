@@ -1,0 +1,2 @@
+-- What the promises of this crate cite beside crate format's definitions.
+pub mod Values
