@@ -1,7 +1,7 @@
 -- A column whose kind is named: what its loop needs, and what it gives. Assumes nothing.
 use Prim.Native.Nat.{ℕ, _<_, _≤_}
 use mathlib.Core.Path.{_≡_, sym, ap, _∙_, subst}
-use mathlib.Core.Bool.{false}
+use mathlib.Core.Bool.{true, false, true≢false}
 use mathlib.Core.List.{List, [], _∷_}
 use native.Mathlib.Omega.{arith}
 use types.Run.{OneOf, miss}
@@ -14,16 +14,24 @@ use Rattle.format.specs.declared.SortOptions.{SortOptions}
 use Rattle.format.specs.declared.Column.{Column}
 use Rattle.format.specs.Limits.{maxRows}
 use Rattle.format.specs.Kinds.{Fixed, Shape, fixed, width, columnShape}
+use Rattle.format.specs.Fold.{folds}
 use Rattle.format.specs.Field.{fieldLength}
 use Rattle.format.specs.Sheet.{wide, layout, layoutFor, columnBytes, columnFault, slotAt}
 use Rattle.format.specs.Passed.{Passes}
 use Rattle.laws.proofs.Sheets.{column-room}
+use Rattle.number.specs.declared.Coding.{Coding}
+use Rattle.number.specs.declared.Coding.the-variants.{Float}
+use Rattle.fixed_decoder.specs.Worded.{coded}
 use Rattle.chunk_writer.specs.Cursors.{Roomy, WroteEach, slotField}
 use Rattle.chunk_writer.specs.Words.{Ready}
 
 -- a column of a kind
 abbrev pub kindColumn : Kind → SortOptions → Column
 kindColumn k o = record { kind = k; options = o }
+
+-- numbers that never fold are no floats
+pub no-float : (c : Coding) → folds (coded c 1) true ≡ false → c ≡ Float → ⊥
+no-float c h e = true≢false (subst (λ (c : Coding). folds (coded c 1) true ≡ false) e h)
 
 module _ (col : Column) (n : ℕ) (s : List ℕ) (from to : ℕ) where
   -- fixed values of w bytes
@@ -50,7 +58,7 @@ module _ (col : Column) (n : ℕ) (s : List ℕ) (from to : ℕ) where
 
 -- the places of the kinds that no arm names: variable bytes, at 15, are none of them
 abbrev leftKeys : List ℕ
-leftKeys = 0 ∷ 1 ∷ 5 ∷ 12 ∷ 14 ∷ 16 ∷ 17 ∷ []
+leftKeys = 0 ∷ 12 ∷ 14 ∷ 16 ∷ 17 ∷ []
 
 pub left-fixed : (kind : Kind) → OneOf leftKeys (tagOf the-type kind) → kind ≡ Variable → ⊥
 left-fixed kind h e = miss leftKeys 15 tt (subst (λ (k : Kind). OneOf leftKeys (tagOf the-type k)) e h)

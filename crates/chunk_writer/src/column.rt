@@ -9,6 +9,7 @@ ghost use Rattle.format.specs.Sheet.{columnFault, layout};
 ghost use Rattle.format.specs.Passed.{Passes};
 ghost use Rattle.chunk_writer.specs.Cursors.{Roomy, WroteEach, slotField};
 use crate::names::write_names;
+use crate::valid::all_valid;
 use crate::words::write_words;
 use field_writer::put_field;
 use format::Column;
@@ -56,25 +57,27 @@ pub fn write_column(
     ensures { λ _. ⌜ WroteEach (slotField column n (now (part .entry))) from to (now (rows .entry)) (now (offsets .entry))
         (now (rows .exit)) (now (offsets .exit)) ⌝ }
 {
+    let all = all_valid(part, from, to);
     let kind = column.kind;
     let fold = column.options.fold;
-    let signed = Coding::Signed;
-    let unsigned = Coding::Unsigned;
-    let float = Coding::Float;
+    let int = Coding::Signed;
+    let nat = Coding::Unsigned;
+    let real = Coding::Float;
     match kind {
-        Kind::I16 => write_words(2, signed, false, column, n, part, from, to, rows, offsets),
-        Kind::U16 => write_words(2, unsigned, false, column, n, part, from, to, rows, offsets),
-        Kind::F16 => write_words(2, float, fold, column, n, part, from, to, rows, offsets),
-        Kind::I32 => write_words(4, signed, false, column, n, part, from, to, rows, offsets),
-        Kind::U32 => write_words(4, unsigned, false, column, n, part, from, to, rows, offsets),
-        Kind::F32 => write_words(4, float, fold, column, n, part, from, to, rows, offsets),
-        Kind::I64 => write_words(8, signed, false, column, n, part, from, to, rows, offsets),
-        Kind::U64 => write_words(8, unsigned, false, column, n, part, from, to, rows, offsets),
-        Kind::F64 => write_words(8, float, fold, column, n, part, from, to, rows, offsets),
+        Kind::I16 => write_words(2, int, false, all, column, n, part, from, to, rows, offsets),
+        Kind::U16 => write_words(2, nat, false, all, column, n, part, from, to, rows, offsets),
+        Kind::F16 => write_words(2, real, fold, all, column, n, part, from, to, rows, offsets),
+        Kind::I32 => write_words(4, int, false, all, column, n, part, from, to, rows, offsets),
+        Kind::U32 => write_words(4, nat, false, all, column, n, part, from, to, rows, offsets),
+        Kind::F32 => write_words(4, real, fold, all, column, n, part, from, to, rows, offsets),
+        Kind::I64 => write_words(8, int, false, all, column, n, part, from, to, rows, offsets),
+        Kind::U64 => write_words(8, nat, false, all, column, n, part, from, to, rows, offsets),
+        Kind::F64 => write_words(8, real, fold, all, column, n, part, from, to, rows, offsets),
         Kind::MonthDayNano => write_words(
             16,
-            signed,
+            int,
             false,
+            all,
             column,
             n,
             part,
@@ -83,7 +86,9 @@ pub fn write_column(
             rows,
             offsets,
         ),
-        Kind::Variable => write_names(column, n, part, from, to, rows, offsets),
+        Kind::I8 => write_words(1, int, false, all, column, n, part, from, to, rows, offsets),
+        Kind::U8 => write_words(1, nat, false, all, column, n, part, from, to, rows, offsets),
+        Kind::Variable => write_names(all, column, n, part, from, to, rows, offsets),
         _ => write_fields(column, n, part, from, to, rows, offsets),
     }
 }

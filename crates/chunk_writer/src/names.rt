@@ -1,6 +1,6 @@
 // Columns of variable bytes.
 ghost use mathlib.Core.Path.{_≡_};
-ghost use mathlib.Core.Bool.{false};
+ghost use mathlib.Core.Bool.{true, false};
 ghost use Prim.Native.Nat.{_<_, _≤_};
 ghost use lib.ListN.{length};
 ghost use Rattle.format.specs.declared.Kind.the-variants.{Variable};
@@ -8,13 +8,14 @@ ghost use Rattle.format.specs.Limits.{maxRows};
 ghost use Rattle.format.specs.Sheet.{columnFault, layout};
 ghost use Rattle.format.specs.Passed.{Passes};
 ghost use Rattle.chunk_writer.specs.Cursors.{Roomy, WroteEach, slotField};
-use crate::valid::all_valid;
+ghost use Rattle.chunk_writer.specs.Valid.{AllValid};
 use crate::valid::has_value;
 use field_writer::put_name;
 use format::Column;
 
-// Where the values stand is decided outside of the loop.
+// Where the values stand is decided outside of the loop; `full` says that all rows have one.
 pub fn write_names(
+    full: bool,
     column: Column,
     n: usize,
     part: &[u8],
@@ -27,12 +28,12 @@ pub fn write_names(
     requires { ⌜ (n ≤ maxRows) × (from ≤ to) × (to ≤ n) × (n < length (now offsets)) ⌝ }
     requires { ⌜ Passes (λ c. columnFault false (layout column) n c (now part)) ⌝ }
     requires { ⌜ Roomy column n (now part) from to (length (now rows)) (now offsets) ⌝ }
+    requires { ⌜ (full ≡ true → AllValid (now part) from to) ⌝ }
     ensures { λ _. ⌜ WroteEach (slotField column n (now (part .entry))) from to (now (rows .entry)) (now (offsets .entry))
         (now (rows .exit)) (now (offsets .exit)) ⌝ }
 {
     let valid = bits::packed(n);
     let values = &part[valid..];
-    let full = all_valid(part, from, to);
     let mut r = from;
     while r < to {
         let at = offsets[r + 1] as usize;

@@ -1,22 +1,24 @@
 // Columns that are written word by word, in one loop: width and coding, constants at each call, are decided outside of it.
 ghost use mathlib.Core.Path.{_≡_};
+ghost use mathlib.Core.Bool.{true};
 ghost use lib.ListN.{length};
 ghost use Rattle.format.specs.Fold.{folds};
-ghost use Rattle.fixed_decoder.specs.Worded.{Worded, worded};
+ghost use Rattle.fixed_decoder.specs.Worded.{worded};
 ghost use Rattle.chunk_writer.specs.Cursors.{WroteEach};
-ghost use Rattle.word_writer.specs.Words.{wideField};
+ghost use Rattle.word_writer.specs.Words.{Slotted, wideField};
 ghost use Rattle.chunk_writer.specs.Words.{Ready};
-use crate::valid::all_valid;
+ghost use Rattle.chunk_writer.specs.Valid.{AllValid};
 use crate::valid::has_value;
 use format::Column;
 use number::Coding;
 use word_writer::put_slot;
 
-// Values of so many bytes.
+// Values of so many bytes; `full` says that all rows have one.
 pub fn write_words(
     width: usize,
     coding: Coding,
     fold: bool,
+    full: bool,
     column: Column,
     n: usize,
     part: &[u8],
@@ -25,15 +27,15 @@ pub fn write_words(
     rows: &mut [u8],
     offsets: &mut [u64],
 )
-    requires { ⌜ Worded width ⌝ }
+    requires { ⌜ Slotted coding width ⌝ }
     requires { ⌜ Ready width n from to (now part) (length (now rows)) (now offsets) ⌝ }
     requires { ⌜ fold ≡ folds (worded coding width) (column .options .fold) ⌝ }
+    requires { ⌜ (full ≡ true → AllValid (now part) from to) ⌝ }
     ensures { λ _. ⌜ WroteEach (wideField width (worded coding width) (column .options) n (now (part .entry))) from to (now (rows .entry)) (now (offsets .entry))
         (now (rows .exit)) (now (offsets .exit)) ⌝ }
 {
     let valid = bits::packed(n);
     let values = &part[valid..];
-    let full = all_valid(part, from, to);
     let mut r = from;
     while r < to {
         let at = offsets[r + 1] as usize;

@@ -2,22 +2,24 @@
 -- Assumes nothing.
 use Prim.Native.Nat.{ℕ, _+_, _-_, _<_, _≤_}
 use mathlib.Core.Path.{_≡_, refl, sym, ap, _∙_, subst}
-use mathlib.Core.Bool.{not}
+use mathlib.Core.Bool.{Bool, true, false, cond, not}
 use mathlib.Core.Option.{none, some}
 use mathlib.Core.List.{List, [], _∷_, _++_}
 use native.Mathlib.Omega.{arith}
+use lib.Dec.{eqb}
 use lib.ListN.{length, getD, take, drop, length-append, length-take, length-drop, length-replicate}
 use lib.Seq.{getD-take, getD-drop}
+use borrow.Author.Tests.{eq-eqb, ne-eqb}
 use Rattle.format.specs.declared.SortOptions.{SortOptions}
 use Rattle.format.specs.declared.Column.{Column}
 use Rattle.format.specs.Limits.{maxSlot}
 use Rattle.format.specs.Lists.{Bytes}
 use Rattle.format.specs.Kinds.{Fixed, Shape, fixed, variable, Slot, width, shapeBytes, columnShape}
-use Rattle.format.specs.Field.{directed, field, variableBytes}
+use Rattle.format.specs.Field.{directed, field, nullByte, variableBytes}
 use Rattle.format.specs.Fits.{SlotFits}
 use Rattle.format.specs.Cleared.{valid, fixedSlot, variableSlot}
-use Rattle.format.specs.Read.{Parsed, got, fault, Good, nullLead, slotRead, leftAfter, readField}
-use Rattle.laws.proofs.Fields.{Led, led-variable, not-null, null-led, length-field}
+use Rattle.format.specs.Read.{Parsed, got, fault, Good, slotRead, leftAfter, readField}
+use Rattle.laws.proofs.Fields.{Led, led-variable, length-field}
 use Rattle.laws.proofs.ReadField.{read-field}
 use Rattle.cursors.specs.Cursors.{cursorField, Readable}
 
@@ -39,15 +41,23 @@ opens sh o s b g = go (readField sh o s) refl g
 
 -- ---- the lead byte
 
--- the first byte of a field is a null's exactly when its slot is null
-lead-is : (sh : Shape) (o : SortOptions) (x : Slot) (t : List ℕ) → SlotFits maxSlot sh o x → valid x ≡ not (nullLead o (getD (field sh o x ++ t) 0 0))
-lead-is (fixed k) o none t h = sym (ap not (null-led o h))
-lead-is variable o none t h = sym (ap not (null-led o h))
-lead-is (fixed k) o (some v) t h = sym (ap not (not-null o 1 (omega arith) (omega arith)))
-lead-is variable o (some v) t h =
+-- no byte between 00 and FF is the null byte
+no-null : (o : SortOptions) (b : ℕ) → 0 < b → b < 255 → eqb b (nullByte o) ≡ false
+no-null o b h l = go (o .«nulls_first»)
+  where
+    go : (n : Bool) → eqb b (cond n 0 255) ≡ false
+    go true = ne-eqb b 0 (omega arith)
+    go false = ne-eqb b 255 (omega arith)
+
+-- the first byte of a field is the null byte exactly when its slot is null
+lead-is : (sh : Shape) (o : SortOptions) (x : Slot) (t : List ℕ) → valid x ≡ not (eqb (getD (field sh o x ++ t) 0 0) (nullByte o))
+lead-is (fixed k) o none t = sym (ap not (eq-eqb (nullByte o) (nullByte o) refl))
+lead-is variable o none t = sym (ap not (eq-eqb (nullByte o) (nullByte o) refl))
+lead-is (fixed k) o (some v) t = sym (ap not (no-null o 1 (omega arith) (omega arith)))
+lead-is variable o (some v) t =
     let l : Led (directed (o .descending) (variableBytes v)) = led-variable (o .descending) v in
     sym (ap not (
-    ap (λ (f : List ℕ). nullLead o (getD (f ++ t) 0 0)) (l .splits) ∙ not-null o (l .lead) (l .above) (l .below)
+    ap (λ (f : List ℕ). eqb (getD (f ++ t) 0 0) (nullByte o)) (l .splits) ∙ no-null o (l .lead) (l .above) (l .below)
     ))
 
 -- there is one
@@ -67,14 +77,14 @@ readable-part col rows cursors a m h r l =
     subst (λ (p : ℕ). Good (cursorField col rows p)) (sym (getD-take m (drop a cursors) r 0 (omega arith) ∙ getD-drop a cursors r 0))
     (h (a + r) (omega (arith, length-drop a cursors)))
 
--- a field is null exactly when its lead byte is a null's
+-- a field that can be read is null exactly when its lead byte is the null byte, which opens none of a required column
 pub valid-lead : (sh : Shape) (o : SortOptions) (s : List ℕ) → Bytes s → Good (readField sh o s)
-    → valid (slotRead (readField sh o s)) ≡ not (nullLead o (getD s 0 0))
+    → valid (slotRead (readField sh o s)) ≡ not (eqb (getD s 0 0) (nullByte o))
 valid-lead sh o s b g =
     let t = opens sh o s b g in
     ap (λ (p : Parsed Slot). valid (slotRead p)) (t .reads)
-    ∙ lead-is sh o (t .slot) (t .rest) (t .fits)
-    ∙ ap (λ (z : List ℕ). not (nullLead o (getD z 0 0))) (sym (t .is))
+    ∙ lead-is sh o (t .slot) (t .rest)
+    ∙ ap (λ (z : List ℕ). not (eqb (getD z 0 0) (nullByte o))) (sym (t .is))
 
 -- ---- lengths
 

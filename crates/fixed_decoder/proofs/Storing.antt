@@ -1,20 +1,24 @@
 -- The slot of a field that is decoded word by word: its words, or those of 0. Assumes nothing.
 use Prim.Native.Nat.{ℕ, zero, suc, _+_, _^_, _≤_, _<_}
 use mathlib.Core.Path.{_≡_, refl, sym, ap, ap₂, _∙_, subst}
-use mathlib.Core.Bool.{Bool, true, false, cond}
+use mathlib.Core.Bool.{Bool, true, false, cond, not}
 use mathlib.Core.Logic.{inl, inr}
 use mathlib.Core.List.{List, [], _∷_, _++_}
 use native.Mathlib.Omega.{arith}
+use lib.Dec.{eqb}
 use lib.ListN.{length, getD, take, drop, replicate}
 use lib.Seq.{sets}
+use borrow.Author.Tests.{eqb-true}
 use Rattle.format.specs.declared.SortOptions.{SortOptions}
+use Rattle.format.specs.declared.RowFault.the-variants.{Lead}
 use Rattle.format.specs.Lists.{lowBytes}
 use Rattle.format.specs.Kinds.{Fixed, parts, width}
 use Rattle.format.specs.Key.{partsUnkey, unkey}
 use Rattle.format.specs.Cleared.{fixedSlot}
 use Rattle.format.specs.Field.{directed}
-use Rattle.format.specs.Read.{Good, nullLead, readFixed, slotRead}
+use Rattle.format.specs.Read.{fault, Good, nullLead, readBytes, readFixed, readNull, slotRead}
 use Rattle.basics.proofs.Append.{sets-append, walk-start}
+use Rattle.laws.proofs.Fields.{not-null}
 use Rattle.number.specs.declared.Coding.{Coding}
 use Rattle.number.specs.declared.Coding.the-variants.{Unsigned, Signed, Float}
 use Rattle.number.specs.Codings.{codingUnkey}
@@ -75,11 +79,23 @@ module _ (d : Bool) (row : List ℕ) (inside : 17 ≤ length row) (out : List �
 
 -- ---- what they are of a field
 
+-- where no reader found a fault, what does not begin with 01 is null
+no-one : (k : Fixed) (o : SortOptions) (s : List ℕ) → Good (readFixed k o s) → not (eqb (getD s 0 0) 1) ≡ nullLead o (getD s 0 0)
+no-one k o [] g = absurd g
+no-one k o (x ∷ s) g = go (nullLead o x) (eqb x 1) refl refl g
+  where
+    go : (n b : Bool) → nullLead o x ≡ n → eqb x 1 ≡ b → Good (cond n (readNull (width k) s) (cond b (readBytes k o s) (fault Lead (suc (length s)))))
+        → not b ≡ n
+    go true true e f g = let one = eqb-true x 1 f in sym (not-null o x (omega (arith, one)) (omega (arith, one))) ∙ e
+    go true false e f g = refl
+    go false true e f g = refl
+    go false false e f g = absurd g
+
 -- the value bytes turned back, or zeros
-slot-is : (k : Fixed) (o : SortOptions) (s : List ℕ) → Good (readFixed k o s) → (b : Bool) → b ≡ nullLead o (getD s 0 0)
+slot-is : (k : Fixed) (o : SortOptions) (s : List ℕ) → Good (readFixed k o s) → (b : Bool) → b ≡ not (eqb (getD s 0 0) 1)
     → cond b (replicate (width k) 0) (unkey k (keyIn k o s)) ≡ fixedSlot (width k) (slotRead (readFixed k o s))
-slot-is k o s g true q = sym (ap (fixedSlot (width k)) (stands k o s g .null (sym q) .0))
-slot-is k o s g false q = sym (ap (fixedSlot (width k)) (stands k o s g .value (sym q) .0))
+slot-is k o s g true q = sym (ap (fixedSlot (width k)) (stands k o s g .null (sym (q ∙ no-one k o s g)) .0))
+slot-is k o s g false q = sym (ap (fixedSlot (width k)) (stands k o s g .value (sym (q ∙ no-one k o s g)) .0))
 
 -- a number of w bytes, and its bytes back
 pub coded-width : (c : Coding) (w : ℕ) → width (coded c w) ≡ w
@@ -111,7 +127,7 @@ module _ (c : Coding) (w : ℕ) (o : SortOptions) (s : List ℕ) (g : Good (read
   pub slot-whole : Worded w → 1 + w ≤ length s
   slot-whole h = omega (arith, stands (worded c w) o s g .whole, worded-width c w h)
 
-  module _ (b : Bool) (q : b ≡ nullLead o (getD s 0 0)) (out last : List ℕ) (at : ℕ) where
+  module _ (b : Bool) (q : b ≡ not (eqb (getD s 0 0) 1)) (out last : List ℕ) (at : ℕ) where
     abbrev Took : Type 0
     Took = last ≡ sets out at (fixedSlot w (slotRead (readFixed (worded c w) o s)))
 

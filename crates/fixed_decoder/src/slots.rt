@@ -13,7 +13,6 @@ ghost use Rattle.format.specs.Read.{Good, readFixed, slotRead};
 ghost use Rattle.number.specs.Codings.{codingUnkey};
 ghost use Rattle.number_reader.specs.Words.{WordWidth};
 ghost use Rattle.fixed_decoder.specs.Worded.{Worded, worded};
-use column_facts::null_lead;
 use format::SortOptions;
 use number::Coding;
 use number_reader::number_at;
@@ -68,7 +67,7 @@ pub fn slot(
         (fixedSlot width (slotRead (readFixed (worded coding width) options (now (row .entry))))) ⌝ }
 {
     let descending = options.descending;
-    let null = null_lead(row[0], options);
+    let null = row[0] != 1;
     if width == 16 {
         put_interval(out, at, row, descending, null);
         return;

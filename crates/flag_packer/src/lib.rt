@@ -11,7 +11,7 @@ ghost use Rattle.format.specs.Read.{Good, readField, slotRead};
 ghost use Rattle.cursors.specs.Cursors.{Readable};
 ghost use Rattle.flag_packer.specs.Flags.{Flagged, flagOf, flagAt, flagsAt};
 use bits::put_bit;
-use column_facts::null_lead;
+use column_facts::null_sentinel;
 use fixed_decoder::decode_boolean;
 use format::Column;
 
@@ -29,7 +29,7 @@ fn read_flag(row: &[u8], column: Column, which: Flag) -> bool
 {
     let options = column.options;
     match which {
-        Flag::Valid => !null_lead(row[0], options),
+        Flag::Valid => row[0] != null_sentinel(options),
         Flag::True => decode_boolean(row, options),
     }
 }

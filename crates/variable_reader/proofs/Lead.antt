@@ -130,12 +130,6 @@ pub good-lead : (o : SortOptions) (row : List ℕ) → Good (readVariable maxSlo
 good-lead o [] g = absurd g
 good-lead o (b ∷ row) g = omega arith
 
--- a law for each lead byte
-pub copies-null : (o : SortOptions) (row out : List ℕ) (at : ℕ) → 0 < length row → nullLead o (getD row 0 0) ≡ true
-    → Copies row out at (readVariable maxSlot o row) 1 0 out
-copies-null o row out at h e =
-    subst (λ (m : Parsed Slot). Copies row out at m 1 0 out) (sym (lead-null o row h e)) (lead-only row h, (refl, refl))
-
 -- what is known of blocks that are read without fault, where m is what is read of the field
 abbrev Slotted : Parsed (List ℕ) → Parsed Slot → Type 0
 Slotted b m = Good b × (valueOf b ≡ variableSlot (slotRead m)) × (length (restOf b) ≡ length (leftAfter m))
@@ -145,27 +139,32 @@ slot-good : (d : Bool) (b : Parsed (List ℕ)) → Good (valueSlot d b) → Slot
 slot-good d (got v r) g = (tt, refl, sym (length-directed d r))
 slot-good d (fault f l) g = absurd g
 
-module _ (o : SortOptions) (row : List ℕ) (some-lead : 0 < length row) (no-null : nullLead o (getD row 0 0) ≡ false) where
+module _ (o : SortOptions) (row : List ℕ) (good : Good (readVariable maxSlot o row)) where
   abbrev lead-of : ℕ
   lead-of = getD (directed (o .descending) row) 0 0
 
-  pub copies-empty : (out : List ℕ) (at : ℕ) → lead-of ≡ 1 → Copies row out at (readVariable maxSlot o row) 1 0 out
-  copies-empty out at e =
-      subst (λ (m : Parsed Slot). Copies row out at m 1 0 out) (sym (lead-empty o row some-lead no-null e))
-      (lead-only-turned (o .descending) row some-lead, (refl, refl))
+  some-lead : 0 < length row
+  some-lead = good-lead o row good
 
-  module _ (good : Good (readVariable maxSlot o row)) (some-data : lead-of ≡ 1 → ⊥) where
+  -- any lead byte but 02 is that of a null or of an empty value
+  pub copies-none : (out : List ℕ) (at : ℕ) → (lead-of ≡ 2 → ⊥) → Copies row out at (readVariable maxSlot o row) 1 0 out
+  copies-none out at m = go (nullLead o (getD row 0 0)) (eqb lead-of 1) refl refl
+    where
+      none-of : (p : Parsed Slot) → readVariable maxSlot o row ≡ p → Copies row out at p 1 0 out → Copies row out at (readVariable maxSlot o row) 1 0 out
+      none-of p e = subst (λ (m : Parsed Slot). Copies row out at m 1 0 out) (sym e)
+
+      go : (n b : Bool) → nullLead o (getD row 0 0) ≡ n → eqb lead-of 1 ≡ b → Copies row out at (readVariable maxSlot o row) 1 0 out
+      go true b e f = none-of _ (lead-null o row some-lead e) (lead-only row some-lead, (refl, refl))
+      go false true e f = none-of _ (lead-empty o row some-lead e (eqb-true _ 1 f)) (lead-only-turned (o .descending) row some-lead, (refl, refl))
+      go false false e f = absurd (subst Good (lead-other o row some-lead e (eqb-false _ 1 f) m) good)
+
+  module _ (two : lead-of ≡ 2) where
     -- the blocks after the lead byte
     abbrev read : Parsed (List ℕ)
     read = blocksRead (o .descending) row
 
-    -- the lead byte can only be 02
     blocks : readVariable maxSlot o row ≡ valueSlot (o .descending) read
-    blocks = go (eqb lead-of 2) refl
-      where
-        go : (b : Bool) → eqb lead-of 2 ≡ b → readVariable maxSlot o row ≡ valueSlot (o .descending) read
-        go true e = lead-blocks o row some-lead no-null (eqb-true _ 2 e)
-        go false e = absurd (subst Good (lead-other o row some-lead no-null some-data (eqb-false _ 2 e)) good)
+    blocks = lead-blocks o row some-lead (value-lead o row some-lead two) two
 
     -- blocks follow, read without fault
     led-slot : Slotted read (readVariable maxSlot o row)

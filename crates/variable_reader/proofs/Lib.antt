@@ -4,3 +4,4 @@ pub mod Reading
 pub mod Counting
 pub mod Lead
 pub mod Taking
+pub mod Twice

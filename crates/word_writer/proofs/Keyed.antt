@@ -4,6 +4,7 @@ use Prim.Native.Nat.{ℕ, zero, suc, _+_, _-_, _*_, _≤_, _<_, _^_}
 use mathlib.Core.Path.{_≡_, refl, sym, ap, ap₂, _∙_, subst}
 use mathlib.Core.Bool.{Bool, true, false, cond}
 use mathlib.Core.List.{List, [], _∷_, _++_}
+use mathlib.Core.Logic.{inl, inr}
 use native.Mathlib.Omega.{arith}
 use borrow.Author.Tests.{ne-eqb}
 use lib.ListN.{length, getD, set, take, drop, replicate, length-drop, length-replicate}
@@ -27,9 +28,10 @@ use Rattle.number.specs.Codings.{codingKey}
 use Rattle.number.proofs.Words.{read-back}
 use Rattle.part_writer.proofs.Parts.{keyed, part, part-place, parts-more, parts-end}
 use Rattle.number_writer.proofs.Writing.{lead-run, wrote-as}
-use Rattle.fixed_decoder.specs.Worded.{Worded, coded, worded}
-use Rattle.fixed_decoder.proofs.Storing.{worded-width}
-use Rattle.word_writer.specs.Words.{keyBytes, wordField, wideField}
+use Rattle.number_reader.specs.Words.{WordWidth}
+use Rattle.fixed_decoder.specs.Worded.{coded, worded}
+use Rattle.fixed_decoder.proofs.Storing.{coded-width, word-left, worded-width}
+use Rattle.word_writer.specs.Words.{Slotted, keyBytes, wordField, wideField}
 
 -- ---- one of two, by a test
 
@@ -99,6 +101,25 @@ module _ (d : Bool) (s : List ℕ) (from : ℕ) (inside : from + 16 ≤ length s
 
 -- ---- the field
 
+-- a number of 8 bits is no float
+pub slot-byte : (c : Coding) (w : ℕ) → Slotted c w → w ≡ 1 → c ≡ Float → ⊥
+slot-byte c w (inl h) q = h .1
+slot-byte c w (inr (inl e)) q = omega (arith, e, q)
+slot-byte c w (inr (inr (inl e))) q = omega (arith, e, q)
+slot-byte c w (inr (inr (inr (inl e)))) q = omega (arith, e, q)
+slot-byte c w (inr (inr (inr (inr e)))) q = omega (arith, e, q)
+
+-- and words are left
+pub slot-word : (c : Coding) (w : ℕ) → Slotted c w → (w ≡ 16 → ⊥) → (w ≡ 1 → ⊥) → WordWidth w
+slot-word c w (inl h) n m = absurd (m (h .0))
+slot-word c w (inr h) n m = word-left w h n
+
+-- only floats fold
+unfolded : (c : Coding) (w : ℕ) (b : Bool) → (c ≡ Float → ⊥) → false ≡ folds (coded c w) b
+unfolded Unsigned w b n = refl
+unfolded Signed w b n = refl
+unfolded Float w b n = absurd (n refl)
+
 -- a number that is no interval
 as-coded : (c : Coding) (w : ℕ) → (w ≡ 16 → ⊥) → worded c w ≡ coded c w
 as-coded c w n = ap (λ (b : Bool). cond b (parts (4 ∷ 4 ∷ 8 ∷ [])) (coded c w)) (ne-eqb w 16 n)
@@ -135,7 +156,7 @@ module _ (k : Fixed) (o : SortOptions) (v : List ℕ) (l : length v ≡ width k)
       let zeros : List ℕ = replicate (width k) 0 in
       wrote-as (lead-run rows at a zeros (set rows at a) last next refl g (omega (arith, length-replicate {A = ℕ} (width k) 0))) (ap (λ (b : ℕ). b ∷ zeros) h)
 
-module _ (c : Coding) (w : ℕ) (h : Worded w) (o : SortOptions) (s : List ℕ) (from : ℕ) (inside : from + w ≤ length s)
+module _ (c : Coding) (w : ℕ) (o : SortOptions) (s : List ℕ) (from : ℕ) (inside : from + w ≤ length s)
     (valid : Bool) (a : ℕ) (lead : a ≡ cond valid 1 (nullByte o)) (rows last : List ℕ) (at : ℕ) where
   abbrev value : List ℕ
   value = take w (drop from s)
@@ -143,10 +164,9 @@ module _ (c : Coding) (w : ℕ) (h : Worded w) (o : SortOptions) (s : List ℕ) 
   abbrev Slot-wrote : ℕ → Type 0
   Slot-wrote next = Wrote (wordField (worded c w) o valid value) at rows last next
 
-  stored : (next : ℕ) (x : List ℕ) → x ≡ valueBytes (worded c w) o value → last ≡ sets (set rows at a) (at + 1) (cond valid x (replicate w 0))
-      → next ≡ at + (1 + w) → Slot-wrote next
-  stored next x e g q =
-      let wide = worded-width c w h in
+  stored : (next : ℕ) (x : List ℕ) → width (worded c w) ≡ w → x ≡ valueBytes (worded c w) o value
+      → last ≡ sets (set rows at a) (at + 1) (cond valid x (replicate w 0)) → next ≡ at + (1 + w) → Slot-wrote next
+  stored next x wide e g q =
       slot-wrote (worded c w) o value (length-take-le w (drop from s) (omega (arith, length-drop from s)) ∙ sym wide) valid a rows last at next lead
       (g ∙ ap (sets (set rows at a) (at + 1)) (ap₂ {C = List ℕ} (λ (x : List ℕ) (n : ℕ). cond valid x (replicate n 0)) e (sym wide)))
       (omega (arith, wide))
@@ -155,14 +175,23 @@ module _ (c : Coding) (w : ℕ) (h : Worded w) (o : SortOptions) (s : List ℕ) 
       → last ≡ sets (set rows at a) (at + 1) (cond valid (keyBytes c w fold (o .descending) value) (replicate w 0)) → Slot-wrote (at + 1 + w)
   word-slot fold e n g =
       let is = as-coded c w n in
-      stored (at + 1 + w) (keyBytes c w fold (o .descending) value)
+      stored (at + 1 + w) (keyBytes c w fold (o .descending) value) (ap width is ∙ coded-width c w)
       (coded-bytes c w fold (o .fold) (o .descending) value (e ∙ ap (λ (k : Fixed). folds k (o .fold)) is)
       ∙ ap (λ (k : Fixed). valueBytes k o value) (sym is)) g (omega arith)
+
+  pub byte-slot : w ≡ 1 → (c ≡ Float → ⊥)
+      → last ≡ sets (set rows at a) (at + 1) (cond valid (keyBytes c 1 false (o .descending) (take 1 (drop from s))) (replicate 1 0)) → Slot-wrote (at + 2)
+  byte-slot e n g =
+      let other : w ≡ 16 → ⊥ = λ q. omega (arith, e, q) in
+      subst Slot-wrote {x = at + 1 + w} {y = at + 2} (omega (arith, e))
+      (word-slot false (unfolded c w (o .fold) n ∙ ap (λ (k : Fixed). folds k (o .fold)) (sym (as-coded c w other))) other
+      (subst (λ (n : ℕ). last ≡ sets (set rows at a) (at + 1) (cond valid (keyBytes c n false (o .descending) (take n (drop from s))) (replicate n 0)))
+      (sym e) g))
 
   pub interval-slot : w ≡ 16
       → last ≡ sets (set rows at a) (at + 1) (cond valid (keyed (o .descending) s (4 ∷ 4 ∷ 8 ∷ []) 16 from) (replicate 16 0)) → Slot-wrote (at + 17)
   interval-slot e g =
-      stored (at + 17) (keyed (o .descending) s (4 ∷ 4 ∷ 8 ∷ []) w from) (ap (λ (n : ℕ). valueBytes (worded c n) o value) (sym e))
+      stored (at + 17) (keyed (o .descending) s (4 ∷ 4 ∷ 8 ∷ []) w from) (worded-width c w (inl e)) (ap (λ (n : ℕ). valueBytes (worded c n) o value) (sym e))
       (subst (λ (n : ℕ). last ≡ sets (set rows at a) (at + 1) (cond valid (keyed (o .descending) s (4 ∷ 4 ∷ 8 ∷ []) n from) (replicate n 0))) (sym e) g)
       (omega (arith, e))
 

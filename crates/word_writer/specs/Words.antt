@@ -1,5 +1,7 @@
 -- The fields of fixed values that stand as whole bytes.
 use Prim.Native.Nat.{ℕ}
+use mathlib.Core.Path.{_≡_}
+use mathlib.Core.Logic.{_⊎_}
 use mathlib.Core.Bool.{Bool, cond}
 use mathlib.Core.List.{List}
 use Rattle.format.specs.declared.SortOptions.{SortOptions}
@@ -9,7 +11,13 @@ use Rattle.format.specs.Fold.{foldedBits, foldedSlot}
 use Rattle.format.specs.Field.{directed, field}
 use Rattle.format.specs.Sheet.{wide, slotAt, slotIf}
 use Rattle.number.specs.declared.Coding.{Coding}
+use Rattle.number.specs.declared.Coding.the-variants.{Float}
 use Rattle.number.specs.Codings.{codingKey}
+use Rattle.fixed_decoder.specs.Worded.{Worded}
+
+-- those of w bytes, by their coding: numbers of 8 bits, which are no floats, and those that are decoded word by word
+abbrev pub Slotted : Coding → ℕ → Type 0
+Slotted c w = ((w ≡ 1) × (c ≡ Float → ⊥)) ⊎ Worded w
 
 -- the value bytes of a number v of w bytes, folded or not
 abbrev pub keyBytes : Coding → ℕ → Bool → Bool → List ℕ → List ℕ

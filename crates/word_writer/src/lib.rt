@@ -1,7 +1,7 @@
-// The field of a slot that is written word by word: numbers of 16, 32 and 64 bits, and months, days and nanoseconds. Which byte leads it, and
-// whether its value or zeros follow, is no branch, since a row's nulls cannot be foretold.
+// The field of a slot that is written word by word: numbers of 8, 16, 32 and 64 bits, and months, days and nanoseconds. Which byte leads it,
+// and whether its value or zeros follow, is no branch, since a row's nulls cannot be foretold.
 ghost use mathlib.Core.Path.{_≡_};
-ghost use mathlib.Core.Bool.{cond};
+ghost use mathlib.Core.Bool.{false, cond};
 ghost use mathlib.Core.List.{[], _∷_};
 ghost use Prim.Native.Nat.{_+_, _*_, _^_, _<_, _≤_};
 ghost use lib.ListN.{length, take, drop, replicate};
@@ -11,15 +11,18 @@ ghost use Rattle.format.specs.Key.{partsKey};
 ghost use Rattle.format.specs.Fold.{folds};
 ghost use Rattle.format.specs.Field.{directed, nullByte};
 ghost use Rattle.basics.specs.Wrote.{Wrote};
+ghost use Rattle.number.specs.declared.Coding.the-variants.{Float};
 ghost use Rattle.number_reader.specs.Words.{WordWidth};
-ghost use Rattle.fixed_decoder.specs.Worded.{Worded, worded};
-ghost use Rattle.word_writer.specs.Words.{keyBytes, wordField};
+ghost use Rattle.fixed_decoder.specs.Worded.{worded};
+ghost use Rattle.word_writer.specs.Words.{Slotted, keyBytes, wordField};
 use column_facts::null_sentinel;
 use format::SortOptions;
 use number::Coding;
+use number::directed8;
 use number::directed16;
 use number::directed32;
 use number::directed64;
+use number::encode8;
 use number::encode16;
 use number::encode32;
 use number::encode64;
@@ -90,6 +93,26 @@ fn put_word(
     put_number(rows, at, width, if valid { word } else { 0 });
 }
 
+// The value byte of a number of 8 bits, or 0.
+fn put_byte(
+    rows: &mut [u8],
+    at: usize,
+    values: &[u8],
+    from: usize,
+    coding: Coding,
+    descending: bool,
+    valid: bool,
+)
+    requires { ⌜ (coding ≡ Float → ⊥) ⌝ }
+    requires { ⌜ from + 1 ≤ length (now values) ⌝ }
+    requires { ⌜ at + 1 ≤ length (now rows) ⌝ }
+    ensures { λ _. ⌜ now (rows .exit) ≡ sets (now (rows .entry)) at
+        (cond valid (keyBytes coding 1 false descending (take 1 (drop from (now (values .entry))))) (replicate 1 0)) ⌝ }
+{
+    let byte = directed8(descending, encode8(coding, values[from]));
+    rows[at] = if valid { byte } else { 0 };
+}
+
 // Those of months, days and nanoseconds, or zeros.
 fn put_interval(
     rows: &mut [u8],
@@ -142,7 +165,7 @@ pub fn put_slot(
     rows: &mut [u8],
     at: usize,
 ) -> usize
-    requires { ⌜ Worded width ⌝ }
+    requires { ⌜ Slotted coding width ⌝ }
     requires { ⌜ r * width + width ≤ length (now values) ⌝ }
     requires { ⌜ at + (1 + width) ≤ length (now rows) ⌝ }
     requires { ⌜ fold ≡ folds (worded coding width) (options .fold) ⌝ }
@@ -155,6 +178,10 @@ pub fn put_slot(
     if width == 16 {
         put_interval(rows, at + 1, values, from, descending, valid);
         return at + 17;
+    }
+    if width == 1 {
+        put_byte(rows, at + 1, values, from, coding, descending, valid);
+        return at + 2;
     }
     put_word(
         rows,

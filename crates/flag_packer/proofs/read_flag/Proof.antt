@@ -1,8 +1,11 @@
 -- `flag_packer::read_flag` meets its contract: the lead byte tells validity, and a column of bools is read as one.
 -- Assumes nothing.
+use Prim.Native.Nat.{ℕ}
 use borrow.Author.Needs.{needs}
 use mathlib.Core.Path.{ap, _∙_}
 use mathlib.Core.Bool.{not}
+use lib.Dec.{eqb}
+use lib.ListN.{getD}
 use Rattle.format.specs.Kinds.{columnShape}
 use Rattle.basics.proofs.Bytes.{bytes-of}
 use Rattle.cursors.proofs.Lead.{lead-there}
@@ -13,14 +16,14 @@ use Rattle.flag_packer.proofs.read_flag.Tie as tie
 enum-told : tie.Need-enum-told
 enum-told c = search needs
 
-shared-slice-read-null-lead : tie.Need-shared-slice-read-null-lead
-shared-slice-read-null-lead c =
+shared-slice-read-result : tie.Need-shared-slice-read-result
+shared-slice-read-result c =
     let s = c .before .before .before .before .before in
     let a = s .args in
     lead-there (columnShape (a .column)) (a .column .options) (a .row .now) (s .pre .0)
 
-null-lead-requires : tie.Need-null-lead-requires
-null-lead-requires c κs = search needs
+null-sentinel-requires : tie.Need-null-sentinel-requires
+null-sentinel-requires c κs = search needs
 
 enum-told-2 : tie.Need-enum-told-2
 enum-told-2 c = search needs
@@ -35,7 +38,7 @@ returns c =
     let s = c .before .before .before .before .before .before in
     let a = s .args in
     let bytes = bytes-of (a .row .now) (λ i. c .before .shared-slice-known2 .given i .fits) in
-    ap not (c .null-lead .ensures)
+    ap (λ (n : ℕ). not (eqb (getD (a .row .now) 0 0) n)) (c .null-sentinel .ensures)
     ∙ valid-flag (a .which) (a .column) (a .row .now) (s .pre .0) bytes (c .before .before .enum-told .given .1)
 
 returns-2 : tie.Need-returns-2
@@ -48,8 +51,8 @@ read-flag-spec =
     tie.close
     (tie.spec
     enum-told
-    shared-slice-read-null-lead
-    null-lead-requires
+    shared-slice-read-result
+    null-sentinel-requires
     enum-told-2
     decode-boolean-requires
     returns

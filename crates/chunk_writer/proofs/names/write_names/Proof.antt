@@ -15,14 +15,14 @@ use Rattle.chunk_writer.proofs.names.write_names.Statement.{statement}
 use Rattle.chunk_writer.proofs.names.write_names.Tie as tie
 
 abbrev Inv-loop : tie.InvT-loop
-Inv-loop column n part from to rows₀ offsets₀ valid values full r₀ rows offsets r = Placing (slotField column n part) from to rows₀ offsets₀ rows offsets r
+Inv-loop full column n part from to rows₀ offsets₀ valid values r₀ rows offsets r = Placing (slotField column n part) from to rows₀ offsets₀ rows offsets r
 
 abbrev μ-loop : tie.MeasureT-loop
-μ-loop column n part from to rows₀ offsets₀ valid values full r₀ rows offsets r = to - r
+μ-loop full column n part from to rows₀ offsets₀ valid values r₀ rows offsets r = to - r
 
 -- where the loop turns: what was known at the entry
 abbrev entry : tie.At-loop Inv-loop μ-loop → tie.Start Inv-loop μ-loop
-entry l = l .before .before .before .before .before .before .before
+entry l = l .before .before .before .before .before .before
 
 -- the validity bytes are there
 bits-there : (s : tie.Start Inv-loop μ-loop) → packed (s .args .n) ≤ length (s .args .part .now)
@@ -34,13 +34,13 @@ there c = omega (arith, c .packed .ensures .0, bits-there (c .before .before .be
 has-value-requires : tie.Need-has-value-requires Inv-loop μ-loop
 has-value-requires c κs =
     let l = c .before .before in
-    (omega (arith, bits-there (entry l)), λ e. l .before .all-valid .ensures e (l .loop .r) (l .loop .inv .low) (omega arith))
+    (omega (arith, bits-there (entry l)), λ e. entry l .pre .1 .1 .1 .1 e (l .loop .r) (l .loop .inv .low) (omega arith))
 
 put-name-requires : tie.Need-put-name-requires Inv-loop μ-loop
 put-name-requires c κs =
     let at-bit = c .before in
     let l = at-bit .before .before .before in
-    let p = l .before .before .before .packed in
+    let p = l .before .before .packed in
     let s = entry l in
     let A = s .args in
     let r = l .loop .r in (
@@ -49,7 +49,7 @@ put-name-requires c κs =
         rw (p .ensures .0, part-rest (A .part .now) (packed (A .n)))
             (variable-asked {kind = A .column .kind} (A .n) r _ (omega arith) (values-pass (layout (A .column)) (A .n) (A .part .now) (s .pre .1 .1 .0)) (s .pre .0)),
         name-room (A .column) (s .pre .0) (A .n) (A .part .now) r _ _ (at-bit .has-value .ensures) (p .ensures .0) _ _
-            (placing-room (l .loop .inv) _ (s .pre .1 .1 .1) (omega arith)),
+            (placing-room (l .loop .inv) _ (s .pre .1 .1 .1 .0) (omega arith)),
       ),
     )
 
@@ -60,7 +60,7 @@ loop-again c =
     let A = s .args in
     placing-more (l .loop .inv) (omega arith) (omega (arith, l .loop .inv .moved .same)) _ _
     (name-wrote (A .column) (s .pre .0) (A .n) (A .part .now) (l .loop .r) _ _
-    (c .before .before .before .before .has-value .ensures) (l .before .before .before .packed .ensures .0) (c .before .before .put-name .ensures))
+    (c .before .before .before .before .has-value .ensures) (l .before .before .packed .ensures .0) (c .before .before .put-name .ensures))
 
 pub write-names-spec : {M : Type 1} → statement M
 write-names-spec =
@@ -72,7 +72,6 @@ write-names-spec =
     there
     (λ c. omega (arith, there c))
     (λ c. search needs)
-    (λ c κs. let s = c .before .before .before .before .before in (s .pre .1 .0 .1, omega (arith, bits-there s)))
     (λ c. placing-start _ _ _ _ _ (omega arith))
     (λ c. omega arith)
     (λ c. omega arith)

@@ -51,14 +51,14 @@ last c =
     last-room (s .before .loop .inv) (s .block-size .result) (s .block-size .ensures) (c .wide .result) (end-is c) (ended c) (entry (s .before) .pre .1)
 
 -- where they are copied
-abbrev at-copied : tie.After-slice-known2 Inv-loop μ-loop → tie.After-copy-bytes Inv-loop μ-loop
+abbrev at-copied : tie.After-slice-known2 Inv-loop μ-loop → tie.After-copy-last Inv-loop μ-loop
 at-copied c = c .before .before
 
 abbrev wide-of : tie.After-slice-known2 Inv-loop μ-loop → tie.After-wide Inv-loop μ-loop
 wide-of c = at-copied c .before .before
 
 same-length : tie.Need-same-length Inv-loop μ-loop
-same-length c = at-copied c .copy-bytes .kept .0 ∙ size-of (wide-of c) .before .loop .inv .wrote .same
+same-length c = at-copied c .copy-last .kept .0 ∙ size-of (wide-of c) .before .loop .inv .wrote .same
 
 returns : tie.Need-returns Inv-loop μ-loop
 returns c =
@@ -66,7 +66,7 @@ returns c =
     let s = size-of w in
     let q = s .before .loop .inv in (
       last-field q (s .block-size .result) (s .block-size .ensures) (w .wide .result) (end-is w) (ended w),
-      last-value q (s .block-size .result) (s .block-size .ensures) (w .wide .result) (end-is w) (ended w) _ (at-copied c .copy-bytes .ensures),
+      last-value q (s .block-size .result) (s .block-size .ensures) (w .wide .result) (end-is w) (ended w) _ (at-copied c .copy-last .ensures),
     )
 
 -- ---- a full block
