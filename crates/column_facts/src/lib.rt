@@ -44,7 +44,7 @@ pub fn null_sentinel(options: SortOptions) -> u8
     255
 }
 
-// Whether a field with this lead byte is null, which none is in a required column. Every reader asks here.
+// Whether a field with this lead byte is null, which none is in a required column. Every reader that judges a field asks here.
 pub fn null_lead(lead: u8, options: SortOptions) -> bool
     ensures { λ r. ⌜ r ≡ nullLead options lead ⌝ }
 {
