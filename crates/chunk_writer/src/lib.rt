@@ -3,6 +3,6 @@
 mod column;
 mod names;
 mod valid;
-mod words;
+mod numbers;
 
 pub use column::write_column;

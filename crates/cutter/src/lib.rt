@@ -11,14 +11,14 @@ mod entry;
 pub use entry::{cut, cut_counted, finish, start_listed};
 
 // What a start or a call answers, and the state that it leaves.
-#[derive(Drop)]
+#[derive(Clone, Copy)]
 pub struct Cutting {
     pub state: Cutter,
     pub answer: Answer,
 }
 
 // What a call leaves of the state: all of it, its columns with other numbers, or a refusal.
-#[derive(Drop)]
+#[derive(Clone, Copy)]
 pub enum Left {
     Same,
     Moved(Place),
@@ -26,7 +26,7 @@ pub enum Left {
 }
 
 // The same without the columns, which stay where they are, and how many ends are in the list.
-#[derive(Drop)]
+#[derive(Clone, Copy)]
 pub struct Counted {
     pub answer: Answer,
     pub left: Left,

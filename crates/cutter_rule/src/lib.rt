@@ -5,7 +5,7 @@ pub use rule::keeps;
 
 // Of the columns, if they are such as a list may have: the fewest and the most bytes of their fields together, of those before the one
 // that is being read, and of all.
-#[derive(Drop)]
+#[derive(Clone, Copy)]
 pub struct Sums {
     pub kept: bool,
     pub low: u64,

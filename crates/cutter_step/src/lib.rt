@@ -4,7 +4,7 @@ use format::{Refusal, Spot};
 pub mod step;
 
 // The numbers of a state: rows ended, bytes of the stream, bytes of the row that is being read, its column, and where in that field.
-#[derive(Drop)]
+#[derive(Clone, Copy)]
 pub struct Place {
     pub rows: u64,
     pub bytes: u64,
@@ -14,7 +14,7 @@ pub struct Place {
 }
 
 // What a byte does: the row goes on, or it ended; or the stream is refused.
-#[derive(Drop)]
+#[derive(Clone, Copy)]
 pub enum Stepped {
     Going(Place),
     Ended(Place),

@@ -6,7 +6,7 @@ pub mod walk;
 
 // What the walk over a piece answers: the refusal that stopped it, where it stands if none did, how many ends are in the list, and how many
 // bytes it read.
-#[derive(Drop)]
+#[derive(Clone, Copy)]
 pub struct Walked {
     pub check: Check,
     pub place: Place,

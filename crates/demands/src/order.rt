@@ -2,7 +2,7 @@
 use format::Refusal;
 
 // What comparing a row of one sheet with a row of another answers: encode's refusal of one of them, no such row, or the order.
-#[derive(Drop)]
+#[derive(Clone, Copy)]
 pub enum Ordered {
     Refused(Refusal),
     NoRow,

@@ -2,7 +2,7 @@
 use format::Answer;
 
 // What two calls answered.
-#[derive(Drop)]
+#[derive(Clone, Copy)]
 pub struct Both {
     pub first: Answer,
     pub second: Answer,

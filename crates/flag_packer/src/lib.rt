@@ -14,7 +14,7 @@ use fixed_decoder::decode_boolean;
 use format::Column;
 
 // Which flag of a slot is meant: that it is valid, or that its bool is set.
-#[derive(Drop)]
+#[derive(Clone, Copy)]
 pub enum Flag {
     Valid,
     True,

@@ -18,7 +18,7 @@ pub const MAX_TOTAL: u64 = 16777216;
 pub const LAST_KIND: u8 = 18;
 
 // What the values of a column are, kinds 1 to 18 in this order; fixed binary carries its width.
-#[derive(Drop)]
+#[derive(Clone, Copy)]
 pub enum Kind {
     Bool,
     I8,
@@ -41,7 +41,7 @@ pub enum Kind {
 }
 
 // Bits 0 to 3 of the options byte; only floats fold.
-#[derive(Drop)]
+#[derive(Clone, Copy)]
 pub struct SortOptions {
     pub descending: bool,
     pub nulls_first: bool,
@@ -49,21 +49,21 @@ pub struct SortOptions {
     pub fold: bool,
 }
 
-#[derive(Drop)]
+#[derive(Clone, Copy)]
 pub struct Column {
     pub kind: Kind,
     pub options: SortOptions,
 }
 
 // The columns of a list: the first `count` of the array.
-#[derive(Drop)]
+#[derive(Clone, Copy)]
 pub struct Schema {
     pub columns: [Column; MAX_COLUMNS],
     pub count: usize,
 }
 
 // What can be wrong in the bytes of a row: refusals 16 to 23, and 28.
-#[derive(Drop)]
+#[derive(Clone, Copy)]
 pub enum RowFault {
     Cut,
     Lead,
@@ -78,7 +78,7 @@ pub enum RowFault {
 
 // The reasons in the order of their numbers, each with what is reported of it; 12 has the rows ended where a stream is cut, and else
 // 0; 16 to 23 and 28 are one case, with row, column and place in the row.
-#[derive(Drop)]
+#[derive(Clone, Copy)]
 pub enum Refusal {
     ListCut(usize),
     UnknownKind(usize),
@@ -107,14 +107,14 @@ pub enum Refusal {
 }
 
 // What a check answers that gives nothing else.
-#[derive(Drop)]
+#[derive(Clone, Copy)]
 pub enum Check {
     Pass,
     Refuse(Refusal),
 }
 
 // What an entry answers: the second and third number of a success, or the refusal.
-#[derive(Drop)]
+#[derive(Clone, Copy)]
 pub enum Answer {
     Done(u64, u64),
     Refused(Refusal),
@@ -123,7 +123,7 @@ pub enum Answer {
 // Where in its field a row cutter stands: before the lead byte; after a fixed null's lead, with the bytes seen and the place in the row
 // of the first that is not zero (0: none yet); after a fixed value's 01, with the bytes seen and, where the column folds, the number
 // that they spell high byte first; in a block, with its number, the bytes of it seen, and a bit for each of those that is not zero.
-#[derive(Drop)]
+#[derive(Clone, Copy)]
 pub enum Spot {
     Start,
     Nulls(usize, u64),
@@ -133,7 +133,7 @@ pub enum Spot {
 
 // A row cutter's state: the columns; the refusal that stands; rows ended, bytes of the stream, bytes of the row that is being read, its
 // column, and where in that field.
-#[derive(Drop)]
+#[derive(Clone, Copy)]
 pub struct Cutter {
     pub schema: Schema,
     pub refusal: Check,
@@ -146,7 +146,7 @@ pub struct Cutter {
 
 // What a field reader answers of the part of the row that is left: a null or a value with the field's length, and how many
 // bytes the value has in the sheet; or the fault, and how many bytes are left from the bad byte on.
-#[derive(Drop)]
+#[derive(Clone, Copy)]
 pub enum FieldRead {
     Null(usize),
     Value(usize, usize),
@@ -154,5 +154,5 @@ pub enum FieldRead {
 }
 
 // The four numbers returned.
-#[derive(Drop)]
+#[derive(Clone, Copy)]
 pub struct Returned(pub u64, pub u64, pub u64, pub u64);

@@ -8,7 +8,7 @@ ghost use Rattle.halves.specs.Turns.{turned as turned·, Turns, Finds};
 use byte_order::{below, least};
 
 // The first row that begins with the key and one past the last; where none does, both are where the key would stand.
-#[derive(Drop)]
+#[derive(Clone, Copy)]
 pub struct Found {
     pub first: usize,
     pub past: usize,

@@ -8,7 +8,7 @@ use checks::column_room;
 use format::{Answer, Check, Column};
 
 // What is to be written and answered: the first of the columns, none on a refusal, and the answer.
-#[derive(Drop)]
+#[derive(Clone, Copy)]
 pub(crate) struct Reading {
     pub(crate) columns: [Column; format::MAX_COLUMNS],
     pub(crate) count: usize,

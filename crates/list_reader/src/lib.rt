@@ -11,7 +11,7 @@ use format::{Check, Column, Refusal, Schema};
 use words::join16;
 
 // What a list says: its first fault, and the columns of one that has none.
-#[derive(Drop)]
+#[derive(Clone, Copy)]
 pub struct Listed {
     pub check: Check,
     pub schema: Schema,

@@ -13,7 +13,7 @@ use sheet_measurer::measure_sheet;
 use sheet_reader::sheet::{Facts, check_sheet};
 
 // What a batch says: its first fault, and of one that has none its columns and their facts, the total and the null total.
-#[derive(Drop)]
+#[derive(Clone, Copy)]
 pub struct Measuring {
     pub check: Check,
     pub schema: Schema,

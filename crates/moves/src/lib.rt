@@ -6,7 +6,7 @@ pub mod lead;
 pub mod nulls;
 
 // The field goes on, it is whole, or a fault shows: which, and the place of the bad byte in the row.
-#[derive(Drop)]
+#[derive(Clone, Copy)]
 pub enum Moved {
     On(Spot),
     Whole,

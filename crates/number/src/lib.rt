@@ -9,7 +9,7 @@ pub use folds::{folded16, folded32, folded64};
 pub use words::{low16, low32, low64, put16, put32, put64};
 
 // How a number stands in a row: high byte first; the same with its top bit flipped; or ranked, and then as signed.
-#[derive(Drop)]
+#[derive(Clone, Copy)]
 pub enum Coding {
     Unsigned,
     Signed,

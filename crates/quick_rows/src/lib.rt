@@ -12,7 +12,7 @@ use format::Schema;
 use plain_fields::{plain_lengths, plain_there, slot_there, whole_there};
 
 // How many rows passed, and the bytes that they add.
-#[derive(Drop)]
+#[derive(Clone, Copy)]
 pub struct Passed {
     pub rows: usize,
     pub bytes: usize,

@@ -10,14 +10,14 @@ use format::{Check, Column, Refusal, Schema};
 use sheet_columns::{check_column, column_bytes, null_rows};
 
 // What is known of a checked column: what it is, and where it stands in the sheet.
-#[derive(Drop)]
+#[derive(Clone, Copy)]
 pub struct Facts {
     pub column: Column,
     pub base: usize,
 }
 
 // What a sheet says: its first fault, and of one that has none the facts of each column and the null total.
-#[derive(Drop)]
+#[derive(Clone, Copy)]
 pub struct Sheeted {
     pub check: Check,
     pub facts: [Facts; format::MAX_COLUMNS],

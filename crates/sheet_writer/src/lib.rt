@@ -7,7 +7,7 @@ mod columns;
 pub use columns::write_sheet;
 
 // The sheet that was written: its bytes, and its null slots.
-#[derive(Drop)]
+#[derive(Clone, Copy)]
 pub struct Written {
     pub bytes: usize,
     pub nulls: u64,

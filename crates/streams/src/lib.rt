@@ -8,7 +8,7 @@ use format::Cutter;
 use station::stream::cut;
 
 // What one call with all of a piece hands out, and what a call with its front and one with the rest of it.
-#[derive(Drop)]
+#[derive(Clone, Copy)]
 pub struct TwoWays {
     pub whole: Cutting,
     pub front: Cutting,

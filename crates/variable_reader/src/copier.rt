@@ -13,7 +13,7 @@ use number::{directed16, directed32, directed64, low16, low32, low64, put16, put
 use runs::{byte_at, copy_words, put_byte, wide};
 
 // How long the field was, and how many bytes were written.
-#[derive(Drop)]
+#[derive(Clone, Copy)]
 pub struct Copied {
     pub field: usize,
     pub value: usize,

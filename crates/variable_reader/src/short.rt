@@ -16,7 +16,7 @@ use runs::{byte_at, wide};
 const MINI_BLOCK_COUNT: usize = BLOCK_SIZE / MINI_BLOCK_SIZE;
 
 // How long the field and its value are. A field of no bytes says nothing.
-#[derive(Drop)]
+#[derive(Clone, Copy)]
 pub struct Short {
     pub field: usize,
     pub value: usize,

@@ -1,4 +1,4 @@
--- `value_mover::words::move_wide` meets its contract: kinds that have words go to their loop, and the others to the loop of bytes. Assumes
+-- `value_mover::numbers::move_wide` meets its contract: kinds that have words go to their loop, and the others to the loop of bytes. Assumes
 -- nothing.
 use borrow.Author.Rules.{rules}
 use Prim.Native.Nat.{ℕ, ◌+◌, ◌≤◌}
@@ -12,8 +12,8 @@ use Rattle.basics.specs.Wrote.{Wrote}
 use Rattle.fixed_decoder.specs.Worded.{Worded}
 use Rattle.cursors.specs.Cursors.{Readable, nexts_at, wides_at}
 use Rattle.value_mover.proofs.WordTurns.{kind_column, left_bytes, named_asked, named_wrote}
-use Rattle.value_mover.proofs.words.move_wide.Statement.{statement}
-use Rattle.value_mover.proofs.words.move_wide.Tie as tie
+use Rattle.value_mover.proofs.numbers.move_wide.Statement.{statement}
+use Rattle.value_mover.proofs.numbers.move_wide.Tie as tie
 
 -- the widths
 two : Worded 2

@@ -1,4 +1,4 @@
--- `chunk_writer::words::write_words` meets its contract: each field is written at its row's cursor. Assumes nothing.
+-- `chunk_writer::numbers::write_words` meets its contract: each field is written at its row's cursor. Assumes nothing.
 use borrow.Author.Rules.{rules}
 use Prim.Native.Nat.{◌+◌, ◌-◌}
 use native.Mathlib.Omega.{arith}
@@ -9,8 +9,8 @@ use Rattle.fixed_decoder.specs.Worded.{worded}
 use Rattle.word_writer.specs.Words.{wide_field}
 use Rattle.word_writer.proofs.Keyed.{word_wide}
 use Rattle.chunk_writer.proofs.Placing.{Placing, placing_start, placing_room, placing_more, placing_end}
-use Rattle.chunk_writer.proofs.words.write_words.Statement.{statement}
-use Rattle.chunk_writer.proofs.words.write_words.Tie as tie
+use Rattle.chunk_writer.proofs.numbers.write_words.Statement.{statement}
+use Rattle.chunk_writer.proofs.numbers.write_words.Tie as tie
 
 abbrev invariant-loop : tie.invariant-loop
 invariant-loop width coding fold full column n part from to rows₀ offsets₀ valid values r₀ rows offsets r =

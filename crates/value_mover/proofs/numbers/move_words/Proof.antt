@@ -1,4 +1,4 @@
--- `value_mover::words::move_words` meets its contract. The invariant: the values of the rows passed are stored, and their cursors
+-- `value_mover::numbers::move_words` meets its contract. The invariant: the values of the rows passed are stored, and their cursors
 -- moved. Assumes nothing.
 use Prim.Native.Nat.{ℕ, ◌+◌, ◌-◌, ◌≤◌}
 use mathlib.Core.Path.{◌≡◌}
@@ -14,8 +14,8 @@ use Rattle.fixed_decoder.specs.Worded.{worded}
 use Rattle.cursors.proofs.Moving.{Moving, move_start, move_end}
 use Rattle.value_mover.specs.WordKinds.{word_column, word_kind}
 use Rattle.value_mover.proofs.WordTurns.{worded_shape, word_good, word_there, word_room, word_more}
-use Rattle.value_mover.proofs.words.move_words.Statement.{statement}
-use Rattle.value_mover.proofs.words.move_words.Tie as tie
+use Rattle.value_mover.proofs.numbers.move_words.Statement.{statement}
+use Rattle.value_mover.proofs.numbers.move_words.Tie as tie
 
 abbrev invariant-loop : tie.invariant-loop
 invariant-loop rows cursors₀ width coding options sheet₀ at place₀ r₀ cursors sheet place r =
