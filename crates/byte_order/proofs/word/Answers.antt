@@ -1,0 +1,12 @@
+-- `byte_order::word` meets its contract: the bytes of what was read, turned round. Assumes nothing.
+use mathlib.Core.Path.{ap, ◌∙◌}
+use mathlib.Core.List.{reverse}
+use Rattle.number.proofs.Words.{read_back}
+use Rattle.byte_order.proofs.word.Goals as goal
+
+pub returns : goal.returns
+returns c =
+    c.encode64.ensures
+    ∙ ap reverse
+    (read_back 8 c.args.s.now c.args.at c.low64.result (λ i. (c.shared_slice_known-1.given i).fits)
+    c.requires c.low64.ensures)

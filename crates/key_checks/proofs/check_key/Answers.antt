@@ -1,0 +1,27 @@
+-- `key_checks::check_key` meets its contract: the key is the one row of the first k columns. Assumes nothing.
+use native.Mathlib.Omega.{arith}
+use Rattle.key_checks.proofs.Checking.{no_columns, past_columns, first_limited, key_lies, key_read}
+use Rattle.key_checks.proofs.check_key.Goals as goal
+
+-- 31: there are none, or too few
+pub returns-then-count-eq0 : goal.returns-then-count-eq0
+returns-then-count-eq0 c =
+    no_columns c.args.schema c.well_formed.0 c.requires _ c.args.key.now c.if-count-eq0.true
+
+pub returns-then-schema-count : goal.returns-then-schema-count
+returns-then-schema-count c =
+    past_columns c.args.schema c.well_formed.0 c.requires _ c.args.key.now (λ e. omega arith) c.if-schema-count.true
+
+pub check_fields-walked-requires : goal.check_fields-walked-requires
+check_fields-walked-requires c =
+    (
+      omega arith,
+      (
+        first_limited c.args.schema c.good.0 c.requires _ c.args.key.now (λ e. omega arith) (omega arith),
+        key_lies c.args.schema c.good.0 c.requires c.args.k c.args.key.now (λ e. omega arith) (omega arith),
+      ),
+    )
+
+pub returns : goal.returns
+returns c =
+    key_read c.args.schema c.good.0 c.requires c.args.k c.args.key.now (λ e. omega arith) (omega arith) _ c.check_fields-walked.ensures

@@ -1,0 +1,8 @@
+-- `lent_bytes::put_answer` meets its contract. Assumes nothing.
+use Rattle.lent_bytes.proofs.NumberBytes.{four_stored}
+use Rattle.lent_bytes.proofs.put_answer.Goals as goal
+
+pub returns : goal.returns
+returns c =
+    four_stored c.numbers-numbers.result _ c.args.lent.now _ _ _ _ c.numbers-numbers.ensures c.requires
+    c.put64.ensures c.put64-2.ensures c.put64-3.ensures c.put64-4.ensures

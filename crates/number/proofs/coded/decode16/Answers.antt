@@ -1,0 +1,15 @@
+-- `number::coded::decode16` meets its contract: the law of each coding. Assumes nothing.
+use mir.Syntax.{w16}
+use Rattle.codecs.proofs.Codecs.{decode_s}
+use Rattle.number.proofs.coded.decode16.Goals as goal
+
+pub returns-in-Unsigned : goal.returns-in-Unsigned
+returns-in-Unsigned c = rw c.in-Unsigned.is c.swap16.ensures
+
+pub returns-in-Signed : goal.returns-in-Signed
+returns-in-Signed c =
+    rw c.in-Signed.is
+    (decode_s w16 c.args.x _ c.decode_i16.result c.decode_i16.type_inv c.decode_i16.ensures c.pattern16.ensures)
+
+pub returns-in-Float : goal.returns-in-Float
+returns-in-Float c = rw c.in-Float.is c.decode_f16.ensures

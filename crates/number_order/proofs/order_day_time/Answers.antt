@@ -1,0 +1,27 @@
+-- `number_order::order_day_time` meets its contract: the days decide, unless they tie. Assumes nothing.
+use Prim.Native.Nat.{ℕ, ◌+◌, ◌*◌, Ordering}
+use mathlib.Core.Path.{refl}
+use mathlib.Core.List.{List, [], ◌∷◌}
+use native.Mathlib.Omega.{arith}
+use Rattle.number_order.proofs.Found.{Found, found_none, found_differs, found_last}
+use Rattle.number_order.proofs.Intervals.{partsFrom, parts_more}
+use Rattle.number_order.proofs.order_day_time.Goals as goal
+
+pub returns-then-days-ne-EQUAL : goal.returns-then-days-ne-EQUAL
+returns-then-days-ne-EQUAL c =
+    record { says = found_differs (((let the_from : (ℕ) → (List ℕ) → Ordering = partsFrom c.args.a.now c.args.b.now 8 (c.args.i * 8) (c.args.j * 8) c.requires.0 c.requires.1 in the_from) 0 (4 ∷ 4 ∷ []))) ((let the_from : (ℕ) → (List ℕ) → Ordering = partsFrom c.args.a.now c.args.b.now 8 (c.args.i * 8) (c.args.j * 8) c.requires.0 c.requires.1 in the_from) 4 (4 ∷ [])) ((let the_days : Found (((let the_from : (ℕ) → (List ℕ) → Ordering = partsFrom c.args.a.now c.args.b.now 8 (c.args.i * 8) (c.args.j * 8) c.requires.0 c.requires.1 in the_from) 0 (4 ∷ 4 ∷ []))) ((let the_from : (ℕ) → (List ℕ) → Ordering = partsFrom c.args.a.now c.args.b.now 8 (c.args.i * 8) (c.args.j * 8) c.requires.0 c.requires.1 in the_from) 4 (4 ∷ [])) c.order32-days.result = let A = c.args in
+    parts_more A.a.now A.b.now 8 (A.i * 8) (A.j * 8) c.requires.0 c.requires.1 0 4 (4 ∷ []) (A.i * 2 * 4) (A.j * 2 * 4)
+    (omega arith) (omega arith) (omega arith) (((let the_from : (ℕ) → (List ℕ) → Ordering = partsFrom c.args.a.now c.args.b.now 8 (c.args.i * 8) (c.args.j * 8) c.requires.0 c.requires.1 in the_from) 0 (4 ∷ 4 ∷ []))) (found_none (((let the_from : (ℕ) → (List ℕ) → Ordering = partsFrom c.args.a.now c.args.b.now 8 (c.args.i * 8) (c.args.j * 8) c.requires.0 c.requires.1 in the_from) 0 (4 ∷ 4 ∷ [])))) refl c.order32-days.ensures in the_days)) c.if-days-ne-EQUAL.true }
+
+pub returns : goal.returns
+returns c =
+    let A = c.args in
+    record {
+      says =
+          found_last (((let the_from : (ℕ) → (List ℕ) → Ordering = partsFrom c.args.a.now c.args.b.now 8 (c.args.i * 8) (c.args.j * 8) c.requires.0 c.requires.1 in the_from) 0 (4 ∷ 4 ∷ []))) ((let the_from : (ℕ) → (List ℕ) → Ordering = partsFrom c.args.a.now c.args.b.now 8 (c.args.i * 8) (c.args.j * 8) c.requires.0 c.requires.1 in the_from) 8 [])
+          (parts_more A.a.now A.b.now 8 (A.i * 8) (A.j * 8) c.requires.0 c.requires.1 4 4 [] ((A.i * 2 + 1) * 4) ((A.j * 2 + 1) * 4)
+          (omega arith) (omega arith) (omega arith) (((let the_from : (ℕ) → (List ℕ) → Ordering = partsFrom c.args.a.now c.args.b.now 8 (c.args.i * 8) (c.args.j * 8) c.requires.0 c.requires.1 in the_from) 0 (4 ∷ 4 ∷ []))) ((let the_days : Found (((let the_from : (ℕ) → (List ℕ) → Ordering = partsFrom c.args.a.now c.args.b.now 8 (c.args.i * 8) (c.args.j * 8) c.requires.0 c.requires.1 in the_from) 0 (4 ∷ 4 ∷ []))) ((let the_from : (ℕ) → (List ℕ) → Ordering = partsFrom c.args.a.now c.args.b.now 8 (c.args.i * 8) (c.args.j * 8) c.requires.0 c.requires.1 in the_from) 4 (4 ∷ [])) c.order32-days.result = let A = c.args in
+    parts_more A.a.now A.b.now 8 (A.i * 8) (A.j * 8) c.requires.0 c.requires.1 0 4 (4 ∷ []) (A.i * 2 * 4) (A.j * 2 * 4)
+    (omega arith) (omega arith) (omega arith) (((let the_from : (ℕ) → (List ℕ) → Ordering = partsFrom c.args.a.now c.args.b.now 8 (c.args.i * 8) (c.args.j * 8) c.requires.0 c.requires.1 in the_from) 0 (4 ∷ 4 ∷ []))) (found_none (((let the_from : (ℕ) → (List ℕ) → Ordering = partsFrom c.args.a.now c.args.b.now 8 (c.args.i * 8) (c.args.j * 8) c.requires.0 c.requires.1 in the_from) 0 (4 ∷ 4 ∷ [])))) refl c.order32-days.ensures in the_days)) c.if-days-ne-EQUAL.false c.order32.ensures)
+          refl;
+    }

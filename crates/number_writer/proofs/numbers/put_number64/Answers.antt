@@ -1,0 +1,10 @@
+-- `number_writer::numbers::put_number64` meets its contract: the word of the key is stored. Assumes nothing.
+use Rattle.number.specs.Codings.{coding_key}
+use Rattle.number_writer.proofs.Writing.{number_wrote}
+use Rattle.number_writer.proofs.numbers.put_number64.Goals as goal
+
+pub returns : goal.returns
+returns c =
+    let A = c.args in
+    number_wrote 8 (coding_key A.coding) A.descending A.values.now A.from (λ i. (c.shared_slice_known-1.given i).fits) c.requires.from_in_bounds
+    _ _ _ A.out.now _ A.at c.low64.ensures c.encode64-word.ensures c.directed64.ensures c.put64.ensures

@@ -1,0 +1,46 @@
+use Prim.Native.Nat.{◌-◌}
+use mathlib.Core.Path.{◌≡◌}
+use native.Mathlib.Omega.{arith}
+use Rattle.format.specs.declared.Check.TheVariants.{Pass}
+use Rattle.format.specs.Entries.{fall_fault}
+use Rattle.offsets.proofs.Falls.{begins, falls, rises, risen, few, late, fell, past, heavy, sound}
+use Rattle.offsets.proofs.check_offsets.Goals as goal
+
+pub returns-then-offsets-n : goal.returns-then-offsets-n
+returns-then-offsets-n c =
+    let A = c.args in
+    few A.n A.rows.now A.offsets.now c.if-offsets-n.true
+
+pub returns-then-offsets-ne0 : goal.returns-then-offsets-ne0
+returns-then-offsets-ne0 c =
+    let A = c.args in
+    late A.n A.rows.now A.offsets.now c.if-offsets-n.false c.if-offsets-ne0.true
+
+pub loop-i-init : goal.loop-i-init
+loop-i-init c = (omega arith, begins _ _)
+
+pub returns-then-offsets-i : goal.returns-then-offsets-i
+returns-then-offsets-i c =
+    let A = c.args in
+    fell A.n A.rows.now A.offsets.now c.if-offsets-n.false c.if-offsets-ne0.false _
+    (falls A.n A.offsets.now _ c.loop-i.invariant.1 c.loop-i-test.true c.if-offsets-i.true)
+
+pub loop-i-preserved : goal.loop-i-preserved
+loop-i-preserved c =
+    let A = c.args in
+    (omega arith, rises A.n A.offsets.now _ c.loop-i.invariant.1 c.loop-i-test.true c.if-offsets-i.false)
+
+pub returns-then-rows-last : goal.returns-then-rows-last
+returns-then-rows-last c =
+    let A = c.args in
+    past A.n A.rows.now A.offsets.now c.if-offsets-n.false c.if-offsets-ne0.false ((let the_rose : let A = c.args in fall_fault A.offsets.now 0 A.n ≡ Pass = let A = c.args in risen A.n A.offsets.now _ c.loop-i.invariant.1 c.loop-i-test.false in the_rose)) c.if-rows-last.true
+
+pub returns-then-last-gt-MAX_TOTAL : goal.returns-then-last-gt-MAX_TOTAL
+returns-then-last-gt-MAX_TOTAL c =
+    let A = c.args in
+    heavy A.n A.rows.now A.offsets.now c.if-offsets-n.false c.if-offsets-ne0.false ((let the_rose : let A = c.args in fall_fault A.offsets.now 0 A.n ≡ Pass = let A = c.args in risen A.n A.offsets.now _ c.loop-i.invariant.1 c.loop-i-test.false in the_rose)) c.if-rows-last.false c.if-last-gt-MAX_TOTAL.true
+
+pub returns : goal.returns
+returns c =
+    let A = c.args in
+    sound A.n A.rows.now A.offsets.now c.if-offsets-n.false c.if-offsets-ne0.false ((let the_rose : let A = c.args in fall_fault A.offsets.now 0 A.n ≡ Pass = let A = c.args in risen A.n A.offsets.now _ c.loop-i.invariant.1 c.loop-i-test.false in the_rose)) c.if-rows-last.false c.if-last-gt-MAX_TOTAL.false

@@ -1,0 +1,19 @@
+-- `part_writer::encode_day_time` meets its contract: the parts are written one after the other. Assumes nothing.
+use Prim.Native.Nat.{◌+◌}
+use mathlib.Core.Path.{refl}
+use mathlib.Core.List.{[], ◌∷◌}
+use native.Mathlib.Omega.{arith}
+use Rattle.basics.proofs.Append.{walk_start, walk_at}
+use Rattle.part_writer.proofs.Parts.{keyed, part_place, parts_more, parts_end}
+use Rattle.part_writer.proofs.encode_day_time.Goals as goal
+
+pub returns : goal.returns
+returns c =
+    let A = c.args in
+    let d = A.descending in
+    let s = A.values.now in
+    let from = A.from in
+    let one = parts_more d s 4 (4 ∷ []) 8 from (from + 4) (omega arith) refl (walk_start (keyed d s (4 ∷ 4 ∷ []) 8 from) A.out.now A.at) c.put_number32.ensures in
+    let both = parts_more d s 4 [] 4 (from + 4) (from + 8) (omega arith) (omega arith)
+    (walk_at (A.at + 4) one (part_place d s 4 from A.at (omega arith) c.put_number32.ensures.place)) c.put_number32-2.ensures in
+    parts_end d s 0 (from + 8) both

@@ -1,0 +1,10 @@
+-- `rows::more_follows` meets its contract: it says that more follows only where the input has all its room. Assumes nothing.
+use native.Mathlib.Omega.{arith}
+use Rattle.rows.proofs.more_follows.Goals as goal
+
+pub returns-then-input-lt-INPUT_ROOM : goal.returns-then-input-lt-INPUT_ROOM
+returns-then-input-lt-INPUT_ROOM c = record { few = c.requires; full = λ e. cc }
+
+pub returns : goal.returns
+returns c =
+    record { few = c.requires; full = λ _. omega arith }

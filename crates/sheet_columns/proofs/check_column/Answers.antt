@@ -1,0 +1,44 @@
+-- `sheet_columns::check_column` meets its contract: the fault of the validity bytes, or else of nulls in a required column, or
+-- else of the values, which stand in the part after the validity bytes. Assumes nothing.
+use Prim.Native.Nat.{ℕ, ◌-◌, ◌≤◌}
+use mathlib.Core.Path.{◌≡◌, sym, ◌∙◌}
+use mathlib.Core.Bool.{Bool}
+use mathlib.Core.List.{List}
+use lib.ListN.{length, take, drop}
+use Rattle.format.specs.declared.Refusal.{Refusal}
+use Rattle.format.specs.declared.Check.{Check}
+use Rattle.format.specs.declared.Check.TheVariants.{Pass, Refuse}
+use Rattle.format.specs.Check.{both}
+use Rattle.format.specs.Sheet.{Layout, layout, packed, bits_fault, required_fault, values_fault, column_fault}
+use Rattle.bits.proofs.Nulls.{bits_passed}
+use Rattle.laws.proofs.Parts.{part_rest}
+use Rattle.sheet_columns.proofs.check_column.Goals as goal
+
+module _ (q : Bool) (ly : Layout) (n c : ℕ) (s : List ℕ) where
+  validity : (r : Refusal) → bits_fault n c s ≡ Refuse r → Refuse r ≡ column_fault q ly n c s
+  validity r e = rw e
+
+  rest : (p : ℕ) (missing values r : Check) → bits_fault n c s ≡ Pass → p ≡ packed n → missing ≡ required_fault q n c s
+      → values ≡ values_fault ly n c (take (length s - p) (drop p s)) → r ≡ both missing values → r ≡ column_fault q ly n c s
+  rest p missing values r e w m v f = f ∙ rw (m, v, part_rest s p, w, e)
+
+pub returns-in-Refuse : goal.returns-in-Refuse
+returns-in-Refuse c =
+    let a = c.args in
+    validity a.column.options.required (layout a.column) a.n a.c a.part.now _
+    (sym c.check_bits-check.ensures ∙ c.in-Refuse.is)
+
+pub check_required-missing-requires : goal.check_required-missing-requires
+check_required-missing-requires c = (let the_there : let a = c.args in packed a.n ≤ length a.part.now = let a = c.args in (bits_passed a.n a.c a.part.now ((let the_passes : let a = c.args in bits_fault a.n a.c a.part.now ≡ Pass = sym c.check_bits-check.ensures ∙ c.in_default.is in the_passes))).0 in the_there)
+
+pub slice_bounds-check_values-count : goal.slice_bounds-check_values-count
+slice_bounds-check_values-count c = room c
+
+pub slice_bounds-check_values-start : goal.slice_bounds-check_values-start
+slice_bounds-check_values-start c = room c
+
+pub returns : goal.returns
+returns c =
+    let a = c.args in
+    rest a.column.options.required (layout a.column) a.n a.c a.part.now _ _ _ _ ((let the_passes : let a = c.args in bits_fault a.n a.c a.part.now ≡ Pass = sym c.check_bits-check.ensures ∙ c.in_default.is in the_passes))
+    c.packed-valid.ensures.0 c.check_required-missing.ensures c.check_values-values.ensures c.first_fault.ensures

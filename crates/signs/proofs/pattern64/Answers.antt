@@ -1,0 +1,19 @@
+-- `signs::pattern64` meets its contract: by the sign. Assumes nothing.
+use mir.Syntax.{w64}
+use Rattle.signs.proofs.Signed.{low_cast, low_is, high_cast, high_below, high_is}
+use Rattle.signs.proofs.pattern64.Goals as goal
+
+pub overflow_cast-result : goal.overflow_cast-result
+overflow_cast-result c = low_cast w64 c.ranges.s c.if-s-ge0.true
+
+pub overflow_cast-result-else-s-ge0 : goal.overflow_cast-result-else-s-ge0
+overflow_cast-result-else-s-ge0 c = high_cast w64 c.ranges.s c.if-s-ge0.false
+
+pub overflow_sub-result : goal.overflow_sub-result
+overflow_sub-result c = high_below w64 c.ranges.s c.if-s-ge0.false
+
+pub returns-then-s-ge0 : goal.returns-then-s-ge0
+returns-then-s-ge0 c = low_is w64 c.ranges.s c.if-s-ge0.true
+
+pub returns-else-s-ge0 : goal.returns-else-s-ge0
+returns-else-s-ge0 c = high_is w64 c.ranges.s c.if-s-ge0.false

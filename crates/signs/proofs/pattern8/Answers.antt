@@ -1,0 +1,19 @@
+-- `signs::pattern8` meets its contract: by the sign. Assumes nothing.
+use mir.Syntax.{w8}
+use Rattle.signs.proofs.Signed.{low_cast, low_is, high_cast, high_below, high_is}
+use Rattle.signs.proofs.pattern8.Goals as goal
+
+pub overflow_cast-result : goal.overflow_cast-result
+overflow_cast-result c = low_cast w8 c.ranges.s c.if-s-ge0.true
+
+pub overflow_cast-result-else-s-ge0 : goal.overflow_cast-result-else-s-ge0
+overflow_cast-result-else-s-ge0 c = high_cast w8 c.ranges.s c.if-s-ge0.false
+
+pub overflow_sub-result : goal.overflow_sub-result
+overflow_sub-result c = high_below w8 c.ranges.s c.if-s-ge0.false
+
+pub returns-then-s-ge0 : goal.returns-then-s-ge0
+returns-then-s-ge0 c = low_is w8 c.ranges.s c.if-s-ge0.true
+
+pub returns-else-s-ge0 : goal.returns-else-s-ge0
+returns-else-s-ge0 c = high_is w8 c.ranges.s c.if-s-ge0.false
