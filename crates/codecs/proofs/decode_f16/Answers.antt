@@ -7,4 +7,4 @@ pub returns : goal.returns
 returns c =
     let first = c.decode_i16 in
     let rank = c.rank16 in
-    decode_f w16 c.args.x _ first.result rank.result first.type-inv rank.type-inv first.ensures rank.ensures c.pattern16.ensures
+    decode_f w16 c.args.x _ first.result rank.result first.type_inv rank.type_inv first.ensures rank.ensures c.pattern16.ensures

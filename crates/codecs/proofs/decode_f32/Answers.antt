@@ -7,4 +7,4 @@ pub returns : goal.returns
 returns c =
     let first = c.decode_i32 in
     let rank = c.rank32 in
-    decode_f w32 c.args.x _ first.result rank.result first.type-inv rank.type-inv first.ensures rank.ensures c.pattern32.ensures
+    decode_f w32 c.args.x _ first.result rank.result first.type_inv rank.type_inv first.ensures rank.ensures c.pattern32.ensures

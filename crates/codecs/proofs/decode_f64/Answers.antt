@@ -7,4 +7,4 @@ pub returns : goal.returns
 returns c =
     let first = c.decode_i64 in
     let rank = c.rank64 in
-    decode_f w64 c.args.x _ first.result rank.result first.type-inv rank.type-inv first.ensures rank.ensures c.pattern64.ensures
+    decode_f w64 c.args.x _ first.result rank.result first.type_inv rank.type_inv first.ensures rank.ensures c.pattern64.ensures
