@@ -59,5 +59,5 @@ returns-in-Variable c =
 pub returns-in_default : goal.returns-in_default
 returns-in_default c =
     let a = c.args in
-    let k = plain_kind a.kind _ a.options.fold c.match.keys6 c.width.ensures in
+    let k = plain_kind a.kind _ a.options.fold (record { no_bool = c.in_default.not-Bool; no_half = c.in_default.not-F16; no_single = c.in_default.not-F32; no_double = c.in_default.not-F64; no_variable = c.in_default.not-Variable }) c.width.ensures in
     c.plain_byte.ensures k.0 a.spelt k.2 ∙ ap (λ (sh : Shape). move sh a.options (Value a.seen a.spelt) a.at a.byte) (sym k.1)
