@@ -1,4 +1,3 @@
--- What the proofs of this crate share: pieces that are written at cursors, columns whose kind is named, and the fields of variable bytes.
+-- What the proofs of this crate share: pieces that are written at cursors, and the fields of variable bytes.
 pub mod Placing
-pub mod Arms
 pub mod NameFields

@@ -1,5 +1,5 @@
 -- A column of variable bytes: its fields, and what its loop needs. Assumes nothing.
-use Prim.Native.Nat.{ℕ, ◌+◌, ◌-◌, ◌≤◌}
+use Prim.Native.Nat.{ℕ, ◌-◌}
 use mathlib.Core.Path.{◌≡◌, refl, sym, ap, ap₂, subst, ◌∙◌}
 use mathlib.Core.Bool.{Bool}
 use mathlib.Core.List.{List}
@@ -8,10 +8,10 @@ use lib.ListN.{length, take, drop}
 use Rattle.format.specs.declared.Kind.{Kind}
 use Rattle.format.specs.declared.Kind.TheVariants.{Variable}
 use Rattle.format.specs.declared.Column.{Column}
-use Rattle.format.specs.Kinds.{variable, Slot, shape, column_shape}
+use Rattle.format.specs.Kinds.{variable, Slot, shape}
 use Rattle.format.specs.Fold.{folded_slot}
-use Rattle.format.specs.Field.{field, field_length}
-use Rattle.format.specs.Sheet.{bit, ended, layout, layout_for, packed, slot_at, slot_if, value_at}
+use Rattle.format.specs.Field.{field}
+use Rattle.format.specs.Sheet.{bit, ended, layout_for, packed, slot_at, slot_if, value_at}
 use Rattle.basics.specs.Wrote.{Wrote}
 use Rattle.laws.proofs.Parts.{part_rest}
 use Rattle.chunk_writer.specs.Cursors.{slot_field}
@@ -23,10 +23,6 @@ module _ (col : Column) (e : col.kind ≡ Variable) (n : ℕ) (s : List ℕ) (r 
 
   same : slot ≡ slot_at ended n s r
   same = ap₂ {C = Slot} (λ (b : Bool) (t : List ℕ). slot_if b (value_at ended n t r)) h (part_rest s p ∙ ap (λ (m : ℕ). drop m s) q)
-
-  -- its field is as long
-  pub name_room : (at room : ℕ) → at + field_length (column_shape col) (slot_at (layout col) n s r) ≤ room → at + field_length variable slot ≤ room
-  name_room at room g = rw same (rw e at g)
 
   -- and is that of the column
   pub name_wrote : {rows last : List ℕ} {at next : ℕ} → Wrote (field variable col.options slot) at rows last next → Wrote (slot_field col n s r) at rows last next

@@ -1,5 +1,5 @@
 -- Pieces written at cursors, one row after the other: what holds at the head of every such loop. Assumes nothing.
-use Prim.Native.Nat.{ℕ, zero, suc, ◌+◌, ◌-◌, ◌<◌, ◌≤◌}
+use Prim.Native.Nat.{ℕ, suc, ◌+◌, ◌-◌, ◌<◌, ◌≤◌}
 use mathlib.Core.Path.{◌≡◌, refl, sym, ap, ◌∙◌}
 use mathlib.Core.List.{List}
 use mathlib.Core.Logic.{◌⊎◌, inl, inr}
@@ -9,16 +9,13 @@ use lib.ListN.{length, get_or, set, length-set}
 use lib.Seq.{sets, length-sets, get_or-set_same, get_or-set_other}
 use Rattle.basics.specs.Wrote.{Wrote}
 use Rattle.basics.proofs.Compare.{choose}
-use Rattle.chunk_writer.specs.Cursors.{cursor, placed, Moved, WroteEach}
+use Rattle.chunk_writer.specs.Cursors.{cursor, placed, Moved}
 
 -- one piece more
 pub placed_step : (place : ℕ → ℕ) (piece : ℕ → List ℕ) (i to : ℕ) (out : List ℕ) → i < to
     → placed place piece i (to - i) out ≡ placed place piece (i + 1) (to - (i + 1)) (sets out (place i) (piece i))
 placed_step place piece i to out h =
     ap (λ (k : ℕ). placed place piece i k out) {x = to - i} {y = suc (to - suc i)} (omega arith) ∙ rw (add-one i)
-
-pub placed_none : (place : ℕ → ℕ) (piece : ℕ → List ℕ) (i to : ℕ) (out : List ℕ) → to ≤ i → placed place piece i (to - i) out ≡ out
-placed_none place piece i to out h = ap (λ (k : ℕ). placed place piece i k out) {x = to - i} {y = 0} (omega arith)
 
 -- no cursor has moved
 pub moved_none : (piece : ℕ → List ℕ) (from : ℕ) (xs : List ℕ) → Moved piece from from xs xs
@@ -58,15 +55,7 @@ pub record Placing (piece : ℕ → List ℕ) (from to : ℕ) (rows₀ xs rows n
   pub says : placed (cursor xs) piece r (to - r) rows ≡ placed (cursor xs) piece from (to - from) rows₀
   pub moved : Moved piece from r xs now
 
-pub placing_start : (piece : ℕ → List ℕ) (from to : ℕ) (rows xs : List ℕ) → from ≤ to → Placing piece from to rows xs rows xs from
-placing_start piece from to rows xs h = record { low = omega arith; high = h; same = refl; says = refl; moved = moved_none piece from xs }
-
 module _ {piece : ℕ → List ℕ} {from to : ℕ} {rows₀ xs rows now : List ℕ} {r : ℕ} (t : Placing piece from to rows₀ xs rows now r) where
-  -- there is room for the next piece
-  pub placing_room : (len : ℕ → ℕ) → ((j : ℕ) → from ≤ j → j < to → cursor xs j + len j ≤ length rows₀) → r < to
-      → get_or now (r + 1) 0 + len r ≤ length rows
-  placing_room len room h = rw (add-one r) (omega (arith, room r t.low h, moved_still t.moved t.low, t.same))
-
   -- it is written
   pub placing_more : r < to → to < length now → (rows' : List ℕ) (v : ℕ) → Wrote (piece r) (get_or now (r + 1) 0) rows rows' v
       → Placing piece from to rows₀ xs rows' (set now (r + 1) v) (r + 1)
@@ -82,8 +71,3 @@ module _ {piece : ℕ → List ℕ} {from to : ℕ} {rows₀ xs rows now : List 
             ∙ sym (placed_step (cursor xs) piece r to rows h) ∙ t.says;
         moved = moved_more t.moved t.low v (omega arith) w.place;
       }
-
-  pub placing_end : to ≤ r → WroteEach piece from to rows₀ xs rows now
-  placing_end h =
-      let e : r ≡ to = omega (arith, t.high) in
-      record { bytes = sym (placed_none (cursor xs) piece r to rows h) ∙ t.says; moved = rw (← e) t.moved }
