@@ -2,17 +2,13 @@
 -- float a width that folds; and the last arm of a match on a kind, which takes those that no arm before it names. Assumes nothing.
 use Prim.Native.Nat.{ℕ, ◌^◌, ◌<◌}
 use mathlib.Core.Path.{◌≡◌, refl, sym, ap, subst, ◌∙◌}
-use mathlib.Core.Bool.{Bool as Truth, true, false, not, true≢false}
-use mathlib.Core.List.{List, [], ◌∷◌, ◌++◌}
+use mathlib.Core.Bool.{Bool as Truth, true, false, true≢false}
+use mathlib.Core.Logic.{◌⊎◌, inl, inr}
+use mathlib.Core.List.{List, [], ◌∷◌}
 use native.Mathlib.Omega.{arith}
-use lib.Dec.{T, lit<}
-use mir.Val.{has_key}
-use types.Run.{OneOf, miss}
-use denote.Enum.Declared.{tag_of}
-use Rattle.format.specs.contracts.Kind.{the_type}
+use lib.Dec.{lit<}
 use Rattle.format.specs.declared.Kind.{Kind}
 use Rattle.format.specs.declared.Kind.TheVariants.{Bool, I8, I16, I32, I64, U8, U16, U32, U64, F16, F32, F64, DayTime, MonthDayNano, FixedBinary, Variable, I128, I256}
-use Rattle.format.specs.Lists.{each}
 use Rattle.format.specs.Kinds.{Fixed, bool, plain, number, integer, float, parts, Shape, fixed, variable, shape, shape_bytes, width, value_bytes}
 use Rattle.format.specs.Value.{half}
 use Rattle.format.specs.Fold.{infinity, one_na_n, folds}
@@ -56,14 +52,10 @@ abbrev pub ShapeFolding : Shape → Type 0
 ShapeFolding (fixed k) = Folding k
 ShapeFolding variable = Unit {0}
 
--- the places of the kinds of one width that never fold, in the order of the table: bool is 0, the floats are 9 to 11, variable bytes 15
-abbrev pub plain_keys : List ℕ
-plain_keys = each 1 8 (λ k. k) ++ each 12 3 (λ k. k) ++ each 16 2 (λ k. k)
-
--- values of a kind never fold, or they are floats, whose kinds stand elsewhere
+-- values of a kind never fold, or they are floats
 data Folds (kind : Kind) (k : Fixed) : Type 0 where
   never : ((b : Truth) → folds k b ≡ false) → Folds kind k
-  floats : Folding k → T (not (has_key plain_keys (tag_of the_type kind))) → Folds kind k
+  floats : Folding k → (kind ≡ F16) ⊎ ((kind ≡ F32) ⊎ (kind ≡ F64)) → Folds kind k
 
 -- a kind is one of the three
 data Sort (kind : Kind) : Type 0 where
@@ -95,9 +87,9 @@ sort U8 = of_width (number 1) refl refl tt (never (λ b. refl))
 sort U16 = of_width (number 2) refl refl tt (never (λ b. refl))
 sort U32 = of_width (number 4) refl refl tt (never (λ b. refl))
 sort U64 = of_width (number 8) refl refl tt (never (λ b. refl))
-sort F16 = of_width (float 2) refl refl (omega arith) (floats (record { above = lit< tt; below = lit< tt; holds = lit< tt }) tt)
-sort F32 = of_width (float 4) refl refl (omega arith) (floats (record { above = lit< tt; below = lit< tt; holds = lit< tt }) tt)
-sort F64 = of_width (float 8) refl refl (omega arith) (floats (record { above = lit< tt; below = lit< tt; holds = lit< tt }) tt)
+sort F16 = of_width (float 2) refl refl (omega arith) (floats (record { above = lit< tt; below = lit< tt; holds = lit< tt }) (inl refl))
+sort F32 = of_width (float 4) refl refl (omega arith) (floats (record { above = lit< tt; below = lit< tt; holds = lit< tt }) (inr (inl refl)))
+sort F64 = of_width (float 8) refl refl (omega arith) (floats (record { above = lit< tt; below = lit< tt; holds = lit< tt }) (inr (inr refl)))
 sort DayTime = of_width (parts (4 ∷ 4 ∷ [])) refl refl (omega arith) (never (λ b. refl))
 sort MonthDayNano = of_width (parts (4 ∷ 4 ∷ 8 ∷ [])) refl refl (omega arith) (never (λ b. refl))
 sort (FixedBinary w) = of_width (plain w) refl refl tt (never (λ b. refl))
@@ -168,58 +160,42 @@ wide_layout {kind} w = rw w.says (go w.k w.other)
     go (float n) o = refl
     go (parts ns) o = refl
 
--- ---- the last arm of a match, by the places of its kinds: bool is 0, and variable bytes are 15
+-- ---- the last arm of a match, by the kinds that have an arm before it
 
--- a kind at one of these places is none that stands elsewhere
-elsewhere : (ks : List ℕ) (k j : Kind) → OneOf ks (tag_of the_type k) → T (not (has_key ks (tag_of the_type j))) → k ≡ j → ⊥
-elsewhere ks k j h t e = miss ks (tag_of the_type j) t (subst (λ (x : Kind). OneOf ks (tag_of the_type x)) e h)
-
--- no bool and no variable bytes
-neither : (kind : Kind) → (kind ≡ Bool → ⊥) → (kind ≡ Variable → ⊥) → WideKind kind
-neither kind b v = go (sort kind)
+-- after the arms of bool and of variable bytes
+pub wide_arm : (kind : Kind) → (kind ≡ Bool → ⊥) → (kind ≡ Variable → ⊥) → WideKind kind
+wide_arm kind b v = go (sort kind)
   where
     go : Sort kind → WideKind kind
     go (bools e) = absurd (b e)
     go (wides w s f) = w
     go (variables e) = absurd (v e)
 
--- the places after that of variable bytes
-abbrev later : List ℕ
-later = each 16 2 (λ k. k)
+-- none of the kinds whose values are read or folded in a way of their own
+pub record PlainArm (kind : Kind) : Type 0 where
+  pub no_bool : kind ≡ Bool → ⊥
+  pub no_half : kind ≡ F16 → ⊥
+  pub no_single : kind ≡ F32 → ⊥
+  pub no_double : kind ≡ F64 → ⊥
+  pub no_variable : kind ≡ Variable → ⊥
 
--- all places but that of variable bytes, all but that of bool, and all but the two
-abbrev pub fixed_keys : List ℕ
-fixed_keys = each 0 15 (λ k. k) ++ later
-
-abbrev other_keys : List ℕ
-other_keys = each 1 17 (λ k. k)
-
-abbrev pub wide_keys : List ℕ
-wide_keys = each 1 14 (λ k. k) ++ later
-
--- after the arms of bool and of variable bytes
-pub wide_arm : (kind : Kind) → OneOf wide_keys (tag_of the_type kind) → WideKind kind
-wide_arm kind h = neither kind (elsewhere wide_keys kind Bool h tt) (elsewhere wide_keys kind Variable h tt)
-
--- after these and the arms of the floats
-pub plain_arm : (kind : Kind) → OneOf plain_keys (tag_of the_type kind) → (w : WideKind kind) × ((b : Truth) → folds w.k b ≡ false)
+-- after their arms
+pub plain_arm : (kind : Kind) → PlainArm kind → (w : WideKind kind) × ((b : Truth) → folds w.k b ≡ false)
 plain_arm kind h = go (sort kind)
   where
     go : Sort kind → (w : WideKind kind) × ((b : Truth) → folds w.k b ≡ false)
-    go (bools e) = absurd (elsewhere plain_keys kind Bool h tt e)
+    go (bools e) = absurd (h.no_bool e)
     go (wides w s (never f)) = (w, f)
-    go (wides w s (floats f e)) = absurd (miss plain_keys (tag_of the_type kind) e h)
-    go (variables e) = absurd (elsewhere plain_keys kind Variable h tt e)
-
--- after a test for each
-pub wide_left : (kind : Kind) → OneOf fixed_keys (tag_of the_type kind) → OneOf other_keys (tag_of the_type kind) → WideKind kind
-wide_left kind v b = neither kind (elsewhere other_keys kind Bool b tt) (elsewhere fixed_keys kind Variable v tt)
+    go (wides w s (floats f (inl e))) = absurd (h.no_half e)
+    go (wides w s (floats f (inr (inl e)))) = absurd (h.no_single e)
+    go (wides w s (floats f (inr (inr e)))) = absurd (h.no_double e)
+    go (variables e) = absurd (h.no_variable e)
 
 -- after the arm of variable bytes: what holds of bool and of values of one width
-pub fixed_arm : (P : Kind → Type 0) (kind : Kind) → P Bool → (WideKind kind → P kind) → OneOf fixed_keys (tag_of the_type kind) → P kind
-fixed_arm P kind b w h = go (sort kind)
+pub fixed_arm : (P : Kind → Type 0) (kind : Kind) → P Bool → (WideKind kind → P kind) → (kind ≡ Variable → ⊥) → P kind
+fixed_arm P kind b w v = go (sort kind)
   where
     go : Sort kind → P kind
     go (bools e) = subst P (sym e) b
     go (wides k s f) = w k
-    go (variables e) = absurd (elsewhere fixed_keys kind Variable h tt e)
+    go (variables e) = absurd (v e)

@@ -12,9 +12,9 @@ use lib.Pow.{pow-add, pow_pos}
 use borrow.Author.Tests.{ltb-true, ltb-false, leb-true, leb-false, eqb-true, eqb-false, lt-ltb, le-ltb, le-leb, lt-leb, eq-eqb, ne_eqb}
 use types.Run.{OneOf, miss}
 use denote.Enum.Declared.{tag_of}
-use Rattle.format.specs.contracts.Kind.{the_type}
 use Rattle.format.specs.contracts.Spot.{the_type as the-spot}
 use Rattle.format.specs.declared.Kind.{Kind}
+use Rattle.format.specs.declared.Kind.TheVariants.{Variable}
 use Rattle.format.specs.declared.Column.{Column}
 use Rattle.format.specs.declared.Schema.{Schema}
 use Rattle.format.specs.declared.Refusal.{Refusal}
@@ -31,7 +31,7 @@ use Rattle.format.specs.Numbers.{refusal_numbers}
 use Rattle.format.specs.Field.{block_size}
 use Rattle.format.specs.Fold.{folds}
 use Rattle.format.specs.CutterRule.{within, may_fold, before, column_kept, columns_kept, field_seen, spot_kept, fewest, most, over_all, stream_kept, standing_kept, at_start, emptied, fault_kept, numbers_kept, keeps_with, keeps}
-use Rattle.basics.proofs.Sorts.{fixed_keys, fixed_arm, plain_keys, plain_arm}
+use Rattle.basics.proofs.Sorts.{fixed_arm, plain_arm, PlainArm}
 use Rattle.value_moves.proofs.Arms.{power_up}
 use Rattle.cutter_laws.proofs.RuleMoves.{size_most, and_true, within_true}
 use Rattle.cutter_rule.specs.Standing.{standing_at, is_variable, Small}
@@ -63,15 +63,15 @@ shift_low n k = go (ltb n (2 ^ k)) refl
 pub kept_width : (col : Column) → column_kept col ≡ true → value_bytes col.kind ≤ max_width
 kept_width col e = leb-true (value_bytes col.kind) max_width (and_true {s = leb (value_bytes col.kind) max_width} {t = not col.options.fold || may_fold (column_shape col)} e).0
 
-pub plain_fold : (kind : Kind) → OneOf plain_keys (tag_of the_type kind) → false ≡ may_fold (shape kind)
+pub plain_fold : (kind : Kind) → PlainArm kind → false ≡ may_fold (shape kind)
 plain_fold kind h = let u = plain_arm kind h in sym (ap may_fold u.0.says ∙ u.1 true)
 
-pub fixed_fewest : (kind : Kind) (w : ℕ) → OneOf fixed_keys (tag_of the_type kind) → w ≡ value_bytes kind → 1 + w ≡ fewest (shape kind)
+pub fixed_fewest : (kind : Kind) (w : ℕ) → (kind ≡ Variable → ⊥) → w ≡ value_bytes kind → 1 + w ≡ fewest (shape kind)
 fixed_fewest kind w h e =
     let f = fixed_arm (λ x. suc (value_bytes x) ≡ fewest (shape x)) kind refl (λ k. subst (λ (sh : Shape). suc (shape_bytes sh) ≡ fewest sh) (sym k.says) refl) h in
     omega (arith, f)
 
-pub fixed_most : (kind : Kind) (w : ℕ) → OneOf fixed_keys (tag_of the_type kind) → w ≡ value_bytes kind → 1 + w ≡ most (shape kind)
+pub fixed_most : (kind : Kind) (w : ℕ) → (kind ≡ Variable → ⊥) → w ≡ value_bytes kind → 1 + w ≡ most (shape kind)
 fixed_most kind w h e =
     let f = fixed_arm (λ x. suc (value_bytes x) ≡ most (shape x)) kind refl (λ k. subst (λ (sh : Shape). suc (shape_bytes sh) ≡ most sh) (sym k.says) refl) h in
     omega (arith, f)
@@ -175,7 +175,7 @@ before_low k h = go (ltb k 4) refl
     go true e = omega (arith, ltb-true k 4 e)
     go false e = omega arith
 
-pub fixed_kind : (kind : Kind) → OneOf fixed_keys (tag_of the_type kind) → false ≡ is_variable (shape kind)
+pub fixed_kind : (kind : Kind) → (kind ≡ Variable → ⊥) → false ≡ is_variable (shape kind)
 fixed_kind kind h = fixed_arm (λ x. false ≡ is_variable (shape x)) kind refl (λ k. subst (λ (sh : Shape). false ≡ is_variable sh) (sym k.says) refl) h
 
 module _ (sh : Shape) (fold : Bool) (row k seen marks : ℕ) where

@@ -5,17 +5,14 @@ use mathlib.Core.Bool.{Bool as Truth}
 use mathlib.Core.Option.{none, some}
 use mathlib.Core.List.{List, ◌∷◌}
 use lib.ListN.{replicate}
-use types.Run.{OneOf}
-use denote.Enum.Declared.{tag_of}
-use Rattle.format.specs.contracts.Kind.{the_type}
 use Rattle.format.specs.declared.SortOptions.{SortOptions}
 use Rattle.format.specs.declared.Kind.{Kind}
-use Rattle.format.specs.declared.Kind.TheVariants.{Bool}
+use Rattle.format.specs.declared.Kind.TheVariants.{Bool, Variable}
 use Rattle.format.specs.Kinds.{bool, Shape, Slot, shape, value_bytes}
 use Rattle.format.specs.Fold.{folded_slot}
 use Rattle.format.specs.Field.{field, fixed_field, field_length, null_byte}
 use Rattle.format.specs.Sheet.{Layout, wide, layout_for, bit, bool_byte, value_at}
-use Rattle.basics.proofs.Sorts.{wide_layout, fixed_keys, fixed_arm}
+use Rattle.basics.proofs.Sorts.{wide_layout, fixed_arm}
 use Rattle.basics.specs.Wide.{WideKind}
 use Rattle.basics.specs.Wrote.{Wrote}
 
@@ -26,7 +23,7 @@ pub wide_long : {kind : Kind} (s : Slot) → WideKind kind → field_length (sha
 wide_long s k = rw k.says
 
 -- ---- the null of fixed values
-pub null_arm : (kind : Kind) (o : SortOptions) → OneOf fixed_keys (tag_of the_type kind)
+pub null_arm : (kind : Kind) (o : SortOptions) → (kind ≡ Variable → ⊥)
     → (field_length (shape kind) none ≡ 1 + value_bytes kind) × (field (shape kind) o none ≡ null_byte o ∷ replicate (value_bytes kind) 0)
 null_arm kind o h =
     fixed_arm (λ k. (field_length (shape k) none ≡ 1 + value_bytes k) × (field (shape k) o none ≡ null_byte o ∷ replicate (value_bytes k) 0)) kind
@@ -35,7 +32,7 @@ null_arm kind o h =
 -- ---- what a writer owes once its callee has written, by the kind
 module _ (o : SortOptions) (at next : ℕ) (entry exit : List ℕ) where
   -- the null of fixed values
-  pub put_none : (kind : Kind) (w : ℕ) → OneOf fixed_keys (tag_of the_type kind) → w ≡ value_bytes kind
+  pub put_none : (kind : Kind) (w : ℕ) → (kind ≡ Variable → ⊥) → w ≡ value_bytes kind
       → Wrote (null_byte o ∷ replicate w 0) at entry exit next → Wrote (field (shape kind) o none) at entry exit next
   put_none kind w h e p = rw ((null_arm kind o h).1, ← e) p
 

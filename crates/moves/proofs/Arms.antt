@@ -6,16 +6,14 @@ use native.Mathlib.Numerals.{add-one}
 use native.Mathlib.Omega.{arith}
 use lib.Dec.{eqb}
 use borrow.Author.Tests.{lt-ltb, le-ltb}
-use types.Run.{OneOf}
-use denote.Enum.Declared.{tag_of}
-use Rattle.format.specs.contracts.Kind.{the_type}
 use Rattle.format.specs.declared.Kind.{Kind}
+use Rattle.format.specs.declared.Kind.TheVariants.{Variable}
 use Rattle.format.specs.declared.SortOptions.{SortOptions}
 use Rattle.format.specs.declared.RowFault.TheVariants.{NullRest}
 use Rattle.format.specs.declared.Spot.TheVariants.{Nulls}
 use Rattle.format.specs.Kinds.{Shape, shape, shape_bytes, value_bytes}
 use Rattle.format.specs.Cutter.{Move, on, whole, bad, lead_move, first_bad, null_move}
-use Rattle.basics.proofs.Sorts.{fixed_keys, fixed_arm}
+use Rattle.basics.proofs.Sorts.{fixed_arm}
 use Rattle.moves.specs.Moves.{fixed_lead}
 
 -- ---- a test that holds, and one that does not
@@ -29,7 +27,7 @@ unless {A} {t} {y} {z} x e h = h ∙ sym (ap (λ (b : Bool). cond b x y) e)
 -- ---- the lead byte
 
 -- every kind but variable bytes
-pub fixed_lead_lem : (kind : Kind) (w : ℕ) (o : SortOptions) (at b : ℕ) → OneOf fixed_keys (tag_of the_type kind) → w ≡ value_bytes kind
+pub fixed_lead_lem : (kind : Kind) (w : ℕ) (o : SortOptions) (at b : ℕ) → (kind ≡ Variable → ⊥) → w ≡ value_bytes kind
     → fixed_lead w o at b ≡ lead_move (shape kind) o at b
 fixed_lead_lem kind w o at b h e =
     rw e (fixed_arm (λ x. fixed_lead (value_bytes x) o at b ≡ lead_move (shape x) o at b) kind refl

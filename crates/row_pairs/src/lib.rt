@@ -1,4 +1,6 @@
 // Pairs of rows of two sheets, by their numbers: a list that is lent, and after it those in lent bytes.
+#![tactic(auto)]
+
 ghost use Rattle.std.specs.Prelude.{◌≡◌, ◌<◌, length, get_or};
 ghost use Rattle.format.specs.CompareSheets.{pair_count, pairs_fault};
 ghost use Rattle.row_pairs.specs.Pairs.{pair_rows};

@@ -8,16 +8,12 @@ use native.Mathlib.Numerals.{add-one}
 use native.Mathlib.Omega.{arith}
 use lib.ListN.{length, get_or, set, length-set, length-append}
 use lib.Seq.{get_or-set_same, get_or-set_other}
-use types.Run.{OneOf}
-use denote.Enum.Declared.{tag_of}
-use Rattle.format.specs.contracts.Kind.{the_type}
 use Rattle.format.specs.declared.Kind.TheVariants.{Variable}
 use Rattle.format.specs.declared.Column.{Column}
 use Rattle.format.specs.Kinds.{value_bytes}
 use Rattle.format.specs.Lists.{each, joined, sum}
 use Rattle.format.specs.Passed.{Passes}
 use Rattle.format.specs.Sheet.{column_fault, ended, layout, slot_at}
-use Rattle.basics.proofs.Sorts.{fixed_keys}
 use Rattle.sheet_lengths.specs.Measures.{variable_length}
 use Rattle.sheet_lengths.proofs.Arms.{field_arm}
 use Rattle.basics.proofs.Compare.{choose}
@@ -129,7 +125,7 @@ module _ (col : Column) (n : ℕ) (s : List ℕ) (fixed : ℕ) (xs : List ℕ) w
     variable_longer t = record { stays = t.stays; says = λ r l. omega (arith, t.says r l, variable_same r) }
 
   -- fixed values: of one length in every row
-  module _ (k : OneOf fixed_keys (tag_of the_type col.kind)) (w : ℕ) (e : w ≡ value_bytes col.kind) where
+  module _ (k : (col.kind ≡ Variable → ⊥)) (w : ℕ) (e : w ≡ value_bytes col.kind) where
     fixed_same : (r : ℕ) → slot_length col n s r ≡ 1 + w
     fixed_same r = field_arm col.kind k (slot_at (layout col) n s r) ∙ ap (λ (v : ℕ). 1 + v) (sym e)
 

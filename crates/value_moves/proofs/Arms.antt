@@ -9,9 +9,6 @@ use native.Mathlib.Numerals.{add-one}
 use native.Mathlib.Omega.{arith}
 use lib.Dec.{eqb}
 use borrow.Author.Tests.{ltb-true, lt-ltb, le-ltb}
-use types.Run.{OneOf}
-use denote.Enum.Declared.{tag_of}
-use Rattle.format.specs.contracts.Kind.{the_type}
 use Rattle.format.specs.declared.Kind.{Kind}
 use Rattle.format.specs.declared.SortOptions.{SortOptions}
 use Rattle.format.specs.declared.RowFault.TheVariants.{BoolByte, Unfolded}
@@ -22,7 +19,7 @@ use Rattle.format.specs.Key.{allowed, float_unkey, unkey}
 use Rattle.format.specs.Fold.{folded_bits, is_folded}
 use Rattle.format.specs.CutterRule.{spelt_kept, spot_kept}
 use Rattle.format.specs.Cutter.{Move, on, whole, bad, turn, spelt_with, value_move, move}
-use Rattle.basics.proofs.Sorts.{plain_keys, plain_arm}
+use Rattle.basics.proofs.Sorts.{plain_arm, PlainArm}
 use Rattle.number.proofs.Folds.{folded_same}
 use Rattle.cutter_laws.proofs.RuleMoves.{and_true}
 use Rattle.moves.proofs.Arms.{when, unless}
@@ -55,7 +52,7 @@ module _ (k : Fixed) (w : ℕ) (o : SortOptions) (seen spelt at b : ℕ) (a : An
       spelled j = unkey j (reverse (low_bytes (width j) (spelt_with j o spelt b)))
 
 -- every kind but bools, floats and variable bytes
-pub plain_kind : (kind : Kind) (w : ℕ) (fold : Bool) → OneOf plain_keys (tag_of the_type kind) → w ≡ value_bytes kind
+pub plain_kind : (kind : Kind) (w : ℕ) (fold : Bool) → PlainArm kind → w ≡ value_bytes kind
     → (k : Fixed) × (shape kind ≡ fixed k) × AnyBytes w fold k
 plain_kind kind w fold h e =
     let u = plain_arm kind h in

@@ -11,4 +11,4 @@ pub returns-in-Variable : goal.returns-in-Variable
 returns-in-Variable c s e = sym e ∙ sym (ap (λ (k : Kind). added (layout_for (shape k)) s) c.in-Variable.is)
 
 pub returns-in_default : goal.returns-in_default
-returns-in_default c s e = sym (adds_nothing c.args.column.kind s c.match.keys2)
+returns-in_default c s e = sym (adds_nothing c.args.column.kind s c.in_default.not-Variable)

@@ -52,4 +52,4 @@ pub returns-in_default : goal.returns-in_default
 returns-in_default c =
     let a = c.args in
     plain_read a.column.kind a.column.options a.row.now c.width.result c.read-in_default.result
-    c.match.keys6 c.width.ensures c.read-in_default.ensures
+    (record { no_bool = c.in_default.not-Bool; no_half = c.in_default.not-F16; no_single = c.in_default.not-F32; no_double = c.in_default.not-F64; no_variable = c.in_default.not-Variable }) c.width.ensures c.read-in_default.ensures

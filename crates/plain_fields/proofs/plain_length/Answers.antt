@@ -20,4 +20,4 @@ returns-in-Variable c none = absurd (omega arith)
 pub returns-in_default : goal.returns-in_default
 returns-in_default c some =
     let A = c.args in
-    plain_field A.column.kind A.column.options (wide_arm A.column.kind c.match.keys3) c.if-options.false c.width.result c.width.ensures
+    plain_field A.column.kind A.column.options (wide_arm A.column.kind c.in_default.not-Bool c.in_default.not-Variable) c.if-options.false c.width.result c.width.ensures

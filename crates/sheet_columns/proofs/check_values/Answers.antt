@@ -30,7 +30,7 @@ overflow_mul-n c =
 pub returns-then-part-n : goal.returns-then-part-n
 returns-then-part-n c =
     let a = c.args in
-    cut a.kind _ _ _ a.part.now c.width.ensures (layout_arm a.kind c.match.keys3) c.if-part-n.true
+    cut a.kind _ _ _ a.part.now c.width.ensures (layout_arm a.kind c.in_default.not-Bool c.in_default.not-Variable) c.if-part-n.true
 
 pub returns-in-Bool : goal.returns-in-Bool
 returns-in-Bool c =
@@ -45,4 +45,4 @@ returns-in-Variable c =
 pub returns-else-part-n : goal.returns-else-part-n
 returns-else-part-n c =
     let a = c.args in
-    whole a.kind _ _ _ a.part.now c.width.ensures (layout_arm a.kind c.match.keys3) c.if-part-n.false
+    whole a.kind _ _ _ a.part.now c.width.ensures (layout_arm a.kind c.in_default.not-Bool c.in_default.not-Variable) c.if-part-n.false

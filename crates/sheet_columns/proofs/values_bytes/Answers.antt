@@ -19,7 +19,7 @@ end_at-requires c =
 pub overflow_mul-result-in_default : goal.overflow_mul-result-in_default
 overflow_mul-result-in_default c =
     let a = c.args in
-    let there : a.n * value_bytes a.kind ≤ length a.part.now = rw (layout_arm a.kind c.match.keys3) at c.requires.part_in_bounds in
+    let there : a.n * value_bytes a.kind ≤ length a.part.now = rw (layout_arm a.kind c.in_default.not-Bool c.in_default.not-Variable) at c.requires.part_in_bounds in
     rw c.width.ensures (omega arith)
 
 pub returns-in-Bool : goal.returns-in-Bool
@@ -35,4 +35,4 @@ returns-in-Variable c =
 pub returns-in_default : goal.returns-in_default
 returns-in_default c =
     let a = c.args in
-    rw (c.width.ensures, layout_arm a.kind c.match.keys3)
+    rw (c.width.ensures, layout_arm a.kind c.in_default.not-Bool c.in_default.not-Variable)

@@ -6,10 +6,7 @@ use mathlib.Core.Bool.{false}
 use mathlib.Core.List.{List}
 use native.Mathlib.Nat.{mul-le-mul, lt_of_le_of_lt}
 use native.Mathlib.Omega.{arith}
-use types.Run.{OneOf}
-use denote.Enum.Declared.{tag_of}
 use lib.Dec.{lit<}
-use Rattle.format.specs.contracts.Kind.{the_type}
 use Rattle.format.specs.declared.Kind.TheVariants.{Variable}
 use Rattle.format.specs.declared.Column.{Column}
 use Rattle.format.specs.Limits.{max_rows, max_width}
@@ -18,7 +15,6 @@ use Rattle.format.specs.Sheet.{column_fault, ended, layout, slot_at}
 use Rattle.format.specs.Entries.{column_total}
 use Rattle.format.specs.Passed.{Passes}
 use Rattle.sheet_lengths.specs.Measures.{variable_total}
-use Rattle.basics.proofs.Sorts.{fixed_keys}
 use Rattle.sheet_lengths.proofs.Arms.{field_arm}
 use Rattle.sheet_lengths.proofs.Measures.{sum_same}
 use Rattle.sheet_lengths.proofs.measure_column.Goals as goal
@@ -35,7 +31,7 @@ module _ (col : Column) (n : ℕ) (s : List ℕ) (e : col.kind ≡ Variable) whe
 small : (n w : ℕ) → n ≤ max_rows → w ≤ max_width → n * (1 + w) ≤ max_rows * (1 + max_width)
 small n w l m = mul-le-mul l (let z : 1 + w ≤ 1 + max_width = omega arith in z)
 
-alike : (col : Column) (n w : ℕ) (s : List ℕ) → OneOf fixed_keys (tag_of the_type col.kind) → w ≡ value_bytes col.kind → n * (1 + w) ≡ column_total col n s
+alike : (col : Column) (n w : ℕ) (s : List ℕ) → (col.kind ≡ Variable → ⊥) → w ≡ value_bytes col.kind → n * (1 + w) ≡ column_total col n s
 alike col n w s h e = sym (sum_same _ (1 + w) 0 n (λ r. field_arm col.kind h (slot_at (layout col) n s r) ∙ ap (λ (k : ℕ). 1 + k) (sym e)))
 
 pub measure_variable-requires : goal.measure_variable-requires
@@ -54,4 +50,4 @@ returns-in-Variable c = record { value = c.measure_variable.ensures.value ∙ ad
 pub returns-in_default : goal.returns-in_default
 returns-in_default c =
     let bound : c.args.n * (1 + c.width.result) ≤ max_rows * (1 + max_width) = rw c.width.ensures (small _ _ c.requires.n_le_max_rows c.requires.kind_bound) in
-    record { value = alike c.args.column c.args.n _ c.args.part.now c.match.keys2 c.width.ensures; upper_bound = omega arith }
+    record { value = alike c.args.column c.args.n _ c.args.part.now c.in_default.not-Variable c.width.ensures; upper_bound = omega arith }

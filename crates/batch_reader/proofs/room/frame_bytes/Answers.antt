@@ -31,5 +31,5 @@ returns-in-Variable c =
 pub returns-in_default : goal.returns-in_default
 returns-in_default c =
     let A = c.args in
-    let is : layout_for (shape A.kind) ≡ _ = wide_layout (wide_arm A.kind c.match.keys3) in
+    let is : layout_for (shape A.kind) ≡ _ = wide_layout (wide_arm A.kind c.in_default.not-Bool c.in_default.not-Variable) in
     (omega (arith, ap (λ (k : ℕ). A.n * k) c.width.ensures, ap (λ (ly : Layout). frame ly A.n) is), omega (arith, (let the_product : c.args.n * c.width.result ≤ max_rows * max_width = mul-le-mul {n₂ = max_rows} {m₂ = max_width} c.requires.n_le_max_rows (omega (arith, c.width.ensures, c.requires.kind_bound)) in the_product)))

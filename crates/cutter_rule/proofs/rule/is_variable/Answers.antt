@@ -10,4 +10,4 @@ pub returns-in-Variable : goal.returns-in-Variable
 returns-in-Variable c = sym (ap (λ (k : Kind). is_variable (shape k)) c.in-Variable.is)
 
 pub returns-in_default : goal.returns-in_default
-returns-in_default c = fixed_kind c.args.kind c.match.keys2
+returns-in_default c = fixed_kind c.args.kind c.in_default.not-Variable

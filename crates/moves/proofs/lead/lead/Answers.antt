@@ -14,4 +14,4 @@ returns-in-Variable c =
 pub returns-in_default : goal.returns-in_default
 returns-in_default c =
     let a = c.args in
-    c.lead_fixed.ensures ∙ fixed_lead_lem a.kind _ a.options a.at a.byte c.in_default.in_default-own.keys2 c.width.ensures
+    c.lead_fixed.ensures ∙ fixed_lead_lem a.kind _ a.options a.at a.byte c.in_default.not-Variable c.width.ensures

@@ -13,12 +13,12 @@ add_lengths-requires c =
 pub overflow_add-result : goal.overflow_add-result
 overflow_add-result c = 
     omega (arith, (let the_small : c.args.fixed + (1 + c.width.result) < 2 ^ 64 = let a = c.args in
-    fixed_fits a.column a.n a.part.now a.fixed a.offsets.now c.match.keys2 _ c.width.ensures c.requires.n_nonzero.0 c.requires.fits in the_small))
+    fixed_fits a.column a.n a.part.now a.fixed a.offsets.now c.in_default.not-Variable _ c.width.ensures c.requires.n_nonzero.0 c.requires.fits in the_small))
 
 pub overflow_add-result-in_default : goal.overflow_add-result-in_default
 overflow_add-result-in_default c = 
     omega (arith, (let the_small : c.args.fixed + (1 + c.width.result) < 2 ^ 64 = let a = c.args in
-    fixed_fits a.column a.n a.part.now a.fixed a.offsets.now c.match.keys2 _ c.width.ensures c.requires.n_nonzero.0 c.requires.fits in the_small))
+    fixed_fits a.column a.n a.part.now a.fixed a.offsets.now c.in_default.not-Variable _ c.width.ensures c.requires.n_nonzero.0 c.requires.fits in the_small))
 
 pub returns-in-Variable : goal.returns-in-Variable
 returns-in-Variable c =
@@ -29,4 +29,4 @@ returns-in-Variable c =
 pub returns-in_default : goal.returns-in_default
 returns-in_default c =
     let a = c.args in
-    fixed_longer a.column a.n a.part.now a.fixed a.offsets.now c.match.keys2 _ c.width.ensures
+    fixed_longer a.column a.n a.part.now a.fixed a.offsets.now c.in_default.not-Variable _ c.width.ensures

@@ -42,7 +42,7 @@ returns-in-Variable c =
 
 -- ---- values of one width
 pub move_wide-requires : goal.move_wide-requires
-move_wide-requires c = record { wide_kind = (let the_wide : WideKind (c.args.column).kind = wide_arm (c.args.column).kind c.match.keys3 in the_wide); readable = (let the_readable : Readable (c.args.column) (c.args.rows.now) (c.args.cursors.now) = c.requires.readable in the_readable); cursors_in_bounds = (let the_room : (parts : List ℕ) → (values_at (c.args.column) (c.args.rows.now) (c.args.cursors.now) ≡ parts) → c.args.at + length parts ≤ length c.args.sheet.now = λ parts e. subst (λ (l : List ℕ). c.args.at + length l ≤ length c.args.sheet.now) e c.requires.cursors_in_bounds in the_room) _ ((let the_slots : values_at (c.args.column) (c.args.rows.now) (c.args.cursors.now) ≡ wides_at (c.args.column) (c.args.rows.now) (c.args.cursors.now) = wide_values (c.args.column) (c.args.rows.now) (c.args.cursors.now) ((let the_wide : WideKind (c.args.column).kind = wide_arm (c.args.column).kind c.match.keys3 in the_wide)) in the_slots)) }
+move_wide-requires c = record { wide_kind = (let the_wide : WideKind (c.args.column).kind = wide_arm (c.args.column).kind c.in_default.not-Bool c.in_default.not-Variable in the_wide); readable = (let the_readable : Readable (c.args.column) (c.args.rows.now) (c.args.cursors.now) = c.requires.readable in the_readable); cursors_in_bounds = (let the_room : (parts : List ℕ) → (values_at (c.args.column) (c.args.rows.now) (c.args.cursors.now) ≡ parts) → c.args.at + length parts ≤ length c.args.sheet.now = λ parts e. subst (λ (l : List ℕ). c.args.at + length l ≤ length c.args.sheet.now) e c.requires.cursors_in_bounds in the_room) _ ((let the_slots : values_at (c.args.column) (c.args.rows.now) (c.args.cursors.now) ≡ wides_at (c.args.column) (c.args.rows.now) (c.args.cursors.now) = wide_values (c.args.column) (c.args.rows.now) (c.args.cursors.now) ((let the_wide : WideKind (c.args.column).kind = wide_arm (c.args.column).kind c.in_default.not-Bool c.in_default.not-Variable in the_wide)) in the_slots)) }
 
 pub returns-in_default : goal.returns-in_default
-returns-in_default c = record { wrote = (let the_done : {parts : List ℕ} → {exit : List ℕ} → {next : ℕ} → (values_at (c.args.column) (c.args.rows.now) (c.args.cursors.now) ≡ parts) → ((let the_Done : (List ℕ) → (List ℕ) → (ℕ) → Type 0 = λ parts exit next. Wrote parts c.args.at c.args.sheet.now exit next in the_Done) parts exit next) → (let the_Done : (List ℕ) → (List ℕ) → (ℕ) → Type 0 = λ parts exit next. Wrote parts c.args.at c.args.sheet.now exit next in the_Done) (values_at (c.args.column) (c.args.rows.now) (c.args.cursors.now)) exit next = λ {parts} {exit} {next} e w. subst (λ (l : List ℕ). (let the_Done : (List ℕ) → (List ℕ) → (ℕ) → Type 0 = λ parts exit next. Wrote parts c.args.at c.args.sheet.now exit next in the_Done) l exit next) (sym e) w in the_done) ((let the_slots : values_at (c.args.column) (c.args.rows.now) (c.args.cursors.now) ≡ wides_at (c.args.column) (c.args.rows.now) (c.args.cursors.now) = wide_values (c.args.column) (c.args.rows.now) (c.args.cursors.now) ((let the_wide : WideKind (c.args.column).kind = wide_arm (c.args.column).kind c.match.keys3 in the_wide)) in the_slots)) c.move_wide.ensures.wrote; cursors_after = c.move_wide.ensures.cursors_after }
+returns-in_default c = record { wrote = (let the_done : {parts : List ℕ} → {exit : List ℕ} → {next : ℕ} → (values_at (c.args.column) (c.args.rows.now) (c.args.cursors.now) ≡ parts) → ((let the_Done : (List ℕ) → (List ℕ) → (ℕ) → Type 0 = λ parts exit next. Wrote parts c.args.at c.args.sheet.now exit next in the_Done) parts exit next) → (let the_Done : (List ℕ) → (List ℕ) → (ℕ) → Type 0 = λ parts exit next. Wrote parts c.args.at c.args.sheet.now exit next in the_Done) (values_at (c.args.column) (c.args.rows.now) (c.args.cursors.now)) exit next = λ {parts} {exit} {next} e w. subst (λ (l : List ℕ). (let the_Done : (List ℕ) → (List ℕ) → (ℕ) → Type 0 = λ parts exit next. Wrote parts c.args.at c.args.sheet.now exit next in the_Done) l exit next) (sym e) w in the_done) ((let the_slots : values_at (c.args.column) (c.args.rows.now) (c.args.cursors.now) ≡ wides_at (c.args.column) (c.args.rows.now) (c.args.cursors.now) = wide_values (c.args.column) (c.args.rows.now) (c.args.cursors.now) ((let the_wide : WideKind (c.args.column).kind = wide_arm (c.args.column).kind c.in_default.not-Bool c.in_default.not-Variable in the_wide)) in the_slots)) c.move_wide.ensures.wrote; cursors_after = c.move_wide.ensures.cursors_after }

@@ -1,7 +1,6 @@
 -- `value_order::value::order_values` meets its contract: each call is the definition's case for the kinds that are left to it. Assumes
 -- nothing.
 use Rattle.basics.specs.Wide.{WideKind}
-use Rattle.basics.proofs.Sorts.{wide_left}
 use Rattle.sheet_slots.proofs.Values.{bool_asked, variable_asked, wide_asked}
 use Rattle.value_order.proofs.Values.{variable_ordered, bool_ordered, wide_ordered}
 use Rattle.value_order.proofs.value.order_values.Goals as goal
@@ -33,7 +32,7 @@ returns-in-Bool c =
 pub order_wide-requires : goal.order_wide-requires
 order_wide-requires c =
     let A = c.args in
-    let w = (let the_fixed_wide : WideKind c.args.column.kind = wide_left c.args.column.kind c.match.keys2 c.in-Bool.keys2 in the_fixed_wide) in
+    let w = (let the_fixed_wide : WideKind c.args.column.kind = wide_arm c.args.column.kind c.NOTBOOL c.NOTVARIABLE in the_fixed_wide) in
     record { wide_kind = w; kind_in_bounds = (
         wide_asked A.n A.i A.a.now c.requires.n_le_max_rows.1 c.requires.passes w,
         wide_asked A.m A.j A.b.now c.requires.m_le_max_rows.1 c.requires.passes_2 w,
@@ -42,4 +41,4 @@ order_wide-requires c =
 pub returns : goal.returns
 returns c =
     let A = c.args in
-    wide_ordered A.column.options.fold A.n A.i A.a.now A.m A.j A.b.now _ ((let the_fixed_wide : WideKind c.args.column.kind = wide_left c.args.column.kind c.match.keys2 c.in-Bool.keys2 in the_fixed_wide)) c.order_wide.ensures
+    wide_ordered A.column.options.fold A.n A.i A.a.now A.m A.j A.b.now _ ((let the_fixed_wide : WideKind c.args.column.kind = wide_arm c.args.column.kind c.NOTBOOL c.NOTVARIABLE in the_fixed_wide)) c.order_wide.ensures
