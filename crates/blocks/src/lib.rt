@@ -1,4 +1,6 @@
 // The block encoding of variable bytes: its constants, the size of each block, and how long a field is.
+#![tactic(auto)]
+
 ghost use Rattle.std.specs.Prelude.{◌≡◌, ◌≤◌};
 ghost use Rattle.format.specs.Limits.{max_slot};
 ghost use Rattle.format.specs.Field.{block_size, padded_length};

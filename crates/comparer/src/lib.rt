@@ -1,4 +1,6 @@
 // Two rows of checked sheets under one list, compared straight from the values: no row is made.
+#![tactic(auto)]
+
 ghost use Rattle.std.specs.Prelude.{◌≡◌, ◌≤◌, length};
 ghost use Rattle.std.proofs.lemmas.List.Edits.{sets};
 ghost use Rattle.format.specs.Limits.{max_columns, max_rows};

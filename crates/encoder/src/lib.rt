@@ -1,5 +1,7 @@
 // Encoding under a list that was read, however it came: the rows of a sheet into the row buffer, and where each begins and the last ends
 // into the offsets.
+#![tactic(auto)]
+
 ghost use Rattle.format.specs.Promises.{Encoded};
 ghost use Rattle.list_reader.specs.Listing.{OfList, OfEach};
 ghost use Rattle.encoder.specs.Encoding.{RowsReady, RowsLeft};

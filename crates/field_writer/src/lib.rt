@@ -1,4 +1,6 @@
 // The field of one slot of a checked column, from a place of the row buffer on. Each writer returns the place after the field.
+#![tactic(auto)]
+
 ghost use Rattle.std.specs.Prelude.{◌≡◌, false, ◌+◌, ◌<◌, ◌≤◌, length};
 ghost use Rattle.std.proofs.Math.Option.{none, some};
 ghost use Rattle.format.specs.declared.Kind.TheVariants.{Variable};

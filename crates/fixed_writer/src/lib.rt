@@ -2,6 +2,8 @@
 // returns the place after what it wrote. Nulls and bools are `null_writer`'s.
 //
 //     i16 -1            sheet FF FF    row 01 7F FF    descending 01 80 00
+#![tactic(auto)]
+
 ghost use Rattle.std.proofs.Math.Option.{some};
 ghost use Rattle.std.specs.Prelude.{◌+◌, ◌*◌, ◌≤◌, length, take, drop};
 ghost use Rattle.format.specs.Kinds.{shape, value_bytes};

@@ -1,6 +1,8 @@
 // The fields of nulls of the fixed kinds and of bools, written from a place of the row buffer on. Each returns the place after the field.
 //
 //     i16 null, first                  row 00 00 00    descending 00 00 00
+#![tactic(auto)]
+
 ghost use Rattle.std.specs.Prelude.{◌∷◌, ◌+◌, ◌≤◌, length, replicate};
 ghost use Rattle.std.proofs.Math.Option.{some};
 ghost use Rattle.format.specs.Kinds.{bool};

@@ -1,5 +1,7 @@
 // Numbers of sheets, compared as the numbers that their keys spell. A number is named by its index in a column of such numbers: the parts
 // of an interval and the words of a decimal are such.
+#![tactic(auto)]
+
 ghost use Rattle.std.specs.Prelude.{◌≡◌, [], ◌∷◌, length, take, drop};
 ghost use Prim.Native.Nat.{◌+◌, ◌*◌, ◌<◌, ◌≤◌, compare as compareℕ};
 ghost use Rattle.format.specs.Kinds.{float};

@@ -1,4 +1,6 @@
 // The value bytes of a number, written: of each width, as it is coded, and of a float folded where its column folds.
+#![tactic(auto)]
+
 mod floats;
 mod numbers;
 

@@ -1,4 +1,6 @@
 // Rows of two sheets compared under a list that was read, however it came: many pairs of rows, and one.
+#![tactic(auto)]
+
 ghost use Rattle.std.specs.Prelude.{◌≡◌};
 ghost use Rattle.format.specs.Schemas.{cols_of, Limited};
 ghost use Rattle.format.specs.Promises.{SheetsCompared, PairsCompared};

@@ -1,4 +1,6 @@
 // The value bytes of numbers of several parts, written: intervals, and decimals word by word.
+#![tactic(auto)]
+
 ghost use Rattle.std.specs.Prelude.{[], ◌∷◌, ◌+◌, ◌*◌, ◌<◌, ◌≤◌, length, take, drop};
 ghost use Rattle.format.specs.Field.{directed};
 ghost use Rattle.format.specs.Key.{parts_key, signed_key};

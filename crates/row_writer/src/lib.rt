@@ -1,5 +1,7 @@
 // Encode's writing walk: the rows of a checked sheet, and the offsets between them. The offsets first hold where each row begins; the
 // rows are then written side by side, and each offset moves on to its row's end.
+#![tactic(auto)]
+
 ghost use Rattle.std.specs.Prelude.{◌≡◌, ◌<◌, ◌≤◌, length};
 ghost use Rattle.std.proofs.lemmas.List.Edits.{sets};
 ghost use Rattle.format.specs.Limits.{max_columns, max_rows};

@@ -1,5 +1,7 @@
 // Runs of bytes in memory: zeros, bytes copied a word at a time, and single bytes. Descending inverts what is copied, written
 // or read.
+#![tactic(auto)]
+
 ghost use Rattle.std.specs.Prelude.{◌≡◌, [], ◌∷◌, ◌+◌, ◌%◌, ◌<◌, ◌≤◌, length, get_or, take, drop, replicate};
 ghost use Rattle.std.proofs.lemmas.List.Edits.{sets};
 ghost use Rattle.format.specs.Field.{directed};

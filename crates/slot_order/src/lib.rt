@@ -1,4 +1,6 @@
 // Two slots of a checked column.
+#![tactic(auto)]
+
 ghost use Rattle.std.specs.Prelude.{◌≡◌, false, cond, ◌<◌, ◌≤◌, drop};
 ghost use Rattle.std.proofs.Math.Option.{some};
 ghost use Prim.Native.Nat.Ordering.{gt};

@@ -1,4 +1,6 @@
 // Two values of a checked column compared where they stand.
+#![tactic(auto)]
+
 mod bytes;
 mod value;
 

@@ -1,5 +1,7 @@
 // The field of a slot that is written word by word: numbers of 8, 16, 32 and 64 bits, and months, days and nanoseconds. Which byte leads it,
 // and whether its value or zeros follow, is no branch, since a row's nulls cannot be foretold.
+#![tactic(auto)]
+
 ghost use Rattle.std.specs.Prelude.{◌≡◌, false, cond, [], ◌∷◌, ◌+◌, ◌*◌, ◌^◌, ◌<◌, ◌≤◌, length, take, drop, replicate};
 ghost use Rattle.std.proofs.lemmas.List.Edits.{sets};
 ghost use Rattle.format.specs.Lists.{low_bytes};

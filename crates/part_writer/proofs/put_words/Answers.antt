@@ -9,22 +9,20 @@ use Rattle.part_writer.proofs.put_words.Goals as goal
 pub loop-left-init : goal.loop-left-init
 loop-left-init c = (omega arith, walk_start _ _ _)
 
-pub put_number64-next-requires-in-loop-left : goal.put_number64-next-requires-in-loop-left
-put_number64-next-requires-in-loop-left c =
+pub put_number64-next-requires-in-loop-left-clause-at_in_bounds : goal.put_number64-next-requires-in-loop-left-clause-at_in_bounds
+put_number64-next-requires-in-loop-left-clause-at_in_bounds c =
     let A = c.args in
     let call = c.put_number64-next in
     let long = lower_long A.descending A.values.now A.from in
-    let inv = c.loop-left.invariant in (
-      omega arith,
-      omega (
-        arith,
-        inv.1.long,
-        inv.1.same,
-        call.kept.0,
-        long c.loop-left.left (omega (arith, inv.0)),
-        long (A.words - 1) (omega arith),
-        part_place A.descending A.values.now 8 (A.from + 8 * (A.words - 1)) A.at (omega arith) call.ensures.place,
-      ),
+    let inv = c.loop-left.invariant in
+    omega (
+      arith,
+      inv.1.long,
+      inv.1.same,
+      call.auto.out,
+      long c.loop-left.left (omega (arith, inv.0)),
+      long (A.words - 1) (omega arith),
+      part_place A.descending A.values.now 8 (A.from + 8 * (A.words - 1)) A.at (omega arith) call.ensures.place,
     )
 
 pub loop-left-preserved : goal.loop-left-preserved
