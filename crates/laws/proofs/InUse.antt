@@ -24,7 +24,7 @@ pub columns_room : (schema : Schema) → Held schema → length schema.columns �
 columns_room schema held =
     let fields = held.1.1 in
     let elements = fields.0.1 in
-    sym (length-map schema.columns _) ∙ elements.0.1
+    elements.0.1
 
 module _ (schema : Schema) (held : Held schema) (few : schema.count ≤ max_columns) where
   within : schema.count ≤ length schema.columns
