@@ -28,6 +28,7 @@ pub fn pair_count(numbers: &[u64], bytes: &[u8]) -> usize
 }
 
 // 32: the first pair with a row that its sheet does not have, of n rows the first sheet and of m rows the second.
+#[tactic(auto, using(crate::proofs::Pairs::rows_many))]
 pub fn check_pairs(n: u64, m: u64, numbers: &[u64], bytes: &[u8]) -> Check
     ensures { result ≡ pairs_fault n m (pair_rows numbers.now bytes.now) 0
         (pair_count (pair_rows numbers.now bytes.now)) }
