@@ -97,14 +97,7 @@ fn decode<W: Write>(out: &mut W, list: &[u8], rows: &[u8], numbers: &[u64]) -> i
     if BYTES < s {
         return Ok(false);
     }
-    show_decoded(
-        out,
-        list,
-        numbers[0],
-        rows,
-        &numbers[2..],
-        &mut sheet[..s],
-    )?;
+    show_decoded(out, list, numbers[0], rows, &numbers[2..], &mut sheet[..s])?;
     Ok(true)
 }
 
@@ -151,13 +144,7 @@ fn run_line<W: Write>(out: &mut W, line: &[u8]) -> io::Result<bool> {
     if !word(line, 4).is_empty() {
         return Ok(false);
     }
-    run_case(
-        out,
-        word(line, 0),
-        &first[..a],
-        &second[..b],
-        &numbers[..k],
-    )
+    run_case(out, word(line, 0), &first[..a], &second[..b], &numbers[..k])
 }
 
 // Where the line after the one at a place begins, if that one holds a case; past a line that holds none, that is the end.

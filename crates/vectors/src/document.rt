@@ -54,9 +54,19 @@ fn decode_name<W: Write>(out: &mut W, name: &str, row: &[u8]) -> io::Result<()> 
 }
 
 pub fn run<W: Write>(out: &mut W) -> io::Result<()> {
-    encode_names(out, "encode a, null:", 2, b"\x01\0\0\0\0\x01\0\0\0\x01\0\0\0a")?;
+    encode_names(
+        out,
+        "encode a, null:",
+        2,
+        b"\x01\0\0\0\0\x01\0\0\0\x01\0\0\0a",
+    )?;
     encode_names(out, "encode 8 bytes:", 1, b"\x01\0\0\0\0\x08\0\0\0abcdefgh")?;
-    encode_names(out, "encode 9 bytes:", 1, b"\x01\0\0\0\0\x09\0\0\0abcdefghi")?;
+    encode_names(
+        out,
+        "encode 9 bytes:",
+        1,
+        b"\x01\0\0\0\0\x09\0\0\0abcdefghi",
+    )?;
     run_longest(out)?;
     encode_names(out, "encode 65536 bytes:", 1, b"\x01\0\0\0\0\0\0\x01\0")?;
     decode_name(out, "decode a:", b"\x02a\0\0\0\0\0\0\0\x01")?;
