@@ -3,8 +3,8 @@ use native.Mathlib.Omega.{arith}
 use Rattle.rows.proofs.more_follows.Goals as goal
 
 pub returns-then-input-lt-INPUT_ROOM : goal.returns-then-input-lt-INPUT_ROOM
-returns-then-input-lt-INPUT_ROOM c = record { few = c.requires; full = λ e. cc }
+returns-then-input-lt-INPUT_ROOM g c = record { few = c.requires; full = λ e. cc }
 
 pub returns : goal.returns
-returns c =
+returns g c =
     record { few = c.requires; full = λ _. omega arith }

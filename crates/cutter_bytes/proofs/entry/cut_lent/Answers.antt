@@ -3,7 +3,6 @@ use mathlib.Core.Path.{◌≡◌, sym, ◌∙◌}
 use mathlib.Core.Bool.{true}
 use native.Mathlib.Omega.{arith}
 use lib.ListN.{take}
-use borrow.Author.Tests.{not-true, not-false}
 use Rattle.format.specs.Lists.{Bytes}
 use Rattle.format.specs.CutterRule.{keeps}
 use Rattle.format.specs.CutterBytes.{state_size, state_bytes, state_of, same}
@@ -25,34 +24,34 @@ pub returns-then-not-written_as : goal.returns-then-not-written_as
 returns-then-not-written_as c =
     let a = c.args in
     cut_broken a.state.now a.piece.now a.ends.now ((let the_ends_bytes : Bytes c.args.ends.now = bytes_of c.args.ends.now (λ i. (c.slice_known-2-1.given i).fits) in the_ends_bytes))
-    (other_broken a.state.now ((let the_written_is : let x = take state_size c.args.state.now in same (state_bytes (state_of x)) x ≡ c.written_as.result = read_written c.args.state.now _ c.read_state-s.ensures _ _ c.place_of-first.ensures c.written_as.ensures in the_written_is) ∙ not-true c.written_as.result c.if-not-written_as.true))
+    (other_broken a.state.now ((let the_written_is : let x = take state_size c.args.state.now in same (state_bytes (state_of x)) x ≡ c.written_as.result = read_written c.args.state.now _ c.read_state-s.ensures _ _ c.place_of-first.ensures c.written_as.ensures in the_written_is) ∙ c.if-not-written_as.true))
 
 pub returns-then-not-keeps : goal.returns-then-not-keeps
 returns-then-not-keeps c =
     let a = c.args in
     cut_broken a.state.now a.piece.now a.ends.now ((let the_ends_bytes : Bytes c.args.ends.now = bytes_of c.args.ends.now (λ i. (c.slice_known-2-1.given i).fits) in the_ends_bytes))
     (unkept_broken a.state.now
-    (read_keeps a.state.now _ c.read_state-s.ensures _ c.keeps.ensures ∙ not-true c.keeps.result c.if-not-keeps.true))
+    (read_keeps a.state.now _ c.read_state-s.ensures _ c.keeps.ensures ∙ c.if-not-keeps.true))
 
 pub returns-in-Refuse : goal.returns-in-Refuse
 returns-in-Refuse c =
     let a = c.args in
-    cut_stands a.state.now a.piece.now a.ends.now ((let the_ends_bytes : Bytes c.args.ends.now = bytes_of c.args.ends.now (λ i. (c.slice_known-2-1.given i).fits) in the_ends_bytes)) c.if-state-lt-STATE_BYTES.false ((let the_canon : let x = take state_size c.args.state.now in same (state_bytes (state_of x)) x ≡ true = (let the_written_is : let x = take state_size c.args.state.now in same (state_bytes (state_of x)) x ≡ c.written_as.result = read_written c.args.state.now _ c.read_state-s.ensures _ _ c.place_of-first.ensures c.written_as.ensures in the_written_is) ∙ not-false c.written_as.result c.if-not-written_as.false in the_canon)) ((let the_kept : keeps (state_of (take state_size c.args.state.now)) ≡ true = read_keeps c.args.state.now _ c.read_state-s.ensures _ c.keeps.ensures
-    ∙ not-false c.keeps.result c.if-not-keeps.false in the_kept)) _
+    cut_stands a.state.now a.piece.now a.ends.now ((let the_ends_bytes : Bytes c.args.ends.now = bytes_of c.args.ends.now (λ i. (c.slice_known-2-1.given i).fits) in the_ends_bytes)) c.if-state-lt-STATE_BYTES.false ((let the_canon : let x = take state_size c.args.state.now in same (state_bytes (state_of x)) x ≡ true = (let the_written_is : let x = take state_size c.args.state.now in same (state_bytes (state_of x)) x ≡ c.written_as.result = read_written c.args.state.now _ c.read_state-s.ensures _ _ c.place_of-first.ensures c.written_as.ensures in the_written_is) ∙ c.if-not-written_as.false in the_canon)) ((let the_kept : keeps (state_of (take state_size c.args.state.now)) ≡ true = read_keeps c.args.state.now _ c.read_state-s.ensures _ c.keeps.ensures
+    ∙ c.if-not-keeps.false in the_kept)) _
     (read_refusal a.state.now _ c.read_state-s.ensures _ c.in-Refuse.is)
 
 pub returns-then-ends-piece : goal.returns-then-ends-piece
 returns-then-ends-piece c =
     let a = c.args in
-    cut_short a.state.now a.piece.now a.ends.now ((let the_ends_bytes : Bytes c.args.ends.now = bytes_of c.args.ends.now (λ i. (c.slice_known-2-1.given i).fits) in the_ends_bytes)) c.if-state-lt-STATE_BYTES.false ((let the_canon : let x = take state_size c.args.state.now in same (state_bytes (state_of x)) x ≡ true = (let the_written_is : let x = take state_size c.args.state.now in same (state_bytes (state_of x)) x ≡ c.written_as.result = read_written c.args.state.now _ c.read_state-s.ensures _ _ c.place_of-first.ensures c.written_as.ensures in the_written_is) ∙ not-false c.written_as.result c.if-not-written_as.false in the_canon)) ((let the_kept : keeps (state_of (take state_size c.args.state.now)) ≡ true = read_keeps c.args.state.now _ c.read_state-s.ensures _ c.keeps.ensures
-    ∙ not-false c.keeps.result c.if-not-keeps.false in the_kept))
+    cut_short a.state.now a.piece.now a.ends.now ((let the_ends_bytes : Bytes c.args.ends.now = bytes_of c.args.ends.now (λ i. (c.slice_known-2-1.given i).fits) in the_ends_bytes)) c.if-state-lt-STATE_BYTES.false ((let the_canon : let x = take state_size c.args.state.now in same (state_bytes (state_of x)) x ≡ true = (let the_written_is : let x = take state_size c.args.state.now in same (state_bytes (state_of x)) x ≡ c.written_as.result = read_written c.args.state.now _ c.read_state-s.ensures _ _ c.place_of-first.ensures c.written_as.ensures in the_written_is) ∙ c.if-not-written_as.false in the_canon)) ((let the_kept : keeps (state_of (take state_size c.args.state.now)) ≡ true = read_keeps c.args.state.now _ c.read_state-s.ensures _ c.keeps.ensures
+    ∙ c.if-not-keeps.false in the_kept))
     (read_refusal a.state.now _ c.read_state-s.ensures _ c.in_default.is) c.if-ends-piece.true
 
 pub walk_sized-walked-requires : goal.walk_sized-walked-requires
 walk_sized-walked-requires c =
     let t = c.read_state-s in (
       open_keeps t.result _ c.place_of-first.ensures c.in_default.is
-          (sym c.keeps.ensures ∙ not-false c.keeps.result c.if-not-keeps.false),
+          (sym c.keeps.ensures ∙ c.if-not-keeps.false),
       c.if-ends-piece.false,
     )
 
@@ -63,8 +62,8 @@ put_refused-requires c =
 pub returns-in-Refuse-check : goal.returns-in-Refuse-check
 returns-in-Refuse-check c =
     let a = c.args in
-    cut_refuses a.state.now a.piece.now a.ends.now ((let the_ends_bytes : Bytes c.args.ends.now = bytes_of c.args.ends.now (λ i. (c.slice_known-2-1.given i).fits) in the_ends_bytes)) c.if-state-lt-STATE_BYTES.false ((let the_canon : let x = take state_size c.args.state.now in same (state_bytes (state_of x)) x ≡ true = (let the_written_is : let x = take state_size c.args.state.now in same (state_bytes (state_of x)) x ≡ c.written_as.result = read_written c.args.state.now _ c.read_state-s.ensures _ _ c.place_of-first.ensures c.written_as.ensures in the_written_is) ∙ not-false c.written_as.result c.if-not-written_as.false in the_canon)) ((let the_kept : keeps (state_of (take state_size c.args.state.now)) ≡ true = read_keeps c.args.state.now _ c.read_state-s.ensures _ c.keeps.ensures
-    ∙ not-false c.keeps.result c.if-not-keeps.false in the_kept))
+    cut_refuses a.state.now a.piece.now a.ends.now ((let the_ends_bytes : Bytes c.args.ends.now = bytes_of c.args.ends.now (λ i. (c.slice_known-2-1.given i).fits) in the_ends_bytes)) c.if-state-lt-STATE_BYTES.false ((let the_canon : let x = take state_size c.args.state.now in same (state_bytes (state_of x)) x ≡ true = (let the_written_is : let x = take state_size c.args.state.now in same (state_bytes (state_of x)) x ≡ c.written_as.result = read_written c.args.state.now _ c.read_state-s.ensures _ _ c.place_of-first.ensures c.written_as.ensures in the_written_is) ∙ c.if-not-written_as.false in the_canon)) ((let the_kept : keeps (state_of (take state_size c.args.state.now)) ≡ true = read_keeps c.args.state.now _ c.read_state-s.ensures _ c.keeps.ensures
+    ∙ c.if-not-keeps.false in the_kept))
     (read_refusal a.state.now _ c.read_state-s.ensures _ c.in_default.is) c.if-ends-piece.false _ c.read_state-s.ensures _ c.place_of-first.ensures _ _ _
     c.walk_sized-walked.ensures _ c.in-Refuse-check.is c.put_refused.ensures
 
@@ -75,7 +74,7 @@ put_numbers-requires c =
 pub returns : goal.returns
 returns c =
     let a = c.args in
-    cut_done a.state.now a.piece.now a.ends.now ((let the_ends_bytes : Bytes c.args.ends.now = bytes_of c.args.ends.now (λ i. (c.slice_known-2-1.given i).fits) in the_ends_bytes)) c.if-state-lt-STATE_BYTES.false ((let the_canon : let x = take state_size c.args.state.now in same (state_bytes (state_of x)) x ≡ true = (let the_written_is : let x = take state_size c.args.state.now in same (state_bytes (state_of x)) x ≡ c.written_as.result = read_written c.args.state.now _ c.read_state-s.ensures _ _ c.place_of-first.ensures c.written_as.ensures in the_written_is) ∙ not-false c.written_as.result c.if-not-written_as.false in the_canon)) ((let the_kept : keeps (state_of (take state_size c.args.state.now)) ≡ true = read_keeps c.args.state.now _ c.read_state-s.ensures _ c.keeps.ensures
-    ∙ not-false c.keeps.result c.if-not-keeps.false in the_kept))
+    cut_done a.state.now a.piece.now a.ends.now ((let the_ends_bytes : Bytes c.args.ends.now = bytes_of c.args.ends.now (λ i. (c.slice_known-2-1.given i).fits) in the_ends_bytes)) c.if-state-lt-STATE_BYTES.false ((let the_canon : let x = take state_size c.args.state.now in same (state_bytes (state_of x)) x ≡ true = (let the_written_is : let x = take state_size c.args.state.now in same (state_bytes (state_of x)) x ≡ c.written_as.result = read_written c.args.state.now _ c.read_state-s.ensures _ _ c.place_of-first.ensures c.written_as.ensures in the_written_is) ∙ c.if-not-written_as.false in the_canon)) ((let the_kept : keeps (state_of (take state_size c.args.state.now)) ≡ true = read_keeps c.args.state.now _ c.read_state-s.ensures _ c.keeps.ensures
+    ∙ c.if-not-keeps.false in the_kept))
     (read_refusal a.state.now _ c.read_state-s.ensures _ c.in_default.is) c.if-ends-piece.false _ c.read_state-s.ensures _ c.place_of-first.ensures _ _ _
     c.walk_sized-walked.ensures c.in_default-check.is c.put_numbers.ensures

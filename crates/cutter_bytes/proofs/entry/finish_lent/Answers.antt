@@ -1,6 +1,5 @@
 -- `cutter_bytes::entry::finish_lent` meets its contract. Assumes nothing.
 use mathlib.Core.Path.{subst, ◌∙◌}
-use borrow.Author.Tests.{not-true, not-false}
 use Rattle.format.specs.declared.Cutter.{Cutter}
 use Rattle.format.specs.Promises.{Finished}
 use Rattle.cutter_bytes.proofs.Entering.{short_broken, other_broken, read_few, read_written, finish_broken, finish_read}
@@ -18,12 +17,12 @@ returns-then-not-written_as c =
     finish_broken state
     (other_broken state
     (read_written state _ c.read_state-s.ensures _ _ c.place_of.ensures c.written_as.ensures
-    ∙ not-true c.written_as.result c.if-not-written_as.true))
+    ∙ c.if-not-written_as.true))
 
 pub returns : goal.returns
 returns c =
     let state = c.args.state.now in
     finish_read state c.if-state-lt-STATE_BYTES.false
     (read_written state _ c.read_state-s.ensures _ _ c.place_of.ensures c.written_as.ensures
-    ∙ not-false c.written_as.result c.if-not-written_as.false)
+    ∙ c.if-not-written_as.false)
     _ (subst (λ (t : Cutter). Finished t c.finish.result) c.read_state-s.ensures c.finish.ensures)

@@ -1,2 +1,0 @@
--- The arms of the match on a kind.
-pub mod EncodeArms
