@@ -55,10 +55,3 @@ wide_bytes kind e = go (sort kind e)
   where
     go : Bytes kind → WideKind kind
     go (bytes w o) = w
-
--- the last arm of a match that names them all
-pub all_named : (kind : Kind) → bytewise kind ≡ true → OneOf other_keys (tag_of the_type kind) → ⊥
-all_named kind e = go (sort kind e)
-  where
-    go : Bytes kind → OneOf other_keys (tag_of the_type kind) → ⊥
-    go (bytes w o) = o

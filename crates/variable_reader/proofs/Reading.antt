@@ -13,21 +13,14 @@ use Rattle.format.specs.declared.RowFault.{RowFault}
 use Rattle.format.specs.declared.RowFault.TheVariants.{Cut, Padding, TooLong}
 use Rattle.format.specs.declared.FieldRead.TheVariants.{Value, Fault}
 use Rattle.format.specs.Limits.{max_slot}
-use Rattle.format.specs.Field.{directed, block_size}
+use Rattle.format.specs.Field.{block_size}
 use Rattle.format.specs.Read.{Parsed, got, fault, all_zero, from_bad, read_block, read_blocks}
-use Rattle.laws.proofs.Directed.{length_directed}
-use Rattle.variable_reader.specs.Counted.{blocks_read, block_at, counted, LastCounted}
+use Rattle.variable_reader.specs.Counted.{block_at, counted, LastCounted}
 use Rattle.number.proofs.Tops.{drop_take}
 
 -- what is read from block k on, at a place of t, with c bytes of the value before
 abbrev pub Rest : List ℕ → ℕ → ℕ → ℕ → Parsed (List ℕ)
 Rest t at k c = read_blocks block_size max_slot (length t - 1 - k) k c (drop at t)
-
--- from the first block on
-pub rest_start : (d : Bool) (row : List ℕ) → blocks_read d row ≡ Rest (directed d row) 1 0 0
-rest_start d row =
-    ap (λ (n : ℕ). read_blocks block_size max_slot n 0 0 (drop 1 (directed d row))) {x = length row - 1} {y = length (directed d row) - 1 - 0}
-    (omega (arith, length_directed d row))
 
 -- ---- the block at a place
 
