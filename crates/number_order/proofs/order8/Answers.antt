@@ -21,6 +21,6 @@ pub returns : goal.returns
 returns c =
     let A = c.args in
     spelled_order
-    (keyed A.coding A.a.now A.i _ (λ i. (c.shared_slice_known-1.given i).fits) c.requires.i_in_bounds.0 c.encode8.ensures)
-    (keyed A.coding A.b.now A.j _ (λ i. (c.shared_slice_known-2-1.given i).fits) c.requires.i_in_bounds.1 c.encode8-2.ensures)
+    (keyed A.coding A.a.now A.i _ (λ i. (c.type_inv.a i).fits) c.requires.i_in_bounds.0 c.encode8.ensures)
+    (keyed A.coding A.b.now A.j _ (λ i. (c.type_inv.b i).fits) c.requires.i_in_bounds.1 c.encode8-2.ensures)
     c.encode8.type_inv c.encode8-2.type_inv c.order.ensures

@@ -7,5 +7,5 @@ use Rattle.number_order.proofs.spelled16.Goals as goal
 pub returns : goal.returns
 returns c =
     let A = c.args in
-    spelled 2 (coding_key A.coding) A.fold A.s.now (A.i * 2) (λ i. (c.shared_slice_known-1.given i).fits) c.requires _ _ _ _
+    spelled 2 (coding_key A.coding) A.fold A.s.now (A.i * 2) (λ i. (c.type_inv.s i).fits) c.requires _ _ _ _
     c.low16.type_inv c.low16.ensures c.folded16.ensures c.encode16.ensures c.encode16-2.ensures

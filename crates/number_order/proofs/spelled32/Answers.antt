@@ -7,5 +7,5 @@ use Rattle.number_order.proofs.spelled32.Goals as goal
 pub returns : goal.returns
 returns c =
     let A = c.args in
-    spelled 4 (coding_key A.coding) A.fold A.s.now (A.i * 4) (λ i. (c.shared_slice_known-1.given i).fits) c.requires _ _ _ _
+    spelled 4 (coding_key A.coding) A.fold A.s.now (A.i * 4) (λ i. (c.type_inv.s i).fits) c.requires _ _ _ _
     c.low32.type_inv c.low32.ensures c.folded32.ensures c.encode32.ensures c.encode32-2.ensures

@@ -7,5 +7,5 @@ use Rattle.number_order.proofs.spelled64.Goals as goal
 pub returns : goal.returns
 returns c =
     let A = c.args in
-    spelled 8 (coding_key A.coding) A.fold A.s.now (A.i * 8) (λ i. (c.shared_slice_known-1.given i).fits) c.requires _ _ _ _
+    spelled 8 (coding_key A.coding) A.fold A.s.now (A.i * 8) (λ i. (c.type_inv.s i).fits) c.requires _ _ _ _
     c.low64.type_inv c.low64.ensures c.folded64.ensures c.encode64.ensures c.encode64-2.ensures

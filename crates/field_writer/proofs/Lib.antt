@@ -1,2 +1,0 @@
--- What the proofs of this crate share: fields by the kind of their column.
-pub mod Values
