@@ -1,7 +1,5 @@
 -- `cutter::entry::finish` meets its contract. Assumes nothing.
-use mathlib.Core.Path.{◌≡◌, sym, ◌∙◌}
-use mathlib.Core.Bool.{true}
-use Rattle.format.specs.CutterRule.{keeps}
+use mathlib.Core.Path.{sym, ◌∙◌}
 use Rattle.cutter.proofs.Entering.{finish_broken, finish_stands, finish_within, finish_done}
 use Rattle.cutter.proofs.entry.finish.Goals as goal
 
@@ -11,12 +9,12 @@ returns-then-not-keeps c =
 
 pub returns-in-Refuse : goal.returns-in-Refuse
 returns-in-Refuse c =
-    finish_stands c.args.state ((let the_keeping : keeps c.args.state ≡ true = sym c.keeps.ensures ∙ c.if-not-keeps.false in the_keeping)) _ c.in-Refuse.is
+    finish_stands c.args.state (sym c.keeps.ensures ∙ c.if-not-keeps.false) _ c.in-Refuse.is
 
 pub returns-then-row-gt0 : goal.returns-then-row-gt0
 returns-then-row-gt0 c =
-    finish_within c.args.state ((let the_keeping : keeps c.args.state ≡ true = sym c.keeps.ensures ∙ c.if-not-keeps.false in the_keeping)) c.in_default.is c.if-row-gt0.true
+    finish_within c.args.state (sym c.keeps.ensures ∙ c.if-not-keeps.false) c.in_default.is c.if-row-gt0.true
 
 pub returns : goal.returns
 returns c =
-    finish_done c.args.state ((let the_keeping : keeps c.args.state ≡ true = sym c.keeps.ensures ∙ c.if-not-keeps.false in the_keeping)) c.in_default.is c.if-row-gt0.false
+    finish_done c.args.state (sym c.keeps.ensures ∙ c.if-not-keeps.false) c.in_default.is c.if-row-gt0.false
