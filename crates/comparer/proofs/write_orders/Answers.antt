@@ -56,7 +56,7 @@ slice_bounds-order_slots-start-in-loop-c c =
 pub order_slots-found-requires : goal.order_slots-found-requires
 order_slots-found-requires c =
     let A = c.args in
-    rw (part_rest A.sheet.now ((get_or c.args.t4 c.loop-c.c no_facts)).base, part_rest A.other.now ((get_or c.args.t7 c.loop-c.c no_facts)).base) (
+    record { n_le_max_rows = rw (part_rest A.sheet.now ((get_or c.args.t4 c.loop-c.c no_facts)).base, part_rest A.other.now ((get_or c.args.t7 c.loop-c.c no_facts)).base) (
       (c.requires.n_le_max_rows.0, (let the_first_below : c.row_at-i.result < c.args.n = omega (arith, c.row_at-i.ensures, c.requires.in_sheets.first c.loop-k.k ((let the_pair_below : c.loop-k.k < pair_count ((pair_rows c.args.numbers.now c.args.bytes.now)) = omega (arith, c.pair_count-pairs.ensures, c.loop-k-test.true) in the_pair_below))) in the_first_below)),
       (
         (c.requires.n_le_max_rows.1, (let the_second_below : c.row_at-j.result < c.args.m = omega (arith, c.row_at-j.ensures, c.requires.in_sheets.second c.loop-k.k ((let the_pair_below : c.loop-k.k < pair_count ((pair_rows c.args.numbers.now c.args.bytes.now)) = omega (arith, c.pair_count-pairs.ensures, c.loop-k-test.true) in the_pair_below))) in the_second_below)),
@@ -67,7 +67,40 @@ order_slots-found-requires c =
     subst (λ (col : Column). Stands col c.args.m j ((get_or c.args.t7 c.loop-c.c no_facts)).base c.args.other.now) (known.column ∙ sym (c.requires.known j ((let the_below : c.loop-c.c < length (cols_of c.args.schema) = omega (arith, (let the_many : length (cols_of c.args.schema) ≡ c.args.schema.count = in_use c.args.schema c.well_formed.0 c.requires.count_le_max_columns in the_many), c.loop-c-test.true) in the_below))).column) known.stands in the_others_stand)),
         ),
       ),
-    )
+    ); m_le_max_rows = rw (part_rest A.sheet.now ((get_or c.args.t4 c.loop-c.c no_facts)).base, part_rest A.other.now ((get_or c.args.t7 c.loop-c.c no_facts)).base) (
+      (c.requires.n_le_max_rows.0, (let the_first_below : c.row_at-i.result < c.args.n = omega (arith, c.row_at-i.ensures, c.requires.in_sheets.first c.loop-k.k ((let the_pair_below : c.loop-k.k < pair_count ((pair_rows c.args.numbers.now c.args.bytes.now)) = omega (arith, c.pair_count-pairs.ensures, c.loop-k-test.true) in the_pair_below))) in the_first_below)),
+      (
+        (c.requires.n_le_max_rows.1, (let the_second_below : c.row_at-j.result < c.args.m = omega (arith, c.row_at-j.ensures, c.requires.in_sheets.second c.loop-k.k ((let the_pair_below : c.loop-k.k < pair_count ((pair_rows c.args.numbers.now c.args.bytes.now)) = omega (arith, c.pair_count-pairs.ensures, c.loop-k-test.true) in the_pair_below))) in the_second_below)),
+        (
+          stands_passes A.n c.loop-c.c ((get_or c.args.t4 c.loop-c.c no_facts)).base ((get_or c.args.t4 c.loop-c.c no_facts)).column A.sheet.now ((let the_stands : Stands ((get_or c.args.t4 c.loop-c.c no_facts)).column c.args.n c.loop-c.c ((get_or c.args.t4 c.loop-c.c no_facts)).base c.args.sheet.now = (c.requires.known c.loop-c.c ((let the_below : c.loop-c.c < length (cols_of c.args.schema) = omega (arith, (let the_many : length (cols_of c.args.schema) ≡ c.args.schema.count = in_use c.args.schema c.well_formed.0 c.requires.count_le_max_columns in the_many), c.loop-c-test.true) in the_below))).stands in the_stands)),
+          stands_passes A.m c.loop-c.c ((get_or c.args.t7 c.loop-c.c no_facts)).base ((get_or c.args.t4 c.loop-c.c no_facts)).column A.other.now ((let the_others_stand : Stands ((get_or c.args.t4 c.loop-c.c no_facts)).column c.args.m c.loop-c.c ((get_or c.args.t7 c.loop-c.c no_facts)).base c.args.other.now = let j = c.loop-c.c in
+    let known = c.requires.known_2 j ((let the_below : c.loop-c.c < length (cols_of c.args.schema) = omega (arith, (let the_many : length (cols_of c.args.schema) ≡ c.args.schema.count = in_use c.args.schema c.well_formed.0 c.requires.count_le_max_columns in the_many), c.loop-c-test.true) in the_below)) in
+    subst (λ (col : Column). Stands col c.args.m j ((get_or c.args.t7 c.loop-c.c no_facts)).base c.args.other.now) (known.column ∙ sym (c.requires.known j ((let the_below : c.loop-c.c < length (cols_of c.args.schema) = omega (arith, (let the_many : length (cols_of c.args.schema) ≡ c.args.schema.count = in_use c.args.schema c.well_formed.0 c.requires.count_le_max_columns in the_many), c.loop-c-test.true) in the_below))).column) known.stands in the_others_stand)),
+        ),
+      ),
+    ); passes = rw (part_rest A.sheet.now ((get_or c.args.t4 c.loop-c.c no_facts)).base, part_rest A.other.now ((get_or c.args.t7 c.loop-c.c no_facts)).base) (
+      (c.requires.n_le_max_rows.0, (let the_first_below : c.row_at-i.result < c.args.n = omega (arith, c.row_at-i.ensures, c.requires.in_sheets.first c.loop-k.k ((let the_pair_below : c.loop-k.k < pair_count ((pair_rows c.args.numbers.now c.args.bytes.now)) = omega (arith, c.pair_count-pairs.ensures, c.loop-k-test.true) in the_pair_below))) in the_first_below)),
+      (
+        (c.requires.n_le_max_rows.1, (let the_second_below : c.row_at-j.result < c.args.m = omega (arith, c.row_at-j.ensures, c.requires.in_sheets.second c.loop-k.k ((let the_pair_below : c.loop-k.k < pair_count ((pair_rows c.args.numbers.now c.args.bytes.now)) = omega (arith, c.pair_count-pairs.ensures, c.loop-k-test.true) in the_pair_below))) in the_second_below)),
+        (
+          stands_passes A.n c.loop-c.c ((get_or c.args.t4 c.loop-c.c no_facts)).base ((get_or c.args.t4 c.loop-c.c no_facts)).column A.sheet.now ((let the_stands : Stands ((get_or c.args.t4 c.loop-c.c no_facts)).column c.args.n c.loop-c.c ((get_or c.args.t4 c.loop-c.c no_facts)).base c.args.sheet.now = (c.requires.known c.loop-c.c ((let the_below : c.loop-c.c < length (cols_of c.args.schema) = omega (arith, (let the_many : length (cols_of c.args.schema) ≡ c.args.schema.count = in_use c.args.schema c.well_formed.0 c.requires.count_le_max_columns in the_many), c.loop-c-test.true) in the_below))).stands in the_stands)),
+          stands_passes A.m c.loop-c.c ((get_or c.args.t7 c.loop-c.c no_facts)).base ((get_or c.args.t4 c.loop-c.c no_facts)).column A.other.now ((let the_others_stand : Stands ((get_or c.args.t4 c.loop-c.c no_facts)).column c.args.m c.loop-c.c ((get_or c.args.t7 c.loop-c.c no_facts)).base c.args.other.now = let j = c.loop-c.c in
+    let known = c.requires.known_2 j ((let the_below : c.loop-c.c < length (cols_of c.args.schema) = omega (arith, (let the_many : length (cols_of c.args.schema) ≡ c.args.schema.count = in_use c.args.schema c.well_formed.0 c.requires.count_le_max_columns in the_many), c.loop-c-test.true) in the_below)) in
+    subst (λ (col : Column). Stands col c.args.m j ((get_or c.args.t7 c.loop-c.c no_facts)).base c.args.other.now) (known.column ∙ sym (c.requires.known j ((let the_below : c.loop-c.c < length (cols_of c.args.schema) = omega (arith, (let the_many : length (cols_of c.args.schema) ≡ c.args.schema.count = in_use c.args.schema c.well_formed.0 c.requires.count_le_max_columns in the_many), c.loop-c-test.true) in the_below))).column) known.stands in the_others_stand)),
+        ),
+      ),
+    ); passes_2 = rw (part_rest A.sheet.now ((get_or c.args.t4 c.loop-c.c no_facts)).base, part_rest A.other.now ((get_or c.args.t7 c.loop-c.c no_facts)).base) (
+      (c.requires.n_le_max_rows.0, (let the_first_below : c.row_at-i.result < c.args.n = omega (arith, c.row_at-i.ensures, c.requires.in_sheets.first c.loop-k.k ((let the_pair_below : c.loop-k.k < pair_count ((pair_rows c.args.numbers.now c.args.bytes.now)) = omega (arith, c.pair_count-pairs.ensures, c.loop-k-test.true) in the_pair_below))) in the_first_below)),
+      (
+        (c.requires.n_le_max_rows.1, (let the_second_below : c.row_at-j.result < c.args.m = omega (arith, c.row_at-j.ensures, c.requires.in_sheets.second c.loop-k.k ((let the_pair_below : c.loop-k.k < pair_count ((pair_rows c.args.numbers.now c.args.bytes.now)) = omega (arith, c.pair_count-pairs.ensures, c.loop-k-test.true) in the_pair_below))) in the_second_below)),
+        (
+          stands_passes A.n c.loop-c.c ((get_or c.args.t4 c.loop-c.c no_facts)).base ((get_or c.args.t4 c.loop-c.c no_facts)).column A.sheet.now ((let the_stands : Stands ((get_or c.args.t4 c.loop-c.c no_facts)).column c.args.n c.loop-c.c ((get_or c.args.t4 c.loop-c.c no_facts)).base c.args.sheet.now = (c.requires.known c.loop-c.c ((let the_below : c.loop-c.c < length (cols_of c.args.schema) = omega (arith, (let the_many : length (cols_of c.args.schema) ≡ c.args.schema.count = in_use c.args.schema c.well_formed.0 c.requires.count_le_max_columns in the_many), c.loop-c-test.true) in the_below))).stands in the_stands)),
+          stands_passes A.m c.loop-c.c ((get_or c.args.t7 c.loop-c.c no_facts)).base ((get_or c.args.t4 c.loop-c.c no_facts)).column A.other.now ((let the_others_stand : Stands ((get_or c.args.t4 c.loop-c.c no_facts)).column c.args.m c.loop-c.c ((get_or c.args.t7 c.loop-c.c no_facts)).base c.args.other.now = let j = c.loop-c.c in
+    let known = c.requires.known_2 j ((let the_below : c.loop-c.c < length (cols_of c.args.schema) = omega (arith, (let the_many : length (cols_of c.args.schema) ≡ c.args.schema.count = in_use c.args.schema c.well_formed.0 c.requires.count_le_max_columns in the_many), c.loop-c-test.true) in the_below)) in
+    subst (λ (col : Column). Stands col c.args.m j ((get_or c.args.t7 c.loop-c.c no_facts)).base c.args.other.now) (known.column ∙ sym (c.requires.known j ((let the_below : c.loop-c.c < length (cols_of c.args.schema) = omega (arith, (let the_many : length (cols_of c.args.schema) ≡ c.args.schema.count = in_use c.args.schema c.well_formed.0 c.requires.count_le_max_columns in the_many), c.loop-c-test.true) in the_below))).column) known.stands in the_others_stand)),
+        ),
+      ),
+    ) }
 
 pub loop-c-preserved-then-found-eq-EQUAL : goal.loop-c-preserved-then-found-eq-EQUAL
 loop-c-preserved-then-found-eq-EQUAL c =
