@@ -1,14 +1,14 @@
 -- The field of a slot that is written word by word, over its width and its coding: a lead byte, and the words of the key or those of 0. Assumes
 -- nothing.
-use Prim.Native.Nat.{ℕ, zero, suc, ◌+◌, ◌-◌, ◌*◌, ◌≤◌, ◌<◌, ◌^◌}
+use Prim.Native.Nat.{ℕ, ◌+◌, ◌-◌, ◌*◌, ◌≤◌, ◌<◌}
 use mathlib.Core.Path.{◌≡◌, refl, sym, ap, ap₂, ◌∙◌, subst}
 use mathlib.Core.Bool.{Bool, true, false, cond}
 use mathlib.Core.List.{List, [], ◌∷◌, ◌++◌}
-use mathlib.Core.Logic.{inl, inr}
+use mathlib.Core.Logic.{inl}
 use native.Mathlib.Omega.{arith}
 use borrow.Author.Tests.{ne_eqb}
 use lib.ListN.{length, get_or, set, take, drop, replicate, length-drop, length-replicate}
-use lib.Seq.{sets, length-sets, length-take-le}
+use lib.Seq.{sets, length-take-le}
 use Rattle.format.specs.declared.SortOptions.{SortOptions}
 use Rattle.format.specs.Lists.{low, low_bytes}
 use Rattle.format.specs.Kinds.{Fixed, parts, width}
@@ -28,18 +28,9 @@ use Rattle.number.specs.Codings.{coding_key}
 use Rattle.number.proofs.Words.{read_back}
 use Rattle.part_writer.proofs.Parts.{keyed, part, part_place, parts_more, parts_end}
 use Rattle.number_writer.proofs.Writing.{lead_run, wrote_as}
-use Rattle.number_reader.specs.Words.{WordWidth}
 use Rattle.fixed_decoder.specs.Worded.{coded, worded}
-use Rattle.fixed_decoder.proofs.Storing.{coded_width, word_left, worded_width}
-use Rattle.word_writer.specs.Words.{Slotted, key_bytes, word_field, wide_field}
-
--- ---- one of two, by a test
-
-pub chosen : {b : Bool} {z : ℕ} (x y : ℕ) → b ≡ true → z ≡ x → z ≡ cond b x y
-chosen x y q e = e ∙ sym (ap (λ (t : Bool). cond t x y) q)
-
-pub chosen_other : {b : Bool} {z : ℕ} (x y : ℕ) → b ≡ false → z ≡ y → z ≡ cond b x y
-chosen_other x y q e = e ∙ sym (ap (λ (t : Bool). cond t x y) q)
+use Rattle.fixed_decoder.proofs.Storing.{coded_width, worded_width}
+use Rattle.word_writer.specs.Words.{key_bytes, word_field, wide_field}
 
 -- ---- a word
 
@@ -52,25 +43,6 @@ word_is w c d fold s from known inside x f y z p q k t = t ∙ ap (directed d) (
     go : (b : Bool) → f ≡ cond b (folded_bits w x) x → low_bytes w f ≡ cond b (low_bytes w (folded_bits w (low (take w (drop from s))))) (take w (drop from s))
     go true e = ap (low_bytes w) (e ∙ ap (folded_bits w) p)
     go false e = ap (low_bytes w) e ∙ read_back w s from x known inside p
-
--- 0 is spelled with zeros
-no_bytes : (n : ℕ) → low_bytes n 0 ≡ replicate n 0
-no_bytes zero = refl
-no_bytes (suc n) = ap (λ (l : List ℕ). 0 ∷ l) (no_bytes n)
-
--- u is z, a number of w bytes, or 0
-pub chosen_small : (valid : Bool) (w z u : ℕ) → u ≡ cond valid z 0 → z < 256 ^ w → u < 256 ^ w
-chosen_small true w z u e h = omega arith
-chosen_small false w z u e h = omega arith
-
--- and is stored
-pub word_stored : (valid : Bool) (w z u : ℕ) (x rows last : List ℕ) (at : ℕ) → u ≡ cond valid z 0 → low_bytes w z ≡ x → last ≡ sets rows at (low_bytes w u)
-    → last ≡ sets rows at (cond valid x (replicate w 0))
-word_stored valid w z u x rows last at e p q = q ∙ ap (sets rows at) (ap (low_bytes w) e ∙ go valid)
-  where
-    go : (b : Bool) → low_bytes w (cond b z 0) ≡ cond b x (replicate w 0)
-    go true = p
-    go false = no_bytes w
 
 -- ---- the parts of the interval, stored one after the other
 
@@ -100,25 +72,6 @@ module _ (d : Bool) (s : List ℕ) (from : ℕ) (inside : from + 16 ≤ length s
       (parts_end d s 0 (from + 16) third).bytes
 
 -- ---- the field
-
--- a number of 8 bits is no float
-pub slot_byte : (c : Coding) (w : ℕ) → Slotted c w → w ≡ 1 → c ≡ Float → ⊥
-slot_byte c w (inl h) q = h.1
-slot_byte c w (inr (inl e)) q = omega (arith, e, q)
-slot_byte c w (inr (inr (inl e))) q = omega (arith, e, q)
-slot_byte c w (inr (inr (inr (inl e)))) q = omega (arith, e, q)
-slot_byte c w (inr (inr (inr (inr e)))) q = omega (arith, e, q)
-
--- and words are left
-pub slot_word : (c : Coding) (w : ℕ) → Slotted c w → (w ≡ 16 → ⊥) → (w ≡ 1 → ⊥) → WordWidth w
-slot_word c w (inl h) n m = absurd (m h.0)
-slot_word c w (inr h) n m = word_left w h n
-
--- only floats fold
-unfolded : (c : Coding) (w : ℕ) (b : Bool) → (c ≡ Float → ⊥) → false ≡ folds (coded c w) b
-unfolded Unsigned w b n = refl
-unfolded Signed w b n = refl
-unfolded Float w b n = absurd (n refl)
 
 -- a number that is no interval
 as_coded : (c : Coding) (w : ℕ) → (w ≡ 16 → ⊥) → worded c w ≡ coded c w
@@ -179,25 +132,12 @@ module _ (c : Coding) (w : ℕ) (o : SortOptions) (s : List ℕ) (from : ℕ) (i
       (coded_bytes c w fold o.fold o.descending value (e ∙ ap (λ (k : Fixed). folds k o.fold) is)
       ∙ ap (λ (k : Fixed). value_bytes k o value) (sym is)) g (omega arith)
 
-  pub byte_slot : w ≡ 1 → (c ≡ Float → ⊥)
-      → last ≡ sets (set rows at a) (at + 1) (cond valid (key_bytes c 1 false o.descending (take 1 (drop from s))) (replicate 1 0)) → Slot-wrote (at + 2)
-  byte_slot e n g =
-      let other : w ≡ 16 → ⊥ = λ q. omega (arith, e, q) in
-      subst Slot-wrote {x = at + 1 + w} {y = at + 2} (omega (arith, e))
-      (word_slot false (unfolded c w o.fold n ∙ ap (λ (k : Fixed). folds k o.fold) (sym (as_coded c w other))) other
-      (subst (λ (n : ℕ). last ≡ sets (set rows at a) (at + 1) (cond valid (key_bytes c n false o.descending (take n (drop from s))) (replicate n 0)))
-      (sym e) g))
-
   pub interval_slot : w ≡ 16
       → last ≡ sets (set rows at a) (at + 1) (cond valid (keyed o.descending s (4 ∷ 4 ∷ 8 ∷ []) 16 from) (replicate 16 0)) → Slot-wrote (at + 17)
   interval_slot e g =
       stored (at + 17) (keyed o.descending s (4 ∷ 4 ∷ 8 ∷ []) w from) (worded_width c w (inl e)) (ap (λ (n : ℕ). value_bytes (worded c n) o value) (sym e))
       (subst (λ (n : ℕ). last ≡ sets (set rows at a) (at + 1) (cond valid (keyed o.descending s (4 ∷ 4 ∷ 8 ∷ []) n from) (replicate n 0))) (sym e) g)
       (omega (arith, e))
-
--- no byte more or less
-pub wrote_same : {f : List ℕ} {at : ℕ} {out last : List ℕ} {next : ℕ} → Wrote f at out last next → length last ≡ length out
-wrote_same {f} {at} {out} p = ap length p.bytes ∙ length-sets out at f
 
 -- ---- in its column
 

@@ -1,18 +1,6 @@
 -- `word_writer::put_interval` meets its contract: the parts are stored one after the other. Assumes nothing.
-use mathlib.Core.Path.{refl}
-use mathlib.Core.Logic.{inl, inr}
-use native.Mathlib.Omega.{arith}
 use Rattle.word_writer.proofs.Keyed.{interval_stored}
 use Rattle.word_writer.proofs.put_interval.Goals as goal
-
-pub put_word-requires : goal.put_word-requires
-put_word-requires c = record { word_width = inr (inl refl); width_in_bounds = omega arith; width_in_bounds_2 = omega arith }
-
-pub put_word-requires-2 : goal.put_word-requires-2
-put_word-requires-2 c = record { word_width = inr (inl refl); width_in_bounds = omega arith; width_in_bounds_2 = omega arith }
-
-pub put_word-requires-3 : goal.put_word-requires-3
-put_word-requires-3 c = record { word_width = inr (inr refl); width_in_bounds = omega arith; width_in_bounds_2 = omega arith }
 
 pub returns : goal.returns
 returns c =
