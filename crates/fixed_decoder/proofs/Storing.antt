@@ -1,5 +1,5 @@
 -- The slot of a field that is decoded word by word: its words, or those of 0. Assumes nothing.
-use Prim.Native.Nat.{ℕ, suc, ◌+◌, ◌^◌, ◌≤◌, ◌<◌}
+use Prim.Native.Nat.{ℕ, suc, ◌+◌, ◌≤◌}
 use mathlib.Core.Path.{◌≡◌, refl, sym, ap, ap₂, ◌∙◌, subst}
 use mathlib.Core.Bool.{Bool, true, false, cond, not}
 use mathlib.Core.Logic.{inl, inr}
@@ -25,18 +25,6 @@ use Rattle.fixed_reader.proofs.Standing.{stands, keyIn}
 use Rattle.fixed_decoder.specs.Worded.{Worded, coded, worded}
 
 -- ---- a word that is stored
-
-pub chosen : {b : Bool} {z : ℕ} (v : ℕ) → b ≡ false → z ≡ v → z ≡ cond b 0 v
-chosen v q e = e ∙ sym (ap (λ (t : Bool). cond t 0 v) q)
-
--- z is v, a number of n bytes, or 0
-pub chosen_small : (b : Bool) (n v z : ℕ) → z ≡ cond b 0 v → v < 256 ^ n → z < 256 ^ n
-chosen_small true n v z e h = omega arith
-chosen_small false n v z e h = omega arith
-
--- ---- the parts of the interval, stored one after the other
-
-module _ (d : Bool) (row : List ℕ) (inside : 17 ≤ length row) (out : List ℕ) (at : ℕ) where
 
 -- ---- what they are of a field
 
