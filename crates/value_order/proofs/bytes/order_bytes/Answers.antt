@@ -3,12 +3,12 @@ use Prim.Native.Nat.Ordering.{eq}
 use Prim.Native.Nat.Ordering.{gt}
 use Prim.Native.Nat.Ordering.{lt}
 use Prim.Native.Nat.{Ordering}
-use mathlib.Core.Path.{◌≡◌, refl, ap, sym, ◌∙◌}
+use mathlib.Core.Path.{◌≡◌, refl}
 use native.Mathlib.Omega.{arith}
 use mir.Syntax.{w32}
 use mir.Val.{of_z}
 use Rattle.format.specs.Order.{cmp}
-use Rattle.format.specs.Entries.{sign}
+use Rattle.format.specs.Entries.{sign, compare_answer}
 use Rattle.format.specs.CompareSheets.{rank}
 use Rattle.value_order.proofs.bytes.order_bytes.Goals as goal
 
@@ -28,11 +28,15 @@ below eq n p = absurd (n refl)
 below gt n p = absurd (p refl)
 
 pub returns-then-found-eq0 : goal.returns-then-found-eq0
-returns-then-found-eq0 c = record { says = equal ((let args = c.args in cmp args.a.now args.b.now)) ((let the_said : of_z w32 (sign ((let args = c.args in cmp args.a.now args.b.now))) ≡ of_z w32 c.compare-found.result = ap (of_z w32) (sym c.compare-found.ensures.answers) in the_said) ∙ c.if-found-eq0.true) }
+unfolding compare_answer
+returns-then-found-eq0 c = record { says = equal (cmp c.args.a.now c.args.b.now) (rw c.compare-found.ensures.answers at c.if-found-eq0.true) }
 
 pub returns-then-found-eq1 : goal.returns-then-found-eq1
-returns-then-found-eq1 c = record { says = above ((let args = c.args in cmp args.a.now args.b.now)) ((let the_said : of_z w32 (sign ((let args = c.args in cmp args.a.now args.b.now))) ≡ of_z w32 c.compare-found.result = ap (of_z w32) (sym c.compare-found.ensures.answers) in the_said) ∙ c.if-found-eq1.true) }
+unfolding compare_answer
+returns-then-found-eq1 c = record { says = above (cmp c.args.a.now c.args.b.now) (rw c.compare-found.ensures.answers at c.if-found-eq1.true) }
 
 pub returns-else-found-eq1 : goal.returns-else-found-eq1
+unfolding compare_answer
 returns-else-found-eq1 c =
-    record { says = below ((let args = c.args in cmp args.a.now args.b.now)) (λ e. c.if-found-eq0.false (sym ((let the_said : of_z w32 (sign ((let args = c.args in cmp args.a.now args.b.now))) ≡ of_z w32 c.compare-found.result = ap (of_z w32) (sym c.compare-found.ensures.answers) in the_said)) ∙ e)) (λ e. c.if-found-eq1.false (sym ((let the_said : of_z w32 (sign ((let args = c.args in cmp args.a.now args.b.now))) ≡ of_z w32 c.compare-found.result = ap (of_z w32) (sym c.compare-found.ensures.answers) in the_said)) ∙ e)) }
+    let said = c.compare-found.ensures.answers in
+    record { says = below (cmp c.args.a.now c.args.b.now) (rw said at c.if-found-eq0.false) (rw said at c.if-found-eq1.false) }
