@@ -1,3 +1,2 @@
--- What the proofs on two values and two slots share.
-pub mod Arms
+-- What the proofs on two slots cite.
 pub mod Values

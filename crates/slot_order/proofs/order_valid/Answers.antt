@@ -1,9 +1,8 @@
 -- `slot_order::order_valid` meets its contract: values compare by their keys, and descending reverses that. Assumes nothing.
-use Prim.Native.Nat.{ℕ, ◌-◌, ◌<◌, ◌≤◌}
+use Prim.Native.Nat.{ℕ, ◌-◌, ◌<◌}
 use mathlib.Core.Path.{◌≡◌, ap, ◌∙◌}
 use mathlib.Core.Bool.{false}
 use mathlib.Core.List.{List}
-use native.Mathlib.Omega.{arith}
 use lib.ListN.{length, get_or, take, drop}
 use Rattle.format.specs.declared.Column.{Column}
 use Rattle.format.specs.Limits.{max_slot}
@@ -14,11 +13,11 @@ use Rattle.format.specs.Passed.{Passes}
 use Rattle.basics.proofs.Bytes.{bytes_drop, bytes_of}
 use Rattle.basics.proofs.Sorts.{signs}
 use Rattle.laws.proofs.Parts.{part_rest}
-use Rattle.laws.proofs.Sheets.{valid_bytes, value_fits}
+use Rattle.laws.proofs.Sheets.{value_fits}
 use Rattle.sheet_slots.proofs.Values.{values_pass}
 use Rattle.number_order.specs.Orders.{value_key, Ordered}
 use Rattle.number_order.proofs.Spelled.{ordered_as}
-use Rattle.value_order.proofs.Values.{values_rise, values_fall, at_most_two}
+use Rattle.value_order.proofs.Values.{values_rise, values_fall}
 use Rattle.slot_order.proofs.order_valid.Goals as goal
 
 -- the value of row i of n in a column in front of s, after its validity bytes
@@ -35,76 +34,27 @@ fits col n s i known h l =
 lent : (n k : ℕ) (s : List ℕ) → k ≡ packed n → take (length s - k) (drop k s) ≡ drop (packed n) s
 lent n k s e = ap (λ (j : ℕ). take (length s - j) (drop j s)) e ∙ part_rest s (packed n)
 
-pub slice_bounds-order_values-count : goal.slice_bounds-order_values-count
-slice_bounds-order_values-count c = 
-    omega (arith, ((let the_there : (packed c.args.n ≤ length c.args.a.now) × (packed c.args.m ≤ length c.args.b.now) = (
-  valid_bytes false (layout c.args.column) c.args.n c.args.a.now c.requires.passes,
-  valid_bytes false (layout c.args.column) c.args.m c.args.b.now c.requires.passes_2,
-) in the_there)).0, c.packed-from.ensures.0)
-
-pub slice_bounds-order_values-start : goal.slice_bounds-order_values-start
-slice_bounds-order_values-start c = 
-    omega (arith, ((let the_there : (packed c.args.n ≤ length c.args.a.now) × (packed c.args.m ≤ length c.args.b.now) = (
-  valid_bytes false (layout c.args.column) c.args.n c.args.a.now c.requires.passes,
-  valid_bytes false (layout c.args.column) c.args.m c.args.b.now c.requires.passes_2,
-) in the_there)).0, c.packed-from.ensures.0)
-
-pub slice_bounds-order_values-count-2 : goal.slice_bounds-order_values-count-2
-slice_bounds-order_values-count-2 c = 
-    omega (arith, ((let the_there : (packed c.args.n ≤ length c.args.a.now) × (packed c.args.m ≤ length c.args.b.now) = (
-  valid_bytes false (layout c.args.column) c.args.n c.args.a.now c.requires.passes,
-  valid_bytes false (layout c.args.column) c.args.m c.args.b.now c.requires.passes_2,
-) in the_there)).1, c.packed-start.ensures.0)
-
-pub slice_bounds-order_values-start-2 : goal.slice_bounds-order_values-start-2
-slice_bounds-order_values-start-2 c = 
-    omega (arith, ((let the_there : (packed c.args.n ≤ length c.args.a.now) × (packed c.args.m ≤ length c.args.b.now) = (
-  valid_bytes false (layout c.args.column) c.args.n c.args.a.now c.requires.passes,
-  valid_bytes false (layout c.args.column) c.args.m c.args.b.now c.requires.passes_2,
-) in the_there)).1, c.packed-start.ensures.0)
-
-pub order_values-found-requires : goal.order_values-found-requires
-order_values-found-requires c =
-    let A = c.args in
-    rw (lent A.n _ A.a.now c.packed-from.ensures.0, lent A.m _ A.b.now c.packed-start.ensures.0) (
-      c.requires.n_le_max_rows,
-      (
-        c.requires.m_le_max_rows,
-        (values_pass (layout A.column) A.n A.a.now c.requires.passes, values_pass (layout A.column) A.m A.b.now c.requires.passes_2),
-      ),
-    )
-
-pub overflow_sub-result : goal.overflow_sub-result
-overflow_sub-result c = 
-    omega (arith, at_most_two ((let the_found : let A = c.args in let key_of = value_key (column_shape A.column) A.column.options.fold in Ordered (key_of (value A.column A.n A.a.now A.i)) (key_of (value A.column A.m A.b.now A.j)) c.order_values-found.result = let A = c.args in
-    ordered_as c.order_values-found.ensures
-    (ap (λ (s : List ℕ). value_key (column_shape A.column) A.column.options.fold (value_at (layout A.column) A.n s A.i))
-    (lent A.n _ A.a.now c.packed-from.ensures.0))
-    (ap (λ (s : List ℕ). value_key (column_shape A.column) A.column.options.fold (value_at (layout A.column) A.m s A.j))
-    (lent A.m _ A.b.now c.packed-start.ensures.0)) in the_found)))
+-- the values in front of what is lent are those of the columns
+lent_ordered : (col : Column) (n k : ℕ) (a : List ℕ) (i m l : ℕ) (b : List ℕ) (j : ℕ) {r : ℕ} → let key_of = value_key (column_shape col) col.options.fold in
+    k ≡ packed n → l ≡ packed m
+    → Ordered (key_of (value_at (layout col) n (take (length a - k) (drop k a)) i)) (key_of (value_at (layout col) m (take (length b - l) (drop l b)) j)) r
+    → Ordered (key_of (value col n a i)) (key_of (value col m b j)) r
+lent_ordered col n k a i m l b j p q o = rw (← lent n k a p, ← lent m l b q) o
 
 pub returns-then-column : goal.returns-then-column
 returns-then-column c =
     let A = c.args in
-    values_fall (column_shape A.column) A.column.options (value A.column A.n A.a.now A.i) (value A.column A.m A.b.now A.j)
-    (signs A.column.kind) ((let the_first_fits : let A = c.args in Fits max_slot (column_shape A.column) false (value A.column A.n A.a.now A.i) = let A = c.args in
-    fits A.column A.n A.a.now A.i (λ i. (c.shared_slice_known-1.given i).fits) c.requires.passes c.requires.n_le_max_rows.1 in the_first_fits)) ((let the_second_fits : let A = c.args in Fits max_slot (column_shape A.column) false (value A.column A.m A.b.now A.j) = let A = c.args in
-    fits A.column A.m A.b.now A.j (λ i. (c.shared_slice_known-2-1.given i).fits) c.requires.passes_2 c.requires.m_le_max_rows.1 in the_second_fits)) ((let the_found : let A = c.args in let key_of = value_key (column_shape A.column) A.column.options.fold in Ordered (key_of (value A.column A.n A.a.now A.i)) (key_of (value A.column A.m A.b.now A.j)) c.order_values-found.result = let A = c.args in
-    ordered_as c.order_values-found.ensures
-    (ap (λ (s : List ℕ). value_key (column_shape A.column) A.column.options.fold (value_at (layout A.column) A.n s A.i))
-    (lent A.n _ A.a.now c.packed-from.ensures.0))
-    (ap (λ (s : List ℕ). value_key (column_shape A.column) A.column.options.fold (value_at (layout A.column) A.m s A.j))
-    (lent A.m _ A.b.now c.packed-start.ensures.0)) in the_found)) c.if-column.true
+    values_fall (column_shape A.column) A.column.options _ _ (signs A.column.kind)
+    (fits A.column A.n A.a.now A.i (λ i. (c.type_inv.a i).fits) c.requires.passes c.requires.n_le_max_rows.1)
+    (fits A.column A.m A.b.now A.j (λ i. (c.type_inv.b i).fits) c.requires.passes_2 c.requires.m_le_max_rows.1)
+    (lent_ordered A.column A.n _ A.a.now A.i A.m _ A.b.now A.j c.packed-from.ensures.0 c.packed-start.ensures.0 c.order_values-found.ensures)
+    c.if-column.true
 
 pub returns : goal.returns
 returns c =
     let A = c.args in
-    values_rise (column_shape A.column) A.column.options (value A.column A.n A.a.now A.i) (value A.column A.m A.b.now A.j)
-    (signs A.column.kind) ((let the_first_fits : let A = c.args in Fits max_slot (column_shape A.column) false (value A.column A.n A.a.now A.i) = let A = c.args in
-    fits A.column A.n A.a.now A.i (λ i. (c.shared_slice_known-1.given i).fits) c.requires.passes c.requires.n_le_max_rows.1 in the_first_fits)) ((let the_second_fits : let A = c.args in Fits max_slot (column_shape A.column) false (value A.column A.m A.b.now A.j) = let A = c.args in
-    fits A.column A.m A.b.now A.j (λ i. (c.shared_slice_known-2-1.given i).fits) c.requires.passes_2 c.requires.m_le_max_rows.1 in the_second_fits)) ((let the_found : let A = c.args in let key_of = value_key (column_shape A.column) A.column.options.fold in Ordered (key_of (value A.column A.n A.a.now A.i)) (key_of (value A.column A.m A.b.now A.j)) c.order_values-found.result = let A = c.args in
-    ordered_as c.order_values-found.ensures
-    (ap (λ (s : List ℕ). value_key (column_shape A.column) A.column.options.fold (value_at (layout A.column) A.n s A.i))
-    (lent A.n _ A.a.now c.packed-from.ensures.0))
-    (ap (λ (s : List ℕ). value_key (column_shape A.column) A.column.options.fold (value_at (layout A.column) A.m s A.j))
-    (lent A.m _ A.b.now c.packed-start.ensures.0)) in the_found)) c.if-column.false
+    values_rise (column_shape A.column) A.column.options _ _ (signs A.column.kind)
+    (fits A.column A.n A.a.now A.i (λ i. (c.type_inv.a i).fits) c.requires.passes c.requires.n_le_max_rows.1)
+    (fits A.column A.m A.b.now A.j (λ i. (c.type_inv.b i).fits) c.requires.passes_2 c.requires.m_le_max_rows.1)
+    (lent_ordered A.column A.n _ A.a.now A.i A.m _ A.b.now A.j c.packed-from.ensures.0 c.packed-start.ensures.0 c.order_values-found.ensures)
+    c.if-column.false
