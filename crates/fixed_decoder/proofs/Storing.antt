@@ -24,8 +24,6 @@ use Rattle.number_reader.specs.Words.{WordWidth}
 use Rattle.fixed_reader.proofs.Standing.{stands, keyIn}
 use Rattle.fixed_decoder.specs.Worded.{Worded, coded, worded}
 
--- ---- a word that is stored
-
 -- ---- what they are of a field
 
 -- where no reader found a fault, what does not begin with 01 is null
