@@ -1,6 +1,6 @@
 /* The row station: sheets of columns to sortable rows, and back. Link libstation.a or libstation.so of a
- * release, which `tools/release` makes, or target/staticlib/libstation_c.a, which `rt staticlib station_c`
- * makes (x86-64 Linux).
+ * release, which `tools/release` makes, or crates/station_c/out/libstation_c.a, which `tools/archive` makes
+ * (x86-64 Linux).
  *
  * A slice is a pointer and a length in bytes. A slice of length 0 may have any pointer, null too: nothing
  * is read or written there. Every byte and every number may be anything. A caller owes three things, which

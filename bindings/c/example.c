@@ -3,7 +3,7 @@
  * values, looks their plate up, and cuts them apart again where they come joined, in pieces. Then the same with the list
  * read once, as one would for many sheets.
  *
- *   cc -I include bindings/c/example.c target/staticlib/libstation_c.a -o example && ./example
+ *   cc -I include bindings/c/example.c crates/station_c/out/libstation_c.a -o example && ./example
  */
 #include <inttypes.h>
 #include <stdio.h>

@@ -1,7 +1,7 @@
 /* Each C entry with slices of length 0 whose pointers are null, against what document 01 says. Says what is wrong, if
  * anything is; the exit status is then 1.
  *
- *   cc -I include bindings/c/nulls.c target/staticlib/libstation_c.a -o nulls && ./nulls
+ *   cc -I include bindings/c/nulls.c crates/station_c/out/libstation_c.a -o nulls && ./nulls
  */
 #include <stdio.h>
 #include <string.h>

@@ -5,24 +5,25 @@ use std::env;
 use std::path::{Path, PathBuf};
 use std::process::Command;
 
-/// The archive's name in a release, and as `rt staticlib` writes it.
+/// The archive's name in a release, and as `rt lib` writes it.
 const NAMES: [&str; 2] = ["station", "station_c"];
 
 fn main() {
     println!("cargo::rerun-if-env-changed=STATION_LIB_DIR");
     println!("cargo::rerun-if-changed=build.rs");
-    let target = repository().join("target");
+    let built = repository().join("crates/station_c/out");
+    let made = repository().join("target/release");
     let found = match env::var_os("STATION_LIB_DIR") {
         Some(dir) => archive(Path::new(&dir)),
-        None => archive(&target.join("staticlib"))
-            .or_else(|| archive(&target.join("release")))
-            .or_else(|| release(&target.join("release"))),
+        None => archive(&built)
+            .or_else(|| archive(&made))
+            .or_else(|| release(&made)),
     };
     let Some((dir, name)) = found else {
         println!(
             "cargo::error=The station's archive is not there. Say in STATION_LIB_DIR which folder \
              has libstation.a; `tools/release OUT` makes one where the toolchain is, or \
-             `rt staticlib station_c` at the root of the repository."
+             `tools/archive` in the repository."
         );
         return;
     };

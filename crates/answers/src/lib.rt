@@ -1,4 +1,6 @@
 // The numbers of document 01 for each answer.
+#![tactic(auto)]
+
 ghost use Rattle.std.specs.Prelude.{◌≡◌};
 ghost use Rattle.format.specs.Numbers.{fault_number, refusal_numbers, numbers_of};
 

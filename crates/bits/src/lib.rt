@@ -1,5 +1,7 @@
 // Bits packed in bytes, least bit first: how many bytes, taken out and put in by shifts and masks, counted, looked at past
 // the last row, and the first clear one found.
+#![tactic(auto)]
+
 ghost use Rattle.std.specs.Prelude.{◌≡◌, cond, ◌+◌, ◌-◌, ◌*◌, ◌/◌, ◌^◌, ◌<◌, ◌≤◌, length, take};
 ghost use Rattle.format.specs.Limits.{max_rows};
 ghost use Rattle.format.specs.Sheet.{packed as packedFor, bit as bit_of, spare_set, first_clear};

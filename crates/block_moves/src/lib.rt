@@ -1,4 +1,6 @@
 // The blocks of variable bytes, inverted back.
+#![tactic(auto)]
+
 ghost use Rattle.std.specs.Prelude.{◌≡◌, cond, eqb, ◌+◌, ◌^◌, ◌<◌, ◌≤◌};
 ghost use Rattle.format.specs.Limits.{max_slot, max_total};
 ghost use Rattle.format.specs.Field.{block_size};

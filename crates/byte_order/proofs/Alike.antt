@@ -18,6 +18,7 @@ use Rattle.basics.proofs.Compare.{Tri, below, same, above, tri, compare_lt, comp
 use Rattle.basics.proofs.LowBytes.{length_low_bytes, bytes_low_bytes, low_low_bytes}
 use Rattle.number.proofs.Words.{byte_back}
 use Rattle.laws.proofs.HighFirst.{unsigned_order}
+use Rattle.byte_order.specs.Least.{Least}
 
 -- the first i bytes are there in both, and are the same
 pub record Alike (a b : List ℕ) (i : ℕ) : Type 0 where
@@ -139,3 +140,14 @@ module _ {a b : List ℕ} {i : ℕ} (k : Alike a b i) where
 -- a byte as a word of one
 pub byte_word : (l : List ℕ) (at : ℕ) → ((i : ℕ) → get_or l i 0 < 256) → at < length l → low_bytes 1 (get_or l at 0) ≡ reverse (take 1 (drop at l))
 byte_word l at b h = byte_back l at b (omega arith) ∙ rw (drop-cons l at 0 h) refl
+
+-- the next bytes decide
+pub bytes_decide : {a b : List ℕ} {i : ℕ} → Alike a b i → ((k : ℕ) → get_or a k 0 < 256) → ((k : ℕ) → get_or b k 0 < 256) → i < length a → i < length b
+    → Decides a b i 1 (get_or a i 0) (get_or b i 0)
+bytes_decide {a} {b} {i} k fa fb ia ib =
+    decides k i (omega arith) 1 _ _ (fa i) (fb i) (omega arith) (omega arith) (byte_word a i fa ia) (byte_word b i fb ib)
+
+-- and so do the words of eight at j, within the shorter
+pub words_decide : {a b : List ℕ} {i m : ℕ} → Alike a b i → Least (length a) (length b) m → (j : ℕ) → j ≤ i → j + 8 ≤ m → {x y : ℕ} → x < 256 ^ 8 → y < 256 ^ 8
+    → low_bytes 8 x ≡ reverse (take 8 (drop j a)) → low_bytes 8 y ≡ reverse (take 8 (drop j b)) → Decides a b j 8 x y
+words_decide k shorter j h inside fx fy ex ey = decides k j h 8 _ _ fx fy (omega arith) (omega arith) ex ey

@@ -1,5 +1,7 @@
 // Byte strings compared: unsigned bytes, a proper beginning first. A word of eight bytes at a time, high byte first, so that the
 // first two words that differ decide; the last word ends where the shorter string does, and may begin within the one before it.
+#![tactic(auto)]
+
 ghost use Rattle.std.specs.Prelude.{◌≡◌, reverse, length, take, drop};
 ghost use Prim.Native.Nat.{◌+◌, ◌≤◌, compare as compareℕ};
 ghost use Rattle.format.specs.Lists.{low_bytes};

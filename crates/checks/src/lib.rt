@@ -1,5 +1,7 @@
 // Checks as definitions have them: the first reason of two, 12, the answer; and what follows the list: the
 // row count in measure, encode and decode, the room for its columns in read_list.
+#![tactic(auto)]
+
 ghost use Rattle.std.specs.Prelude.{◌≡◌};
 ghost use Rattle.format.specs.Check.{both as both·};
 ghost use Rattle.format.specs.Entries.{answer as answer·, total_fault, read_list_check};

@@ -1,4 +1,6 @@
 // A column list in codes, four bytes a description: kind, options, width low byte first. It is judged, and read into an array of columns.
+#![tactic(auto)]
+
 ghost use Rattle.std.specs.Prelude.{◌≡◌, ◌+◌, ◌*◌, ◌≤◌, length, get_or};
 ghost use Rattle.format.specs.Described.{coded, code_at, column_of, held_fault};
 ghost use Rattle.list_reader.specs.Listing.{ListedAs};

@@ -3,6 +3,8 @@
 //
 //     sheet    i32 -1    FF FF FF FF    low byte first
 //     row                7F FF FF FF    high byte first, top bit flipped
+#![tactic(auto)]
+
 ghost use Rattle.std.specs.Prelude.{◌≡◌, reverse};
 ghost use Rattle.std.specs.Int.{w8, w16, w32, w64};
 ghost use Rattle.std.proofs.Common.{of_z};

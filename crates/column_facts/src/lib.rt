@@ -1,4 +1,6 @@
 // What the options and the kind of a column say: its width, its null byte, and what stands for no column.
+#![tactic(auto)]
+
 ghost use Rattle.std.specs.Prelude.{◌≡◌};
 ghost use Rattle.format.specs.Kinds.{value_bytes};
 ghost use Rattle.format.specs.Schemas.{no_column};

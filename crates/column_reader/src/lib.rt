@@ -1,4 +1,6 @@
 // A column list held as columns, copied into an array: judged by its numbers.
+#![tactic(auto)]
+
 ghost use Rattle.std.specs.Prelude.{◌≡◌, replicate};
 ghost use Rattle.format.specs.Limits.{max_columns};
 ghost use Rattle.format.specs.Schemas.{no_column};

@@ -1,5 +1,7 @@
 // The row cutter: rows joined, with no offsets, handed over in pieces that are cut anywhere. A state goes in and comes out, plain numbers
 // that a caller may keep; the ends of the rows, counted from the start of the stream, go to a lent list.
+#![tactic(auto)]
+
 ghost use Rattle.std.specs.Prelude.{◌≡◌};
 ghost use Rattle.cutter_step.specs.Places.{place_of};
 

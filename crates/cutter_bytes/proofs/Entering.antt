@@ -134,6 +134,16 @@ module _ (state : List ℕ) where
     pub read_refusal : (c : Check) → t.refusal ≡ c → s.refusal ≡ c
     read_refusal c e = ap (λ (u : Cutter). u.refusal) (sym is) ∙ e
 
+  -- they keep the rule, and are written as they stand
+  pub record LentKept : Type 0 where
+    pub long : state_size ≤ length state
+    pub canon : same (state_bytes s) x ≡ true
+    pub keeps : keeps s ≡ true
+
+  pub kept_of : (t : Cutter) → t ≡ s → (p : Place) → p ≡ place_of t → {b k : Bool} → state_size ≤ length state
+      → b ≡ same (state_bytes (state_with t.refusal p t.schema)) x → b ≡ true → k ≡ keeps t → k ≡ true → LentKept
+  kept_of t is p at long e f g h = record { long = long; canon = read_written t is p _ at e ∙ f; keeps = read_keeps t is _ g ∙ h }
+
   -- ---- a call that is refused before a byte is read: nothing changes
   module _ (piece ends : List ℕ) (b : Bytes ends) where
     abbrev room : ℕ
@@ -165,15 +175,15 @@ module _ (state : List ℕ) where
         (sym (ap (λ (t : Bool). cond t (over (state_bytes (begun [])) state) state) h))
 
     -- ---- bytes that keep the rule
-    module _ (long : state_size ≤ length state) (canon : same (state_bytes s) x ≡ true) (k : keeps s ≡ true) where
+    module _ (q : LentKept) where
       kept : lent_keeps state ≡ true
-      kept = all_kept long canon k
+      kept = all_kept q.long q.canon q.keeps
 
       is_x : state_bytes s ≡ x
-      is_x = same_eq (state_bytes s) x canon
+      is_x = same_eq (state_bytes s) x q.canon
 
       size_x : length (state_bytes s) ≡ state_size
-      size_x = ap length is_x ∙ length-take-le state_size state long
+      size_x = ap length is_x ∙ length-take-le state_size state q.long
 
       -- written as it stands
       again : state ≡ cond (lent_keeps state) (over (state_bytes s) state) state
@@ -183,7 +193,7 @@ module _ (state : List ℕ) where
           ∙ sym (ap (λ (t : Bool). cond t (over (state_bytes s) state) state) kept)
 
       fault : cut_fault s (length piece) room ≡ both s.refusal (fail_if (ltb room (length piece)) (OffsetRoom (length piece)) Pass)
-      fault = ap (λ (t : Bool). fail_if (not t) BrokenState (both s.refusal (fail_if (ltb room (length piece)) (OffsetRoom (length piece)) Pass))) k
+      fault = ap (λ (t : Bool). fail_if (not t) BrokenState (both s.refusal (fail_if (ltb room (length piece)) (OffsetRoom (length piece)) Pass))) q.keeps
 
       pub cut_stands : (r : Refusal) → s.refusal ≡ Refuse r → PieceCutLent state piece ends (Refused r) state ends
       cut_stands r e =

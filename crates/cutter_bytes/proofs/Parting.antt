@@ -82,7 +82,7 @@ module _ (schema : Schema) (p : Place) (piece ends₀ : List ℕ) where
     length_rest : length rest ≡ length piece - i
     length_rest = length-take-le (length piece - i) (drop i piece) (omega (arith, length-drop i piece))
 
-    pub taken_within : taken ≤ length piece - i
+    taken_within : taken ≤ length piece - i
     taken_within = go w.check on
       where
         go : (c : Check) → WalkedOn c schema at rest numbers w numbers' → took c w.read (length piece - i) ≤ length piece - i
@@ -90,7 +90,7 @@ module _ (schema : Schema) (p : Place) (piece ends₀ : List ℕ) where
         go (Refuse r) x = omega arith
 
     -- what is left is no less after it
-    pub taken_some : 1 ≤ length numbers → i < length piece → w.check ≡ Pass → (w.check ≡ Pass → w.read < length rest → length numbers ≤ w.ends)
+    taken_some : 1 ≤ length numbers → i < length piece → w.check ≡ Pass → (w.check ≡ Pass → w.read < length rest → length numbers ≤ w.ends)
         → 1 ≤ w.read
     taken_some least more e full =
         let x : Walking schema at rest numbers w.place w.ends w.read numbers' = subst
@@ -98,7 +98,7 @@ module _ (schema : Schema) (p : Place) (piece ends₀ : List ℕ) where
         ⊎_elim (λ l. omega (arith, full e l, x.few)) (λ l. omega (arith, length_rest)) (choose w.read (length rest))
 
     -- the walk of these bytes alone
-    pub taken_walks : Walks schema at (take taken (drop i piece)) numbers w numbers'
+    taken_walks : Walks schema at (take taken (drop i piece)) numbers w numbers'
     taken_walks =
         subst (λ (l : List ℕ). Walks schema at l numbers w numbers') (take-take taken (length piece - i) (drop i piece) taken_within) (go w.check refl on)
       where
@@ -129,11 +129,11 @@ module _ (schema : Schema) (p : Place) (piece ends₀ : List ℕ) where
     part_few : w.ends ≤ k
     part_few = omega (arith, walks.many, ends_few (state_at schema at) part, length_part)
 
-    pub part_room : 8 * n + 8 * w.ends ≤ length ends
+    part_room : 8 * n + 8 * w.ends ≤ length ends
     part_room = omega (arith, part_few, stored_few i (state_at schema at) n ends (omega arith) st, st.long)
 
     -- the list of numbers has room for them
-    pub numbers_fit : w.ends ≤ length numbers'
+    numbers_fit : w.ends ≤ length numbers'
     numbers_fit = omega (arith, walks.many, ap length walks.list, length-append new (drop (length new) numbers))
 
     joined : take (i + k) piece ≡ take i piece ++ part
@@ -161,7 +161,7 @@ module _ (schema : Schema) (p : Place) (piece ends₀ : List ℕ) where
       before_set : ends ≡ sets ends₀ 0 (eight_bytes (found i))
       before_set = st.list ∙ over_sets (eight_bytes (found i)) ends₀ (omega (arith, length_eights (found i), st.many, st.long, part_room))
 
-      pub stored_more : Stored (i + k) (walked_to w.check schema w.place) (n + w.ends) after
+      stored_more : Stored (i + k) (walked_to w.check schema w.place) (n + w.ends) after
       stored_more = record {
         state = ap (fed s) joined ∙ fed_append s (take i piece) part ∙ ap (λ (t : Cutter). fed t part) st.state ∙ walks.state;
         many = sym (ap length more ∙ length-append (found i) new ∙ omega (arith, st.many, walks.many));
@@ -172,6 +172,31 @@ module _ (schema : Schema) (p : Place) (piece ends₀ : List ℕ) where
             (omega (arith, length-append (eight_bytes (found i)) (eight_bytes new), length_eights (found i), st.many, st.long, size)))
             ∙ ap (λ (z : List ℕ). over z ends₀) (sym (eights_append (found i) new) ∙ ap eight_bytes (sym more));
         long = ap length set_after ∙ length-sets ends (8 * n) (eight_bytes new) ∙ st.long;
+      }
+
+  -- ---- a turn of the loop, from byte i on
+  pub record Turn (i n : ℕ) (at : Place) (ends numbers : List ℕ) (w : Walked) (numbers' : List ℕ) : Type 0 where
+    pub within : i + took w.check w.read (length piece - i) ≤ length piece
+    pub some : 1 ≤ length numbers → i < length piece → w.check ≡ Pass
+        → (w.check ≡ Pass → w.read < length (take (length piece - i) (drop i piece)) → length numbers ≤ w.ends) → 1 ≤ w.read
+    pub room : 8 * n + 8 * w.ends ≤ length ends
+    pub fit : w.ends ≤ length numbers'
+    pub stored : (q : List ℕ) → q ≡ over (eight_bytes (take w.ends numbers')) (mid_of (8 * n) (length ends - 8 * n) ends)
+        → Stored (i + took w.check w.read (length piece - i)) (walked_to w.check schema w.place) (n + w.ends) (put_mid (8 * n) (length ends - 8 * n) ends q)
+
+  pub turn : {i n : ℕ} {ends : List ℕ} (at : Place) (numbers : List ℕ) (w : Walked) (numbers' : List ℕ) → i ≤ length piece → length piece ≤ length ends₀ / 8
+      → Stored i (state_at schema at) n ends → WalkedOn w.check schema at (take (length piece - i) (drop i piece)) numbers w numbers'
+      → Turn i n at ends numbers w numbers'
+  turn {i} {n} {ends} at numbers w numbers' short room st on =
+      let walks = taken_walks i at numbers w numbers' on in
+      let k = took w.check w.read (length piece - i) in
+      let within : i + k ≤ length piece = omega (arith, taken_within i at numbers w numbers' on) in
+      record {
+        within = within;
+        some = taken_some i at numbers w numbers' on;
+        room = part_room i k n at ends numbers numbers' w within room st walks;
+        fit = numbers_fit i k n at ends numbers numbers' w within room st walks;
+        stored = λ q put. stored_more i k n at ends numbers numbers' w within room st walks q put;
       }
 
   -- all bytes

@@ -1,1 +1,2 @@
 // No code: laws of the row cutter's definitions in crate format, in proofs/.
+#![tactic(auto)]

@@ -1,5 +1,7 @@
 // What one byte does to the field that it stands in: a function for each place in a field. A byte is looked at once, and what it may mean
 // later is a number or two in the spot.
+#![tactic(auto)]
+
 ghost use Rattle.std.specs.Prelude.{◌≡◌};
 ghost use Rattle.format.specs.Kinds.{column_shape};
 ghost use Rattle.format.specs.Cutter.{move as move_of};

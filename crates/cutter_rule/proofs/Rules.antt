@@ -10,9 +10,6 @@ use lib.ListN.{length, get_or, take}
 use lib.Seq.{get_or-take}
 use lib.Pow.{pow-add, pow_pos}
 use borrow.Author.Tests.{ltb-true, ltb-false, leb-true, leb-false, eqb-true, eqb-false, lt-ltb, le-ltb, le-leb, lt-leb, eq-eqb, ne_eqb}
-use types.Run.{OneOf, miss}
-use denote.Enum.Declared.{tag_of}
-use Rattle.format.specs.contracts.Spot.{the_type as the-spot}
 use Rattle.format.specs.declared.Kind.{Kind}
 use Rattle.format.specs.declared.Kind.TheVariants.{Variable}
 use Rattle.format.specs.declared.Column.{Column}
@@ -277,8 +274,8 @@ counts_some n t l = rw (ne_eqb n 0 (λ z. omega arith))
 pub counts_none : (n : ℕ) (t : Bool) → n ≡ 0 → t ≡ (eqb n 0 && t)
 counts_none n t e = rw (eq-eqb n 0 e)
 
-pub not_start : (spot : Spot) → OneOf (1 ∷ 2 ∷ 3 ∷ []) (tag_of the-spot spot) → false ≡ at_start spot
-not_start Start h = absurd (miss (1 ∷ 2 ∷ 3 ∷ []) 0 tt h)
+pub not_start : (spot : Spot) → (spot ≡ Start → ⊥) → false ≡ at_start spot
+not_start Start h = absurd (h refl)
 not_start (Nulls seen known) h = refl
 not_start (Value seen spelt) h = refl
 not_start (Block k seen marks) h = refl

@@ -1,4 +1,6 @@
 // The rule on a row cutter's state: what every state from a start or a call keeps.
+#![tactic(auto)]
+
 mod rule;
 
 pub use rule::keeps;

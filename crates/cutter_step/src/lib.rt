@@ -1,4 +1,6 @@
 // What one byte does to a row cutter's state: its numbers, without the columns.
+#![tactic(auto)]
+
 use format::{Refusal, Spot};
 
 pub mod step;

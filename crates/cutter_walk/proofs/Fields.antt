@@ -11,9 +11,6 @@ use lib.Dec.{leb}
 use lib.ListN.{length, get_or, take, drop, set, length-take, length-drop, length-append}
 use lib.Seq.{take-take, take_at, length-take-le}
 use borrow.Author.Tests.{lt-ltb, le-ltb}
-use types.Run.{OneOf, miss}
-use denote.Enum.Declared.{tag_of}
-use Rattle.format.specs.contracts.RowFault.{the_type}
 use Rattle.format.specs.declared.Column.{Column}
 use Rattle.format.specs.declared.Schema.{Schema}
 use Rattle.format.specs.declared.RowFault.{RowFault}
@@ -47,8 +44,8 @@ use Rattle.cutter_step.proofs.Stepping.{field_ended_lem, field_end}
 use Rattle.cutter_walk.proofs.Walking.{Turning, turn_begins, standing, turn_leaves, turn_goes, turn_ends, turn_stops}
 
 -- every fault but 16
-pub not_cut : (f : RowFault) → OneOf (1 ∷ 2 ∷ 3 ∷ 4 ∷ 5 ∷ 6 ∷ 7 ∷ 8 ∷ []) (tag_of the_type f) → false ≡ is_cut f
-not_cut Cut h = absurd (miss (1 ∷ 2 ∷ 3 ∷ 4 ∷ 5 ∷ 6 ∷ 7 ∷ 8 ∷ []) 0 tt h)
+pub not_cut : (f : RowFault) → (f ≡ Cut → ⊥) → false ≡ is_cut f
+not_cut Cut h = absurd (h refl)
 not_cut Lead h = refl
 not_cut NullRest h = refl
 not_cut BoolByte h = refl

@@ -1,4 +1,6 @@
 // A row cutter's walk over a piece.
+#![tactic(auto)]
+
 use cutter_step::Place;
 use format::Check;
 

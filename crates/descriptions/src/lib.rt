@@ -1,5 +1,7 @@
 // The three numbers of a description, kind, options and width: what is wrong with them, the column that they say, and those of a
 // column.
+#![tactic(auto)]
+
 ghost use Rattle.std.specs.Prelude.{◌≡◌, cond, ◌≤◌};
 ghost use Rattle.format.specs.Columns.{kind_of, options_of, most_options, most_width, numbers_fault};
 ghost use Rattle.format.specs.Described.{kind_number, options_number, held_width};

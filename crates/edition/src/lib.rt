@@ -1,4 +1,6 @@
 // Which edition of the C entries this is.
+#![tactic(auto)]
+
 ghost use Rattle.std.specs.Prelude.{◌≡◌};
 ghost use Rattle.edition.specs.Version.{version};
 

@@ -1,4 +1,6 @@
 // Encode with offsets in lent bytes, eight bytes a number, low byte first.
+#![tactic(auto)]
+
 ghost use Rattle.std.specs.Prelude.{length};
 ghost use Rattle.list_reader.specs.Listing.{OfList, OfEach};
 ghost use Rattle.encoded_bytes.specs.Stored.{Held, EncodedBytes};

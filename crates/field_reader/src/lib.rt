@@ -1,4 +1,6 @@
 // One field, by its column's kind: read, and what it adds to its column.
+#![tactic(auto)]
+
 ghost use Rattle.std.specs.Prelude.{◌≡◌, ◌<◌};
 ghost use Rattle.format.specs.Kinds.{Slot, column_shape};
 ghost use Rattle.format.specs.Sheet.{layout};

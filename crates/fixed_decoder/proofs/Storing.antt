@@ -1,9 +1,9 @@
 -- The slot of a field that is decoded word by word: its words, or those of 0. Assumes nothing.
-use Prim.Native.Nat.{ℕ, zero, suc, ◌+◌, ◌^◌, ◌≤◌, ◌<◌}
+use Prim.Native.Nat.{ℕ, suc, ◌+◌, ◌≤◌}
 use mathlib.Core.Path.{◌≡◌, refl, sym, ap, ap₂, ◌∙◌, subst}
 use mathlib.Core.Bool.{Bool, true, false, cond, not}
 use mathlib.Core.Logic.{inl, inr}
-use mathlib.Core.List.{List, [], ◌∷◌, ◌++◌}
+use mathlib.Core.List.{List, [], ◌∷◌}
 use native.Mathlib.Omega.{arith}
 use lib.Dec.{eqb}
 use lib.ListN.{length, get_or, take, drop, replicate}
@@ -11,13 +11,11 @@ use lib.Seq.{sets}
 use borrow.Author.Tests.{eqb-true}
 use Rattle.format.specs.declared.SortOptions.{SortOptions}
 use Rattle.format.specs.declared.RowFault.TheVariants.{Lead}
-use Rattle.format.specs.Lists.{low_bytes}
 use Rattle.format.specs.Kinds.{Fixed, parts, width}
 use Rattle.format.specs.Key.{parts_unkey, unkey}
 use Rattle.format.specs.Cleared.{fixed_slot}
 use Rattle.format.specs.Field.{directed}
 use Rattle.format.specs.Read.{fault, Good, null_lead, read_bytes, read_fixed, read_null, slot_read}
-use Rattle.basics.proofs.Append.{sets_append, walk_start}
 use Rattle.laws.proofs.Fields.{not_null}
 use Rattle.number.specs.declared.Coding.{Coding}
 use Rattle.number.specs.declared.Coding.TheVariants.{Unsigned, Signed, Float}
@@ -25,57 +23,6 @@ use Rattle.number.specs.Codings.{coding_unkey}
 use Rattle.number_reader.specs.Words.{WordWidth}
 use Rattle.fixed_reader.proofs.Standing.{stands, keyIn}
 use Rattle.fixed_decoder.specs.Worded.{Worded, coded, worded}
-use Rattle.fixed_decoder.proofs.Parts.{unkeyed, part, parts_more, parts_end}
-
--- ---- a word that is stored
-
--- 0 is spelled with zeros
-no_bytes : (n : ℕ) → low_bytes n 0 ≡ replicate n 0
-no_bytes zero = refl
-no_bytes (suc n) = ap (λ (l : List ℕ). 0 ∷ l) (no_bytes n)
-
--- one of two, by a test
-pub chosen_none : {b : Bool} {z : ℕ} (v : ℕ) → b ≡ true → z ≡ 0 → z ≡ cond b 0 v
-chosen_none v q e = e ∙ sym (ap (λ (t : Bool). cond t 0 v) q)
-
-pub chosen : {b : Bool} {z : ℕ} (v : ℕ) → b ≡ false → z ≡ v → z ≡ cond b 0 v
-chosen v q e = e ∙ sym (ap (λ (t : Bool). cond t 0 v) q)
-
--- z is v, a number of n bytes, or 0
-pub chosen_small : (b : Bool) (n v z : ℕ) → z ≡ cond b 0 v → v < 256 ^ n → z < 256 ^ n
-chosen_small true n v z e h = omega arith
-chosen_small false n v z e h = omega arith
-
--- and is stored
-pub word_took : (b : Bool) (n v z : ℕ) (x out last : List ℕ) (at : ℕ) → z ≡ cond b 0 v → low_bytes n v ≡ x → last ≡ sets out at (low_bytes n z)
-    → last ≡ sets out at (cond b (replicate n 0) x)
-word_took b n v z x out last at e p q = q ∙ ap (sets out at) (ap (low_bytes n) e ∙ go b)
-  where
-    go : (b : Bool) → low_bytes n (cond b 0 v) ≡ cond b (replicate n 0) x
-    go true = no_bytes n
-    go false = p
-
--- ---- the parts of the interval, stored one after the other
-
-module _ (d : Bool) (row : List ℕ) (inside : 17 ≤ length row) (out : List ℕ) (at : ℕ) where
-  abbrev piece : Bool → ℕ → ℕ → List ℕ
-  piece b n from = cond b (replicate n 0) (part d row n from)
-
-  pub interval_took : (b : Bool) (one two three : List ℕ) → one ≡ sets out at (piece b 4 1) → two ≡ sets one (at + 4) (piece b 4 5)
-      → three ≡ sets two (at + 8) (piece b 8 9) → three ≡ sets out at (cond b (replicate 16 0) (unkeyed d row (4 ∷ 4 ∷ 8 ∷ []) 16 1))
-  interval_took true one two three e f g =
-      let z : List ℕ = replicate 4 0 in
-      g
-      ∙ ap (λ (l : List ℕ). sets l (at + 8) (replicate 8 0)) (f ∙ ap (λ (l : List ℕ). sets l (at + 4) z) e)
-      ∙ ap (λ (k : ℕ). sets (sets (sets out at z) (at + 4) z) k (replicate 8 0)) {x = at + 8} {y = at + 4 + 4} (omega arith)
-      ∙ sym (sets_append z (replicate 8 0) (sets out at z) (at + 4))
-      ∙ sym (sets_append z (z ++ replicate 8 0) out at)
-  interval_took false one two three e f g =
-      let whole : List ℕ = unkeyed d row (4 ∷ 4 ∷ 8 ∷ []) 16 1 in
-      let first = parts_more d row 4 (4 ∷ 8 ∷ []) 16 1 5 (omega arith) refl (omega arith) one (at + 4) (walk_start whole out at) e refl in
-      let second = parts_more d row 4 (8 ∷ []) 12 5 9 (omega arith) refl (omega arith) two (at + 8) first f (omega arith) in
-      let third = parts_more d row 8 [] 8 9 17 (omega arith) refl (omega arith) three (at + 16) second g (omega arith) in
-      parts_end d row 0 17 third
 
 -- ---- what they are of a field
 

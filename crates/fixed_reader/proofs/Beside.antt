@@ -1,7 +1,7 @@
 -- A field of a kind whose value bytes are not all allowed, bool or a folding float, beside one of plain bytes: the same but for the value
 -- bytes. Assumes nothing.
 use Prim.Native.Nat.{ℕ, suc, ◌+◌, ◌-◌, ◌<◌, ◌≤◌}
-use mathlib.Core.Path.{◌≡◌, refl, sym, ap, ap₂, ◌∙◌}
+use mathlib.Core.Path.{◌≡◌, refl, sym, ap, ◌∙◌}
 use mathlib.Core.Bool.{Bool, true, false, cond}
 use mathlib.Core.Option.{none, some}
 use mathlib.Core.List.{List, [], ◌∷◌}
@@ -14,7 +14,7 @@ use Rattle.format.specs.declared.SortOptions.{SortOptions}
 use Rattle.format.specs.declared.FieldRead.{FieldRead}
 use Rattle.format.specs.declared.FieldRead.TheVariants.{Value, Fault}
 use Rattle.format.specs.declared.RowFault.TheVariants.{BoolByte, Cut, Lead, NullRest, Unfolded}
-use Rattle.format.specs.Kinds.{Fixed, Slot, bool, float, plain, width}
+use Rattle.format.specs.Kinds.{Fixed, Slot, bool, plain, width}
 use Rattle.format.specs.Key.{allowed, unkey}
 use Rattle.format.specs.Fold.{is_folded}
 use Rattle.format.specs.Cleared.{valid}

@@ -1,7 +1,7 @@
 -- What the readers share: what a row's field is, by its lead byte and its length. Assumes nothing.
 use Prim.Native.Nat.{ℕ, ◌+◌, ◌-◌, ◌<◌, ◌≤◌}
 use mathlib.Core.Path.{◌≡◌, refl, sym, ap, ap₂, ◌∙◌}
-use mathlib.Core.Bool.{Bool, true, false}
+use mathlib.Core.Bool.{true, false}
 use mathlib.Core.List.{List, [], ◌∷◌}
 use native.Mathlib.Omega.{arith}
 use lib.Dec.{ltb}
@@ -31,9 +31,6 @@ module _ (row : List ℕ) (w : ℕ) (some_lead : 0 < length row) where
   room : length (drop 1 row) ≡ length row - 1
   room = length-drop 1 row
 
-  pub null_cut : length row - 1 < w → Fault Cut 0 ≡ field_read row (read_null w (drop 1 row))
-  null_cut h = rw (lt-ltb (length (drop 1 row)) w (omega (arith, room)))
-
   module _ (fits : w ≤ length row - 1) where
     long : length rest ≡ w
     long = length-take-le w (drop 1 row) (omega (arith, room))
@@ -59,10 +56,6 @@ module _ (row : List ℕ) (w : ℕ) (some_lead : 0 < length row) where
 -- ---- by the lead byte
 
 module _ (k : Fixed) (o : SortOptions) where
-  pub lead_missing : (s : List ℕ) → length s ≡ 0 → read_fixed k o s ≡ fault Cut 0
-  lead_missing [] e = refl
-  lead_missing (b ∷ s) e = absurd (omega arith)
-
   pub lead_null : (s : List ℕ) → 0 < length s → null_lead o (get_or s 0 0) ≡ true → read_fixed k o s ≡ read_null (width k) (drop 1 s)
   lead_null [] h e = absurd (omega arith)
   lead_null (b ∷ s) h e = rw e
@@ -100,19 +93,10 @@ module _ (row : List ℕ) (w : ℕ) (o : SortOptions) (k : Fixed) (f : WideShape
   abbrev answer : FieldRead
   answer = field_read row (read_fixed k o row)
 
-  pub read_missing : length row ≡ 0 → Fault Cut 0 ≡ answer
-  read_missing e = rw (lead_missing k o row e)
-
   pub read_null_lem : 0 < length row → null_lead o (get_or row 0 0) ≡ true → field_read row (read_null w (drop 1 row)) ≡ answer
   read_null_lem h e = rw (lead_null k o row h e, f.bytes)
 
-  pub read_bad : 0 < length row → null_lead o (get_or row 0 0) ≡ false → (get_or row 0 0 ≡ 1 → ⊥) → Fault Lead (length row) ≡ answer
-  read_bad h n e = rw (lead_bad k o row h n e)
-
   module _ (h : 0 < length row) (n : null_lead o (get_or row 0 0) ≡ false) (e : get_or row 0 0 ≡ 1) where
-    pub read_cut : length row - 1 < w → Fault Cut 0 ≡ answer
-    read_cut l = rw (lead_value k o row h n e, bytes_cut k o (drop 1 row) (omega (arith, length-drop 1 row, f.bytes)))
-
     module _ (l : w ≤ length row - 1) where
       enough : width k ≤ length (drop 1 row)
       enough = omega (arith, length-drop 1 row, f.bytes)

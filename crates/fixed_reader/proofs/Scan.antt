@@ -1,6 +1,6 @@
 -- The scan for the first byte that is not zero. Assumes nothing.
 use Prim.Native.Nat.{ℕ, suc, ◌+◌, ◌-◌, ◌<◌, ◌≤◌}
-use mathlib.Core.Path.{◌≡◌, refl, ap, ◌∙◌}
+use mathlib.Core.Path.{◌≡◌, ap, ◌∙◌}
 use mathlib.Core.Bool.{true, false}
 use mathlib.Core.List.{List}
 use native.Mathlib.Omega.{arith}
@@ -14,9 +14,6 @@ use Rattle.format.specs.Read.{all_zero, from_bad}
 pub record Clean (t : List ℕ) (i : ℕ) : Type 0 where
   pub all : all_zero t ≡ all_zero (drop i t)
   pub bad : from_bad t ≡ from_bad (drop i t)
-
-pub clean_none : (t : List ℕ) → Clean t 0
-clean_none t = record { all = refl; bad = refl }
 
 module _ (t : List ℕ) (i : ℕ) (k : Clean t i) where
   -- the byte at i is a zero

@@ -1,26 +1,24 @@
 -- A field that was read: what its lead byte says of its slot. Assumes nothing.
-use Prim.Native.Nat.{ℕ, suc, ◌+◌, ◌-◌, ◌<◌, ◌≤◌}
+use Prim.Native.Nat.{ℕ, suc, ◌+◌, ◌≤◌}
 use mathlib.Core.Path.{◌≡◌, refl, sym, ap, ◌∙◌, subst}
-use mathlib.Core.Bool.{Bool, true, false, false≢true, cond, ◌&&◌}
+use mathlib.Core.Bool.{Bool, true, false, false≢true, cond}
 use mathlib.Core.Option.{none, some}
 use mathlib.Core.List.{List, [], ◌∷◌}
 use native.Mathlib.Omega.{arith}
 use lib.Dec.{ltb, eqb}
-use lib.ListN.{length, get_or, take, drop, replicate}
+use lib.ListN.{length, get_or, take, drop}
 use lib.Seq.{sets, drop-cons}
-use borrow.Author.Tests.{ltb-false, eq-eqb, ne_eqb, eqb-true, eqb-false}
+use borrow.Author.Tests.{ltb-false, eqb-true}
 use Rattle.format.specs.declared.SortOptions.{SortOptions}
 use Rattle.format.specs.declared.Kind.{Kind}
 use Rattle.format.specs.declared.RowFault.{RowFault}
 use Rattle.format.specs.declared.RowFault.TheVariants.{BoolByte, Cut, Lead, NullRest, Unfolded}
-use Rattle.format.specs.Kinds.{Fixed, Shape, Slot, bool, fixed, shape, shape_bytes, value_bytes, width}
+use Rattle.format.specs.Kinds.{Fixed, Shape, Slot, fixed, shape, value_bytes, width}
 use Rattle.format.specs.Key.{allowed, unkey}
 use Rattle.format.specs.Fold.{is_folded}
 use Rattle.format.specs.Field.{directed}
 use Rattle.format.specs.Read.{Good, Parsed, got, fault, all_zero, from_bad, null_lead, read_bytes, read_field, read_fixed, read_key, slot_read}
-use Rattle.format.specs.Cleared.{fixed_slot, is_true}
-use Rattle.laws.proofs.Directed.{turn}
-use Rattle.runs.proofs.Direction.{directed_one}
+use Rattle.format.specs.Cleared.{fixed_slot}
 use Rattle.fixed_reader.proofs.Reading.{lead_null, lead_value}
 
 good_no : {A : Type 0} (t : Bool) (f : RowFault) (l : ℕ) (x : Parsed A) → Good (cond t (fault f l) x) → (t ≡ false) × Good x
@@ -86,12 +84,6 @@ module _ (kind : Kind) (k : Fixed) (says : shape kind ≡ fixed k) (o : SortOpti
   good_fixed : Good (read_fixed k o s)
   good_fixed = subst (λ (sh : Shape). Good (read_field sh o s)) says g
 
-  bytes : value_bytes kind ≡ width k
-  bytes = ap shape_bytes says
-
-  pub field_whole : 1 + value_bytes kind ≤ length s
-  field_whole = omega (arith, (stands k o s good_fixed).whole, bytes)
-
   -- what was written is the slot
   module _ (out : List ℕ) (at : ℕ) (last : List ℕ) where
     abbrev Slotted : Type 0
@@ -100,46 +92,8 @@ module _ (kind : Kind) (k : Fixed) (says : shape kind ≡ fixed k) (o : SortOpti
     pub field_value : null_lead o (get_or s 0 0) ≡ false → last ≡ sets out at (unkey k (directed o.descending (take (value_bytes kind) (drop 1 s)))) → Slotted
     field_value t p = p ∙ rw (says, ((stands k o s good_fixed).value t).0)
 
-    pub field_null : (w : ℕ) → w ≡ value_bytes kind → null_lead o (get_or s 0 0) ≡ true → last ≡ sets out at (replicate w 0) → Slotted
-    field_null w q t p = p ∙ rw (q, says, ((stands k o s good_fixed).null t).0)
-
 -- ---- bools
 
 -- the one value byte
 pub one_byte : (s : List ℕ) → 2 ≤ length s → take 1 (drop 1 s) ≡ get_or s 1 0 ∷ []
 one_byte s h = rw (drop-cons s 1 0 (omega arith))
-
-zero_byte : (x : ℕ) → all_zero (x ∷ []) ≡ true → x ≡ 0
-zero_byte x e = go (eqb x 0) refl e
-  where
-    go : (t : Bool) → eqb x 0 ≡ t → (t && true) ≡ true → x ≡ 0
-    go true q h = eqb-true x 0 q
-    go false q h = absurd (let z : ◌≡◌ {A = ℕ} 0 1 = cc in omega arith)
-
--- inverted is 01 what 01 inverted is
-one_turned : (d : Bool) (x : ℕ) → x < 256 → eqb x (turn d 1) ≡ eqb (turn d x) 1
-one_turned false x h = refl
-one_turned true x h = go (eqb x 254) refl
-  where
-    go : (t : Bool) → eqb x 254 ≡ t → eqb x 254 ≡ eqb (255 - x) 1
-    go true q = let e = eqb-true x 254 q in q ∙ sym (eq-eqb (255 - x) 1 (omega arith))
-    go false q = let n = eqb-false x 254 q in q ∙ sym (ne_eqb (255 - x) 1 (λ e. n (omega arith)))
-
-zero_turned : (d : Bool) → eqb 0 (turn d 1) ≡ false
-zero_turned false = refl
-zero_turned true = refl
-
--- a bool is set if its byte is that of true, y; a null has 00
-pub true_byte : (o : SortOptions) (s : List ℕ) (y : ℕ) → y ≡ turn o.descending 1 → get_or s 1 0 < 256 → Good (read_fixed bool o s)
-    → eqb (get_or s 1 0) y ≡ is_true (slot_read (read_fixed bool o s))
-true_byte o s y e h g = rw e (go (null_lead o (get_or s 0 0)) refl)
-  where
-    f : Stands bool o s
-    f = stands bool o s g
-
-    go : (t : Bool) → null_lead o (get_or s 0 0) ≡ t → eqb (get_or s 1 0) (turn o.descending 1) ≡ is_true (slot_read (read_fixed bool o s))
-    go true q =
-        let n = f.null q in
-        rw (n.0, zero_byte (get_or s 1 0) (rw (one_byte s f.whole) at n.1)) (zero_turned o.descending)
-    go false q =
-        rw ((f.value q).0, one_byte s f.whole, directed_one o.descending (get_or s 1 0)) (one_turned o.descending (get_or s 1 0) h)

@@ -3,6 +3,8 @@
 //     f16    FC01 a NaN    7E00    the one NaN
 //            8000 -0       0000    +0
 //            FC00 -inf     FC00
+#![tactic(auto)]
+
 ghost use Rattle.std.specs.Prelude.{◌≡◌, cond};
 ghost use Rattle.format.specs.Fold.{folded_bits};
 

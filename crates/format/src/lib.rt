@@ -1,4 +1,5 @@
 // The types that every crate shares. What a column list, a sheet and a row mean stands in specs/.
+#![tactic(auto)]
 
 // The ceilings of document 01; specs/Limits.antt has the same numbers.
 pub const MAX_COLUMNS: usize = 64;

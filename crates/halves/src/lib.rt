@@ -1,4 +1,6 @@
 // Searches by halves over the rows of a sorted batch, compared where they lie.
+#![tactic(auto)]
+
 ghost use Rattle.std.specs.Prelude.{◌≡◌};
 ghost use Rattle.format.specs.Passed.{Lies};
 ghost use Rattle.format.specs.Entries.{row_bytes, cut_rows};

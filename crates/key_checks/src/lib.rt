@@ -1,4 +1,6 @@
 // The checks of a look-up: the key, then the batch.
+#![tactic(auto)]
+
 ghost use Rattle.std.specs.Prelude.{◌≡◌, length, take};
 ghost use Rattle.format.specs.Check.{both};
 ghost use Rattle.format.specs.Schemas.{Limited, cols_of};

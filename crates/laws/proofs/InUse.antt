@@ -1,9 +1,9 @@
 -- The columns in use of a schema that a function is handed: how many there are, and one after the other. Assumes nothing.
 use Prim.Native.Nat.{ℕ, suc, ◌<◌, ◌≤◌}
-use mathlib.Core.Path.{◌≡◌, ap, sym, ◌∙◌}
+use mathlib.Core.Path.{◌≡◌, ap, ◌∙◌}
 use mathlib.Core.List.{◌∷◌}
 use native.Mathlib.Omega.{arith}
-use lib.ListN.{length, get_or, drop, length-map}
+use lib.ListN.{length, get_or, drop}
 use lib.Seq.{drop-cons, get_or-take, length-take-le}
 use denote.Laws.{Is}
 use denote.Struct.Declared.{row}
@@ -24,7 +24,7 @@ pub columns_room : (schema : Schema) → Held schema → length schema.columns �
 columns_room schema held =
     let fields = held.1.1 in
     let elements = fields.0.1 in
-    sym (length-map schema.columns _) ∙ elements.0.1
+    elements.0.1
 
 module _ (schema : Schema) (held : Held schema) (few : schema.count ≤ max_columns) where
   within : schema.count ≤ length schema.columns

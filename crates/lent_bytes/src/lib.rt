@@ -1,4 +1,6 @@
 // Numbers in lent bytes, eight bytes a number, low byte first: the offsets and the answer.
+#![tactic(auto)]
+
 ghost use Rattle.std.specs.Prelude.{◌≡◌, ◌*◌, ◌/◌, ◌≤◌, length};
 ghost use Rattle.format.specs.Lists.{over};
 ghost use Rattle.format.specs.Numbers.{numbers_of};

@@ -1,4 +1,6 @@
 // read_list into codes, four bytes a column.
+#![tactic(auto)]
+
 ghost use Rattle.lent_calls.specs.Stored.{ReadCodes};
 
 use checks::column_room;

@@ -18,10 +18,6 @@ use Rattle.list_reader.specs.Listing.{Used, array_of}
 abbrev pub made : List Column → List Column → ℕ → List Column
 made cols after i = take i cols ++ drop i after
 
-pub made_long : (cols after : List Column) (i : ℕ) → i ≤ length cols → i ≤ length after → length (made cols after i) ≡ length after
-made_long cols after i h l =
-    length-append (take i cols) (drop i after) ∙ ap₂ ◌+◌ (length-take-le i cols h) (length-drop i after) ∙ omega arith
-
 pub made_more : (cols after : List Column) (i : ℕ) → i < length cols → i < length after → set (made cols after i) i (get_or cols i no_column) ≡ made cols after (suc i)
 made_more cols after i h l =
     ap (λ (cs : List Column). set (take i cols ++ cs) i (get_or cols i no_column)) (drop-cons after i no_column l)

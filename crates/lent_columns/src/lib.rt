@@ -1,4 +1,6 @@
 // Columns that the caller lends: the functions over a slice of structs, each a few statements over covered ones.
+#![tactic(auto)]
+
 ghost use Rattle.std.specs.Prelude.{◌≡◌, ◌++◌, ◌≤◌, length, take, drop};
 ghost use Rattle.format.specs.Limits.{max_columns};
 ghost use Rattle.format.specs.Described.{described as described·};

@@ -25,10 +25,6 @@ use Rattle.list_reader.proofs.Schemas.{sound}
 use Rattle.list_filler.specs.declared.Reading.{Reading}
 use Rattle.list_filler.specs.Filling.{filling, Planned}
 
-pub fill_long : (from lent : List Column) (i : ℕ) → i ≤ length from → i ≤ length lent → length (filling from lent i) ≡ length lent
-fill_long from lent i h l =
-    length-append (take i from) (drop i lent) ∙ ap₂ ◌+◌ (length-take-le i from h) (length-drop i lent) ∙ omega arith
-
 pub fill_more : (from lent : List Column) (i : ℕ) → i < length from → i < length lent
     → set (filling from lent i) i (get_or from i no_column) ≡ filling from lent (suc i)
 fill_more from lent i h l =
@@ -59,11 +55,3 @@ module _ (list : List ℕ) (room : ℕ) (l : Listed) (says : ListedAs (spelled l
         there = omega (arith, is.count, (enough room (length (spelled_columns list)) (ColumnRoom (length (spelled_columns list))) Pass p.1).0);
         columns = λ lent long. rw (long, c, is.cols, is.count) refl;
       }
-
--- ---- what is planned is written and answered
-pub read_done : (list : List ℕ) (lent : List Column) (r : Reading) (a : Answer) (cs : List Column) (k : ℕ) (lent' : List Column) → Planned list (length lent) r → a ≡ r.answer
-    → cs ≡ r.columns → k ≡ r.count → lent' ≡ filling cs lent k → ListRead list lent a lent'
-read_done list lent r a cs k lent' plan p q t w = record {
-  answers = ap numbers_of (p ∙ plan.answers);
-  descriptions = w ∙ ap₂ (λ (xs : List Column) (m : ℕ). filling xs lent m) q t ∙ plan.columns lent refl;
-}

@@ -1,4 +1,6 @@
 // read_list: the columns of a list into lent columns.
+#![tactic(auto)]
+
 ghost use Rattle.std.specs.Prelude.{◌≡◌, ◌≤◌, length};
 ghost use Rattle.format.specs.Limits.{max_columns};
 ghost use Rattle.format.specs.Promises.{ListRead};

@@ -1,5 +1,7 @@
 // The column list as bytes: checked left to right, and read once into an array of columns. The crates `column_reader` and `code_reader`
 // do the same with its other two forms.
+#![tactic(auto)]
+
 ghost use Rattle.std.specs.Prelude.{◌≡◌, ◌+◌, ◌<◌, ◌≤◌, length, get_or};
 ghost use Rattle.format.specs.Columns.{description_bytes, width_at, column_at, description_fault};
 ghost use Rattle.format.specs.Described.{spelled};

@@ -1,4 +1,6 @@
 // Measuring: how many bytes the rows of a sheet take, under a list that was read, however it came.
+#![tactic(auto)]
+
 ghost use Rattle.std.specs.Prelude.{◌≡◌};
 ghost use Rattle.format.specs.declared.Check.TheVariants.{Refuse};
 ghost use Rattle.format.specs.Promises.{Measured};

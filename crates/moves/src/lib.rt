@@ -1,5 +1,7 @@
 // What one byte does to its field, as it is answered; and the places in a field that have a few words for it: the lead byte, and the bytes
 // after a null's.
+#![tactic(auto)]
+
 use format::{RowFault, Spot};
 
 pub mod lead;

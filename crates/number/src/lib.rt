@@ -1,6 +1,8 @@
 // Numbers of 8 to 64 bits, a function for each width: as the value bytes of a row (FixedLengthEncoding of the Rust's fixed.rs). What the
 // widths share is proved once, over the width or the count of bytes. The crates beneath are passed on: `words`, numbers in memory low byte
 // first; `codecs`, on `signs`, their keys; `folds`, floats folded.
+#![tactic(auto)]
+
 mod coded;
 
 pub use codecs::{directed8, directed16, directed32, directed64};

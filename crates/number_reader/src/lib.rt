@@ -1,4 +1,6 @@
 // The number whose value bytes stand at a place of a row, as its bytes in the sheet. The parts of an interval are such.
+#![tactic(auto)]
+
 ghost use Rattle.std.specs.Prelude.{◌≡◌, true, ◌+◌, ◌*◌, ◌^◌, ◌<◌, ◌≤◌, length, take, drop};
 ghost use Rattle.std.proofs.lemmas.List.Edits.{sets};
 ghost use Rattle.format.specs.Lists.{low_bytes};

@@ -1,4 +1,6 @@
 // The offsets of a batch.
+#![tactic(auto)]
+
 ghost use Rattle.std.specs.Prelude.{◌≡◌, ◌≤◌};
 ghost use Rattle.format.specs.Limits.{max_rows};
 ghost use Rattle.format.specs.Entries.{offsets_fault};

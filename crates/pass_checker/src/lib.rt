@@ -1,4 +1,6 @@
 // The check of a pass: 6, 14, 15, 12, 26.
+#![tactic(auto)]
+
 ghost use Rattle.std.specs.Prelude.{◌≡◌, ◌≤◌};
 ghost use Rattle.format.specs.Limits.{max_rows};
 ghost use Rattle.format.specs.Passed.{Cuts};

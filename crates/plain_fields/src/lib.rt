@@ -1,5 +1,7 @@
 // Fields that need no reader: where every value byte is allowed, a field that opens with 01 and is there whole is good, and so is
 // the null byte with zeros. How long they are is worked out once a column, outside of the walk.
+#![tactic(auto)]
+
 ghost use Rattle.std.specs.Prelude.{◌≡◌, true, ℕ, ◌-◌, ◌<◌, ◌≤◌, length, get_or, take, drop};
 ghost use Rattle.format.specs.Kinds.{value_bytes};
 ghost use Rattle.format.specs.Limits.{max_width};

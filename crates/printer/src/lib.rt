@@ -1,4 +1,6 @@
 // What the program prints for what it reads: document 01's input taken apart, encoded, and shown as text.
+#![tactic(auto)]
+
 ghost use Rattle.std.specs.Prelude.{◌≤◌, length};
 ghost use Rattle.format.specs.Program.{output};
 ghost use Rattle.basics.specs.Wrote.{Wrote};

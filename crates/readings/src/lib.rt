@@ -1,1 +1,2 @@
 // No code: what reading a column list once gives, as theorems on the definitions of crate format, in proofs/.
+#![tactic(auto)]

@@ -1,6 +1,7 @@
 // Demand 2: what encode wrote decodes to the cleared sheet, and what decode wrote encodes to the same rows. Each function calls the real
 // entries on lent buffers, and what it ensures is the demand itself. Neither asks anything of its caller. The theorems behind them stand in
 // crate `demands`.
+#![tactic(auto)]
 ghost use Rattle.format.specs.Described.{spelled};
 ghost use Rattle.demands.specs.RoundTrip.{CameBack, CameAgain};
 

@@ -1,4 +1,6 @@
 // Two rows of lent batches, compared where they lie.
+#![tactic(auto)]
+
 ghost use Rattle.std.specs.Prelude.{◌≡◌};
 ghost use Rattle.format.specs.Batch.{below as below·};
 ghost use Rattle.format.specs.Entries.{row_bytes};

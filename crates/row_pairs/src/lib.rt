@@ -1,4 +1,6 @@
 // Pairs of rows of two sheets, by their numbers: a list that is lent, and after it those in lent bytes.
+#![tactic(auto)]
+
 ghost use Rattle.std.specs.Prelude.{◌≡◌, ◌<◌, length, get_or};
 ghost use Rattle.format.specs.CompareSheets.{pair_count, pairs_fault};
 ghost use Rattle.row_pairs.specs.Pairs.{pair_rows};
@@ -26,6 +28,7 @@ pub fn pair_count(numbers: &[u64], bytes: &[u8]) -> usize
 }
 
 // 32: the first pair with a row that its sheet does not have, of n rows the first sheet and of m rows the second.
+#[tactic(auto, using(crate::proofs::Pairs::rows_many))]
 pub fn check_pairs(n: u64, m: u64, numbers: &[u64], bytes: &[u8]) -> Check
     ensures { result ≡ pairs_fault n m (pair_rows numbers.now bytes.now) 0
         (pair_count (pair_rows numbers.now bytes.now)) }

@@ -1,32 +1,47 @@
 // The program of document 01: it reads standard input, at most 32,768 bytes of it, and writes what crate `printer` makes of it to
 // standard output.
+#![tactic(auto)]
+
 ghost use Rattle.std.specs.Prelude.{◌≤◌, length};
 ghost use Rattle.format.specs.Program.{input_room};
-ghost use Rattle.printer.specs.Printed.{Read};
+ghost use Rattle.printer.specs.Printed.{Read as Taken};
 
-use libc::{STDIN_FILENO, STDOUT_FILENO};
 use printer::{INPUT_ROOM, TEXT_ROOM};
+use std::io;
+use std::io::{Read, Write};
+
+// Reads until the buffer is full or the input ends, and answers how many bytes came. A read that fails counts as the end.
+fn read_full<R: Read>(reader: &mut R, buffer: &mut [u8]) -> usize
+    ensures { result ≤ length buffer.new }
+{
+    let mut done = 0;
+    while done < buffer.len() {
+        match reader.read(&mut buffer[done..]) {
+            Ok(n) if n > 0 => done += n,
+            _ => break,
+        }
+    }
+    done
+}
 
 // Whether more follows what was read: only where there was no room for more, and one byte more comes.
-fn more_follows(input: &[u8]) -> bool
+fn more_follows<R: Read>(reader: &mut R, input: &[u8]) -> bool
     requires { length input.now ≤ input_room }
-    ensures { Read input.now result }
+    ensures { Taken input.now result }
 {
     if input.len() < INPUT_ROOM {
         return false;
     }
     let mut next = [0u8; 1];
-    io::read_full(STDIN_FILENO, &mut next) == 1
+    read_full(reader, &mut next) == 1
 }
 
-fn main() {
+fn main(rt: HostRuntime) -> io::Result<()> {
+    let mut stdin = rt.stdin();
     let mut input = [0u8; INPUT_ROOM];
-    let n = io::read_full(STDIN_FILENO, &mut input);
-    let more = more_follows(&input[..n]);
+    let n = read_full(&mut stdin, &mut input);
+    let more = more_follows(&mut stdin, &input[..n]);
     let mut text = [0u8; TEXT_ROOM];
     let k = printer::print(&input[..n], more, &mut text);
-    let is_written = io::write_all(STDOUT_FILENO, &text[..k]);
-    if !is_written {
-        os::fail(b"standard output");
-    }
+    rt.stdout().write_all(&text[..k])
 }

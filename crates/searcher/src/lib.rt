@@ -1,5 +1,7 @@
 // Looking a key up under a list that was read, however it came: its checks, and then the search for the rows of a sorted batch that begin
 // with the key.
+#![tactic(auto)]
+
 ghost use Rattle.format.specs.Promises.{LookedUp};
 ghost use Rattle.list_reader.specs.Listing.{OfList, OfEach};
 

@@ -1,4 +1,6 @@
 // One column of a sheet, in the part that the columns before it left: checked, its bytes and its null rows.
+#![tactic(auto)]
+
 ghost use Rattle.std.specs.Prelude.{◌≡◌, false, ◌≤◌, length, take};
 ghost use Rattle.format.specs.Limits.{max_rows, max_width};
 ghost use Rattle.format.specs.Kinds.{value_bytes, shape};

@@ -1,4 +1,6 @@
 // The ends of a column of variable bytes: read, and checked row by row.
+#![tactic(auto)]
+
 ghost use Rattle.std.specs.Prelude.{◌≡◌, suc, ◌*◌, ◌<◌, ◌≤◌, length};
 ghost use Rattle.format.specs.Limits.{max_rows};
 ghost use Rattle.format.specs.Sheet.{end, ends_fault};

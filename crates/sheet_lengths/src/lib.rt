@@ -1,4 +1,6 @@
 // The lengths of the fields of a column that passes, row by row and together.
+#![tactic(auto)]
+
 ghost use Rattle.std.specs.Prelude.{◌≡◌, false, ◌*◌, ◌<◌, ◌≤◌};
 ghost use Rattle.format.specs.Limits.{max_rows, max_width};
 ghost use Rattle.format.specs.Kinds.{value_bytes};

@@ -1,4 +1,6 @@
 // The measuring walk: the total row bytes of a checked sheet, column by column.
+#![tactic(auto)]
+
 ghost use Rattle.std.specs.Prelude.{◌≡◌, ◌≤◌};
 ghost use Rattle.format.specs.declared.Check.TheVariants.{Pass};
 ghost use Rattle.format.specs.Limits.{max_rows};

@@ -1,2 +1,4 @@
 // The sheet, checked against its columns.
+#![tactic(auto)]
+
 pub mod sheet;

@@ -1,4 +1,6 @@
 // A sheet encoded, and shown as text.
+#![tactic(auto)]
+
 ghost use Rattle.std.specs.Prelude.{◌≤◌, length};
 ghost use Rattle.basics.specs.Wrote.{Wrote};
 ghost use Rattle.format.specs.Described.{spelled};

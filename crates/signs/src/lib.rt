@@ -1,4 +1,6 @@
 // Signed numbers and their two's complement patterns, and the rank of a float's pattern.
+#![tactic(auto)]
+
 ghost use Rattle.std.specs.Prelude.{◌≡◌, reverse};
 ghost use Rattle.std.specs.Int.{w8, w16, w32, w64};
 ghost use Rattle.std.proofs.Common.{to_z, of_z};

@@ -1,5 +1,7 @@
 // Decode with the smallest array of numbers that will do: each size has a function of its own, so that a call clears no more. Six tests stand
 // before the arrays of more than 513, so that the optimiser takes these calls for rare and leaves the arrays out of the caller's frame.
+#![tactic(auto)]
+
 ghost use Rattle.std.specs.Prelude.{◌+◌, ◌*◌, ◌≤◌, length};
 ghost use Rattle.format.specs.Limits.{max_rows};
 ghost use Rattle.format.specs.Promises.{Decoded, LentDecoded};

@@ -1,4 +1,6 @@
 // A row cutter's state as lent bytes: thirteen numbers of eight bytes, low byte first, then four bytes for each column that there may be.
+#![tactic(auto)]
+
 use format::MAX_COLUMNS;
 
 mod read;

@@ -1,5 +1,7 @@
 // The demand on rows from a pipe: a function that calls the real entries, and ensures that where the pieces are cut does not matter. It asks
 // nothing of its caller.
+#![tactic(auto)]
+
 ghost use Rattle.std.specs.Prelude.{◌≡◌, ◌≤◌, length};
 ghost use Rattle.streams.specs.Anywhere.{place_in, lent, CutTwice};
 

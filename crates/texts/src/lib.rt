@@ -1,4 +1,6 @@
 // The text of rows and of refusals. Each writer puts its piece at a place and returns the place after it.
+#![tactic(auto)]
+
 ghost use Rattle.std.specs.Prelude.{◌≡◌, ◌+◌, ◌<◌, ◌≤◌, length};
 ghost use Rattle.format.specs.Numbers.{refusal_numbers};
 ghost use Rattle.format.specs.Entries.{cut_rows};

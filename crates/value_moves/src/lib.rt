@@ -1,4 +1,6 @@
 // The value bytes of a fixed field.
+#![tactic(auto)]
+
 ghost use Rattle.std.specs.Prelude.{◌≡◌, true, ◌⊎◌, reverse, ℕ, ◌^◌, ◌<◌, ◌≤◌};
 ghost use Rattle.format.specs.Lists.{low_bytes};
 ghost use Rattle.format.specs.declared.Spot.TheVariants.{Value};

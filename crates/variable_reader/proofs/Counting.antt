@@ -15,7 +15,7 @@ use Rattle.format.specs.Field.{directed, block_size}
 use Rattle.format.specs.Read.{Parsed, got, fault, after}
 use Rattle.laws.proofs.Directed.{length_directed}
 use Rattle.variable_reader.specs.Counted.{blocks_read, block_at, counted, LastCounted}
-use Rattle.variable_reader.proofs.Reading.{Rest, rest_start, rest_cut, rest_block}
+use Rattle.variable_reader.proofs.Reading.{Rest, rest_cut, rest_block}
 
 -- at a place of the row, before block k, with c bytes of the value counted
 pub record Counting (d : Bool) (row : List ℕ) (at k c : ℕ) : Type 0 where
@@ -23,9 +23,6 @@ pub record Counting (d : Bool) (row : List ℕ) (at k c : ℕ) : Type 0 where
   pub inside : at ≤ length row
   pub within : c ≤ max_slot
   pub says : counted (length row) 0 (blocks_read d row) ≡ counted (length row) c (Rest (directed d row) at k c)
-
-pub counting_start : (d : Bool) (row : List ℕ) → 0 < length row → Counting d row 1 0 0
-counting_start d row h = record { few = omega arith; inside = h; within = omega arith; says = ap (counted (length row) 0) (rest_start d row) }
 
 -- the data of one block are counted
 counted_after : (n c m : ℕ) (p : List ℕ) (r : Parsed (List ℕ)) → length p ≡ m → counted n c (after p r) ≡ counted n (c + m) r

@@ -2,6 +2,5 @@
 pub mod Padding
 pub mod Reading
 pub mod Counting
-pub mod Lead
 pub mod Taking
 pub mod Twice

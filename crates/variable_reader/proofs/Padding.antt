@@ -3,7 +3,6 @@ use Prim.Native.Nat.{ℕ, zero, suc, ◌+◌, ◌-◌, ◌*◌, ◌/◌, ◌^◌
 use mathlib.Core.Path.{◌≡◌, refl, sym, ap, ◌∙◌}
 use mathlib.Core.Bool.{Bool, true, false, cond}
 use mathlib.Core.List.{List, [], ◌∷◌, ◌++◌}
-use native.Mathlib.Nat.{sub-eq-zero_of_le}
 use native.Mathlib.Numerals.{add-one}
 use native.Mathlib.Omega.{arith}
 use lib.Dec.{eqb}
@@ -37,9 +36,6 @@ pub record Clear (t : List ℕ) (from to i : ℕ) : Type 0 where
   pub high : i ≤ to
   pub same : from_bad (take (to - from) (drop from t)) ≡ from_bad (take (to - i) (drop i t))
 
-pub clear_start : (t : List ℕ) (from to : ℕ) → from ≤ to → Clear t from to from
-clear_start t from to h = record { low = omega arith; high = h; same = refl }
-
 module _ {t : List ℕ} {from to i : ℕ} (k : Clear t from to i) where
   -- what follows the byte at place i
   abbrev after : List ℕ
@@ -61,9 +57,6 @@ module _ {t : List ℕ} {from to i : ℕ} (k : Clear t from to i) where
   clear_bad h l z =
       sym (step h l ∙ rw (ne_eqb (get_or t i 0) 0 z)
       (omega (arith, length-take-le (to - (i + 1)) (drop (i + 1) t) (omega (arith, length-drop (i + 1) t)))))
-
-  pub clear_end : to ≤ i → 0 ≡ from_bad (take (to - from) (drop from t))
-  clear_end h = sym (k.same ∙ rw (sub-eq-zero_of_le h))
 
 -- ---- a word at a time
 

@@ -1,5 +1,5 @@
 -- Reading the blocks of a field, from any place on. t is the row's bytes, inverted back. Assumes nothing.
-use Prim.Native.Nat.{ℕ, zero, suc, ◌+◌, ◌-◌, ◌%◌, ◌<◌, ◌≤◌}
+use Prim.Native.Nat.{ℕ, zero, suc, ◌+◌, ◌-◌, ◌<◌, ◌≤◌}
 use mathlib.Core.Path.{◌≡◌, refl, sym, ap, ap₂, ◌∙◌, subst}
 use mathlib.Core.Bool.{Bool, true, false, cond}
 use mathlib.Core.List.{List, [], ◌∷◌}
@@ -10,34 +10,19 @@ use lib.ListN.{length, get_or, take, drop, length-drop}
 use lib.Seq.{drop-drop, get_or-drop, length-take-le}
 use borrow.Author.Tests.{lt-ltb, le-ltb, le-leb, lt-leb, ne_eqb}
 use Rattle.format.specs.declared.RowFault.{RowFault}
-use Rattle.format.specs.declared.RowFault.TheVariants.{Cut, EndByte, Padding, TooLong}
+use Rattle.format.specs.declared.RowFault.TheVariants.{Cut, Padding, TooLong}
 use Rattle.format.specs.declared.FieldRead.TheVariants.{Value, Fault}
 use Rattle.format.specs.Limits.{max_slot}
-use Rattle.format.specs.Field.{directed, block_size}
+use Rattle.format.specs.Field.{block_size}
 use Rattle.format.specs.Read.{Parsed, got, fault, all_zero, from_bad, read_block, read_blocks}
-use Rattle.laws.proofs.Directed.{length_directed}
-use Rattle.variable_reader.specs.Counted.{blocks_read, block_at, counted, LastCounted}
+use Rattle.variable_reader.specs.Counted.{block_at, counted, LastCounted}
 use Rattle.number.proofs.Tops.{drop_take}
 
 -- what is read from block k on, at a place of t, with c bytes of the value before
 abbrev pub Rest : List ℕ → ℕ → ℕ → ℕ → Parsed (List ℕ)
 Rest t at k c = read_blocks block_size max_slot (length t - 1 - k) k c (drop at t)
 
--- from the first block on
-pub rest_start : (d : Bool) (row : List ℕ) → blocks_read d row ≡ Rest (directed d row) 1 0 0
-rest_start d row =
-    ap (λ (n : ℕ). read_blocks block_size max_slot n 0 0 (drop 1 (directed d row))) {x = length row - 1} {y = length (directed d row) - 1 - 0}
-    (omega (arith, length_directed d row))
-
 -- ---- the block at a place
-
--- a block holds whole words
-pub size_words : (k size : ℕ) → size ≡ block_size k → size % 8 ≡ 0
-size_words k size e = ap (λ (n : ℕ). n % 8) e ∙ go (ltb k 4)
-  where
-    go : (b : Bool) → cond b 8 32 % 8 ≡ 0
-    go true = refl
-    go false = refl
 
 -- no whole block is there
 pub rest_cut : (t : List ℕ) (at k c : ℕ) → length t - at ≤ block_size k → Rest t at k c ≡ fault Cut 0
@@ -103,14 +88,6 @@ module _ (t : List ℕ) (n at size end c : ℕ) (long : length t ≡ n) (inside 
   -- the bytes from the end byte on
   left : n - at - size ≡ suc (length after-it)
   left = omega (arith, length-drop (at + (size + 1)) t)
-
-  -- no data, or more than the block holds
-  pub ended_none : end < 1 → LastCounted t n at size end c (Fault EndByte (n - at - size))
-  ended_none h more = faulty n c EndByte _ _ (block_at t at size end c more) left (rw (ne_eqb end 255 last) (rw (lt-ltb end 1 h)))
-
-  pub ended_over : 1 ≤ end → size < end → LastCounted t n at size end c (Fault EndByte (n - at - size))
-  ended_over o h more =
-      faulty n c EndByte _ _ (block_at t at size end c more) left (rw (ne_eqb end 255 last) (rw (le-ltb end 1 o) (rw (lt-ltb size end h))))
 
   module _ (o : 1 ≤ end) (h : end ≤ size) (bad : ℕ) (b : bad ≡ from_bad (take (at + size - (at + end)) (drop (at + end) t))) where
     -- a last block that may be: its padding, its length

@@ -12,14 +12,14 @@ use lib.Seq.{sets, length-take-le, take-take}
 use borrow.Author.Tests.{ltb-false, ne_eqb}
 use Rattle.format.specs.Limits.{max_slot}
 use Rattle.format.specs.Field.{directed, block_size}
-use Rattle.format.specs.Read.{Parsed, got, fault, Good, all_zero}
-use Rattle.basics.proofs.Append.{Walk, walk_first, walk_at, walk_piece, walk_room, walk_end}
+use Rattle.format.specs.Read.{Parsed, got, all_zero}
+use Rattle.basics.proofs.Append.{Walk, walk_at, walk_piece, walk_room, walk_end}
 use Rattle.basics.proofs.Compare.{choose}
 use Rattle.laws.proofs.Directed.{length_directed, directed_take, directed_drop}
 use Rattle.laws.proofs.Parsed.{fault_got, not_fault, yes_got, or_false}
 use Rattle.laws.proofs.ReadBlocks.{after_got}
 use Rattle.variable_reader.specs.Counted.{blocks_read, block_at, value_of, rest_of}
-use Rattle.variable_reader.proofs.Reading.{Rest, rest_start, rest_cut, rest_block}
+use Rattle.variable_reader.proofs.Reading.{Rest, rest_cut, rest_block}
 
 -- at a place of the row, before block k, with c bytes of the value written
 pub record Taking (d : Bool) (row out₀ : List ℕ) (at : ℕ) (out : List ℕ) (from k c : ℕ) : Type 0 where
@@ -27,19 +27,6 @@ pub record Taking (d : Bool) (row out₀ : List ℕ) (at : ℕ) (out : List ℕ)
   pub rest : List ℕ
   pub read : Rest (directed d row) from k c ≡ got rest (rest_of (blocks_read d row))
   pub wrote : Walk (value_of (blocks_read d row)) rest out₀ at out (at + c)
-
--- at the first block
-pub taking_start : (d : Bool) (row out : List ℕ) (at : ℕ) → Good (blocks_read d row) → Taking d row out at out 1 0 0
-taking_start d row out at g = record {
-  few = omega arith;
-  rest = value_of (blocks_read d row);
-  read = sym (rest_start d row) ∙ whole (blocks_read d row) g;
-  wrote = walk_first (value_of (blocks_read d row)) (value_of (blocks_read d row)) out at refl;
-}
-  where
-    whole : (m : Parsed (List ℕ)) → Good m → m ≡ got (value_of m) (rest_of m)
-    whole (got v r) g = refl
-    whole (fault f l) g = absurd g
 
 module _ {d : Bool} {row out₀ : List ℕ} {at : ℕ} {out : List ℕ} {from k c : ℕ} (q : Taking d row out₀ at out from k c) (size : ℕ)
     (is : size ≡ block_size k) where

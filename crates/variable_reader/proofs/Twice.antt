@@ -5,7 +5,7 @@ use mathlib.Core.Bool.{Bool}
 use mathlib.Core.List.{List, [], ◌∷◌, ◌++◌}
 use native.Mathlib.Omega.{arith}
 use lib.ListN.{length, get_or, set, take, drop, length-drop}
-use lib.Seq.{sets, length-sets, sets-eq, drop-cons, take-set-le, drop-set-lt, length-take-le}
+use lib.Seq.{sets, length-sets, sets-eq, take-set-le, drop-set-lt, length-take-le}
 use Rattle.format.specs.Field.{directed}
 use Rattle.format.specs.Lists.{low, low_bytes}
 use Rattle.laws.proofs.Directed.{length_directed}
@@ -56,7 +56,3 @@ module _ (l : List ℕ) (q m : ℕ) (d : Bool) (out₀ : List ℕ) (at : ℕ) (i
 pub word_is : (l : List ℕ) (q w : ℕ) (d : Bool) (x y : ℕ) → ((j : ℕ) → get_or l j 0 < 256) → q + w ≤ length l → x ≡ low (take w (drop q l))
     → low_bytes w y ≡ directed d (low_bytes w x) → low_bytes w y ≡ directed d (take w (drop q l))
 word_is l q w d x y b h e f = f ∙ ap (directed d) (read_back w l q x b h e)
-
--- one byte
-pub one_byte : (l : List ℕ) (q m : ℕ) → q < length l → m ≡ 1 → get_or l q 0 ∷ [] ≡ take m (drop q l)
-one_byte l q m h e = sym (ap (take 1) (drop-cons l q 0 h)) ∙ ap (λ (n : ℕ). take n (drop q l)) (sym e)

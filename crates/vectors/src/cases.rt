@@ -9,160 +9,176 @@ ghost use Rattle.std.specs.Prelude.{◌<◌, ◌≤◌, length};
 
 use crate::reader::{place, read_hex, read_numbers, word};
 use crate::show::{end_line, show, show_bytes, show_offsets, show_sign};
-use libc::STDOUT_FILENO;
+use std::io;
+use std::io::Write;
 
 // The most bytes of a word or a buffer, and the most numbers.
 const BYTES: usize = 2048;
 
 const NUMBERS: usize = 64;
 
-fn as_room(x: u64) -> usize {
-    x as usize
-}
-
 // The list checked, the sheet measured and encoded, and what the buffers then hold decoded.
-fn show_all(
+fn show_all<W: Write>(
+    out: &mut W,
     list: &[u8],
     n: u64,
     sheet: &[u8],
     rows: &mut [u8],
     offsets: &mut [u64],
     back: &mut [u8],
-) {
-    show(b"list", station::list::check_list(list));
-    show(b" measure", station::measure::measure(list, n, sheet));
+) -> io::Result<()> {
+    show(out, "list", station::list::check_list(list))?;
+    show(out, " measure", station::measure::measure(list, n, sheet))?;
     show(
-        b" encode",
+        out,
+        " encode",
         station::encode::encode(list, n, sheet, rows, offsets),
-    );
-    show_offsets(offsets);
-    show_bytes(rows);
+    )?;
+    show_offsets(out, offsets)?;
+    show_bytes(out, rows)?;
     show(
-        b" decode",
+        out,
+        " decode",
         station::decode::decode(list, n, rows, offsets, back),
-    );
-    show_bytes(back);
-    end_line();
+    )?;
+    show_bytes(out, back)?;
+    end_line(out)
 }
 
 // The sheet comes back into as much room as it takes.
-fn encode(list: &[u8], sheet: &[u8], numbers: &[u64]) -> bool {
+fn encode<W: Write>(out: &mut W, list: &[u8], sheet: &[u8], numbers: &[u64]) -> io::Result<bool> {
     let mut rows = [0xEEu8; BYTES];
     let mut offsets = [9u64; NUMBERS];
     let mut back = [0xEEu8; BYTES];
     if numbers.len() != 3 {
-        return false;
+        return Ok(false);
     }
-    let r = as_room(numbers[1]);
-    let o = as_room(numbers[2]);
+    let r = numbers[1] as usize;
+    let o = numbers[2] as usize;
     let s = sheet.len();
-    if BYTES < r {
-        return false;
-    }
-    if NUMBERS < o {
-        return false;
-    }
-    if BYTES < s {
-        return false;
+    if BYTES < r || NUMBERS < o || BYTES < s {
+        return Ok(false);
     }
     show_all(
+        out,
         list,
         numbers[0],
         sheet,
-        &mut rows[0..r],
-        &mut offsets[0..o],
-        &mut back[0..s],
-    );
-    true
+        &mut rows[..r],
+        &mut offsets[..o],
+        &mut back[..s],
+    )?;
+    Ok(true)
 }
 
-fn show_decoded(list: &[u8], n: u64, rows: &[u8], offsets: &[u64], sheet: &mut [u8]) {
+fn show_decoded<W: Write>(
+    out: &mut W,
+    list: &[u8],
+    n: u64,
+    rows: &[u8],
+    offsets: &[u64],
+    sheet: &mut [u8],
+) -> io::Result<()> {
     show(
-        b"decode",
+        out,
+        "decode",
         station::decode::decode(list, n, rows, offsets, sheet),
-    );
-    show_bytes(sheet);
-    end_line();
+    )?;
+    show_bytes(out, sheet)?;
+    end_line(out)
 }
 
-fn decode(list: &[u8], rows: &[u8], numbers: &[u64]) -> bool {
+fn decode<W: Write>(out: &mut W, list: &[u8], rows: &[u8], numbers: &[u64]) -> io::Result<bool> {
     let mut sheet = [0xEEu8; BYTES];
     if numbers.len() < 2 {
-        return false;
+        return Ok(false);
     }
-    let s = as_room(numbers[1]);
+    let s = numbers[1] as usize;
     if BYTES < s {
-        return false;
+        return Ok(false);
     }
-    show_decoded(list, numbers[0], rows, &numbers[2..], &mut sheet[0..s]);
-    true
+    show_decoded(out, list, numbers[0], rows, &numbers[2..], &mut sheet[..s])?;
+    Ok(true)
 }
 
-fn compare(a: &[u8], b: &[u8]) -> bool {
-    show_sign(b"compare", station::compare::compare(a, b));
-    end_line();
-    true
+fn compare<W: Write>(out: &mut W, a: &[u8], b: &[u8]) -> io::Result<bool> {
+    show_sign(out, "compare", station::compare::compare(a, b))?;
+    end_line(out)?;
+    Ok(true)
 }
 
 // Runs a case; false if there is no such case.
-fn run_case(name: &[u8], first: &[u8], second: &[u8], numbers: &[u64]) -> bool {
-    if check::same(name, b"encode") {
-        return encode(first, second, numbers);
+fn run_case<W: Write>(
+    out: &mut W,
+    name: &[u8],
+    first: &[u8],
+    second: &[u8],
+    numbers: &[u64],
+) -> io::Result<bool> {
+    if name == b"encode".as_slice() {
+        return encode(out, first, second, numbers);
     }
-    if check::same(name, b"decode") {
-        return decode(first, second, numbers);
+    if name == b"decode".as_slice() {
+        return decode(out, first, second, numbers);
     }
-    if check::same(name, b"compare") {
-        return compare(first, second);
+    if name == b"compare".as_slice() {
+        return compare(out, first, second);
     }
-    false
+    Ok(false)
 }
 
 // Runs the case of a line; false if it holds none.
-fn run_line(line: &[u8]) -> bool {
+fn run_line<W: Write>(out: &mut W, line: &[u8]) -> io::Result<bool> {
     let mut first = [0u8; BYTES];
     let mut second = [0u8; BYTES];
     let mut numbers = [0u64; NUMBERS];
-    let a = read_hex(word(line, 1), &mut first);
-    let b = read_hex(word(line, 2), &mut second);
-    let k = read_numbers(word(line, 3), &mut numbers);
-    if BYTES < a {
-        return false;
+    let Some(a) = read_hex(word(line, 1), &mut first) else {
+        return Ok(false);
+    };
+    let Some(b) = read_hex(word(line, 2), &mut second) else {
+        return Ok(false);
+    };
+    let Some(k) = read_numbers(word(line, 3), &mut numbers) else {
+        return Ok(false);
+    };
+    if !word(line, 4).is_empty() {
+        return Ok(false);
     }
-    if BYTES < b {
-        return false;
-    }
-    if NUMBERS < k {
-        return false;
-    }
-    if word(line, 4).len() != 0 {
-        return false;
-    }
-    run_case(word(line, 0), &first[0..a], &second[0..b], &numbers[0..k])
+    run_case(out, word(line, 0), &first[..a], &second[..b], &numbers[..k])
 }
 
-// Runs the case of the line at a place, and answers where the next one begins; past a line that holds none, which is shown, that is
-// the end.
-fn step(text: &[u8], at: usize) -> usize
+// Where the line after the one at a place begins, if that one holds a case; past a line that holds none, that is the end.
+fn step(text: &[u8], at: usize, is_case: bool) -> usize
     requires { at < length text.now }
     ensures { (at < result) × (result ≤ length text.now) }
 {
     let end = place(text, at, b'\n');
-    if end < text.len() {
-        if run_line(&text[at..end]) {
-            return end + 1;
-        }
+    if is_case && end < text.len() {
+        return end + 1;
     }
-    io::write_all(STDOUT_FILENO, b"not a case: ");
-    io::write_all(STDOUT_FILENO, &text[at..end]);
-    end_line();
     text.len()
 }
 
+// Runs the case of the line at a place; false if it holds none, which is shown. The last line is one only if a newline ends it.
+fn run_at<W: Write>(out: &mut W, text: &[u8], at: usize) -> io::Result<bool>
+    requires { at < length text.now }
+{
+    let end = place(text, at, b'\n');
+    if end < text.len() && run_line(out, &text[at..end])? {
+        return Ok(true);
+    }
+    out.write_all(b"not a case: ")?;
+    out.write_all(&text[at..end])?;
+    end_line(out)?;
+    Ok(false)
+}
+
 // Runs the cases of a text, up to the first line that holds none.
-pub fn run(text: &[u8]) {
+pub fn run<W: Write>(out: &mut W, text: &[u8]) -> io::Result<()> {
     let mut at = 0;
     while at < text.len() {
-        at = step(text, at);
+        let is_case = run_at(out, text, at)?;
+        at = step(text, at, is_case);
     }
+    Ok(())
 }

@@ -1,14 +1,19 @@
 // Document 01's cases to run, then the recorded cases of standard input, a line each; the gate holds what is printed.
-use libc::STDIN_FILENO;
+#![tactic(auto)]
+
+use std::io;
+use std::io::{BufWriter, Read, Write};
 
 mod cases;
 mod document;
 mod reader;
 mod show;
 
-fn main() {
-    document::run();
-    let mut input = [0u8; 131072];
-    let k = io::read_full(STDIN_FILENO, &mut input);
-    cases::run(&input[..k]);
+fn main(rt: HostRuntime) -> io::Result<()> {
+    let mut out = BufWriter::new(rt.alloc(), rt.stdout())?;
+    document::run(&mut out)?;
+    let mut input = Vec::new(rt.alloc());
+    rt.stdin().read_to_end(&mut input)?;
+    cases::run(&mut out, &input)?;
+    out.flush()
 }

@@ -1,16 +1,18 @@
 // Cases as text: lines of words with a space between them. A word is bytes in hex, `-` for none, or decimal numbers with commas
 // between them.
-ghost use Rattle.std.specs.Prelude.{◌≤◌, length};
-
-// What a word that cannot be read answers: more than there is room for.
-const UNREAD: usize = 18446744073709551615;
+ghost use Rattle.std.specs.Prelude.{◌≤◌, length, IfSome};
 
 // The place of the first such byte from a place on, or the length.
 pub fn place(text: &[u8], from: usize, byte: u8) -> usize
     requires { from ≤ length text.now }
     ensures { (from ≤ result) × (result ≤ length text.now) }
 {
-    bytes::scan::find(text, from, text.len(), byte)
+    for i in from..text.len() {
+        if text[i] == byte {
+            return i;
+        }
+    }
+    text.len()
 }
 
 // Where the word after the one at a place begins.
@@ -30,10 +32,8 @@ fn start(line: &[u8], k: usize) -> usize
     ensures { result ≤ length line.now }
 {
     let mut at = 0;
-    let mut i = 0;
-    while i < k {
+    for _ in 0..k {
         at = next(line, at);
-        i += 1;
     }
     at
 }
@@ -54,65 +54,55 @@ fn digit(byte: u8) -> u8 {
     }
 }
 
-// The bytes of a word, put in front of `out`, and how many they are.
-pub fn read_hex(word: &[u8], out: &mut [u8]) -> usize {
-    if check::same(word, b"-") {
-        return 0;
-    }
-    if word.len() == 0 || word.len() % 2 == 1 {
-        return UNREAD;
+// The bytes of a word, put in front of `out`, and how many they are; none where the word is no such thing or has more than fit.
+pub fn read_hex(word: &[u8], out: &mut [u8]) -> Option<usize>
+    ensures { IfSome result (λ k. k ≤ length out.new) }
+{
+    if word == b"-".as_slice() {
+        return Some(0);
     }
     let k = word.len() / 2;
-    if out.len() < k {
-        return UNREAD;
+    if k == 0 || word.len() % 2 == 1 || out.len() < k {
+        return None;
     }
-    let mut i = 0;
-    while i < k {
+    for i in 0..k {
         let high = digit(word[2 * i]);
         let low = digit(word[2 * i + 1]);
         if high == 16 || low == 16 {
-            return UNREAD;
+            return None;
         }
         out[i] = high << 4 | low;
-        i += 1;
     }
-    k
+    Some(k)
 }
 
 // A number with one more decimal digit; the largest where that is too large.
 fn with_digit(number: u64, digit: u64) -> u64 {
-    if 1844674407370955161 < number {
-        return 18446744073709551615;
-    }
-    let tens = number * 10;
-    if 18446744073709551615 - tens < digit {
-        return 18446744073709551615;
-    }
-    tens + digit
+    number.saturating_mul(10).saturating_add(digit)
 }
 
-// The numbers of a word, put in front of `out`, which holds zeros, and how many they are.
-pub fn read_numbers(word: &[u8], out: &mut [u64]) -> usize {
-    if word.len() == 0 {
-        return 0;
+// The numbers of a word, put in front of `out`, which holds zeros, and how many they are; none where the word is no such thing or
+// has more than fit.
+pub fn read_numbers(word: &[u8], out: &mut [u64]) -> Option<usize>
+    ensures { IfSome result (λ k. k ≤ length out.new) }
+{
+    if word.is_empty() {
+        return Some(0);
     }
     let mut k = 0;
-    let mut i = 0;
-    while i < word.len() {
+    for &byte in word {
         if out.len() <= k {
-            return UNREAD;
+            return None;
         }
-        let byte = word[i];
         if byte == b',' {
             k += 1;
         } else {
             let d = digit(byte);
             if 9 < d {
-                return UNREAD;
+                return None;
             }
             out[k] = with_digit(out[k], d as u64);
         }
-        i += 1;
     }
-    k + 1
+    if k < out.len() { Some(k + 1) } else { None }
 }

@@ -1,75 +1,45 @@
 // Lines of output: names, numbers, bytes in hex.
 use format::Answer;
-use libc::STDOUT_FILENO;
+use std::io;
+use std::io::Write;
 
-fn space() {
-    io::write_all(STDOUT_FILENO, b" ");
-}
-
-pub fn end_line() {
-    io::write_all(STDOUT_FILENO, b"\n");
+pub fn end_line<W: Write>(out: &mut W) -> io::Result<()> {
+    out.write_all(b"\n")
 }
 
 // The case's name and its four numbers.
-pub fn show(name: &[u8], a: Answer) {
+pub fn show<W: Write>(out: &mut W, name: &str, a: Answer) -> io::Result<()> {
     let r = answers::numbers(a);
-    io::write_all(STDOUT_FILENO, name);
-    space();
-    io::print_decimal(STDOUT_FILENO, r.0);
-    space();
-    io::print_decimal(STDOUT_FILENO, r.1);
-    space();
-    io::print_decimal(STDOUT_FILENO, r.2);
-    space();
-    io::print_decimal(STDOUT_FILENO, r.3);
+    write!(out, "{name} {} {} {} {}", r.0, r.1, r.2, r.3)
 }
 
-fn wide(x: u8) -> u64 {
-    x as u64
-}
-
-fn show_hex(bytes: &[u8]) {
-    let mut i = 0;
-    while i < bytes.len() {
-        io::print_hex(STDOUT_FILENO, wide(bytes[i]), 2);
-        i += 1;
+fn show_hex<W: Write>(out: &mut W, bytes: &[u8]) -> io::Result<()> {
+    for byte in bytes {
+        write!(out, "{byte:02x}")?;
     }
+    Ok(())
 }
 
 // Bytes in hex; `-` for none.
-pub fn show_bytes(bytes: &[u8]) {
-    space();
-    if bytes.len() == 0 {
-        io::write_all(STDOUT_FILENO, b"-");
-        return;
+pub fn show_bytes<W: Write>(out: &mut W, bytes: &[u8]) -> io::Result<()> {
+    if bytes.is_empty() {
+        return out.write_all(b" -");
     }
-    show_hex(bytes);
+    out.write_all(b" ")?;
+    show_hex(out, bytes)
 }
 
-pub fn show_offsets(offsets: &[u64]) {
-    let mut i = 0;
-    while i < offsets.len() {
-        space();
-        io::print_decimal(STDOUT_FILENO, offsets[i]);
-        i += 1;
+pub fn show_offsets<W: Write>(out: &mut W, offsets: &[u64]) -> io::Result<()> {
+    for offset in offsets {
+        write!(out, " {offset}")?;
     }
+    Ok(())
 }
 
 // The case's name, and what compare answers.
-pub fn show_sign(name: &[u8], sign: i32) {
-    io::write_all(STDOUT_FILENO, name);
+pub fn show_sign<W: Write>(out: &mut W, name: &str, sign: i32) -> io::Result<()> {
     match sign {
-        -1 => {
-            io::write_all(STDOUT_FILENO, b" -1");
-        }
-        0 => {
-            io::write_all(STDOUT_FILENO, b" 0");
-        }
-        1 => {
-            io::write_all(STDOUT_FILENO, b" 1");
-        }
-        _ => {
-            io::write_all(STDOUT_FILENO, b" neither");
-        }
+        -1 | 0 | 1 => write!(out, "{name} {sign}"),
+        _ => write!(out, "{name} neither"),
     }
 }

@@ -1,6 +1,8 @@
 // Words in memory, low byte first. Each width is two halves of the width below, and the optimiser joins the bytes into
 // one load or store. It joins two loads at fixed places of one slice, and not two at places that are each worked out: so a
 // word is read from the front of what stands from its place on.
+#![tactic(auto)]
+
 ghost use Rattle.std.specs.Prelude.{◌≡◌, ◌+◌, ◌*◌, ◌≤◌, length, take, drop};
 ghost use Rattle.std.proofs.lemmas.List.Edits.{sets};
 ghost use Rattle.format.specs.Lists.{low, low_bytes};

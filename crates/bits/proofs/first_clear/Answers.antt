@@ -1,24 +1,19 @@
-use Prim.Native.Nat.{◌-◌}
 use mathlib.Core.Path.{sym, ◌∙◌}
 use native.Mathlib.Omega.{arith}
-use borrow.Author.Tests.{not-true, not-false}
 use Rattle.bits.proofs.Clear.{clear_on, set_one, clear_here, clear_end}
 use Rattle.bits.proofs.first_clear.Goals as goal
-
-pub loop-row-init : goal.loop-row-init
-loop-row-init c = c.set_words-row.ensures
 
 pub returns-then-not-bit : goal.returns-then-not-bit
 returns-then-not-bit c =
     let A = c.args in
-    let clear = sym c.bit.ensures ∙ not-true _ c.if-not-bit.true in
+    let clear = sym c.bit.ensures ∙ c.if-not-bit.true in
     clear_here A.s.now A.n c.loop-row.row (omega arith) clear ∙ c.loop-row.invariant.1
 
 pub loop-row-preserved : goal.loop-row-preserved
 loop-row-preserved c =
     let A = c.args in
     let row = c.loop-row.row in
-    let set = set_one A.s.now row (sym c.bit.ensures ∙ not-false _ c.if-not-bit.false) in
+    let set = set_one A.s.now row (sym c.bit.ensures ∙ c.if-not-bit.false) in
     (omega arith, clear_on A.s.now A.n row 1 (omega arith) set c.loop-row.invariant.1)
 
 pub returns : goal.returns

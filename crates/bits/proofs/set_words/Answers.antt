@@ -20,7 +20,7 @@ loop-k-preserved c =
     let A = c.args in
     let k = c.loop-k.k in
     let next : 64 * k + 64 ≡ 64 * (k + 1) = omega arith in
-    let ones = word_set A.s.now k (bytes_of A.s.now (λ i. (c.shared_slice_known-1.given i).fits)) (omega arith)
+    let ones = word_set A.s.now k (bytes_of A.s.now (λ i. (c.type_inv.s i).fits)) (omega arith)
     (omega (arith, c.low64.ensures, c.if-low64.false)) in
     (omega arith, rw (← next) (clear_on A.s.now A.n (64 * k) 64 (omega arith) ones c.loop-k.invariant.1))
 

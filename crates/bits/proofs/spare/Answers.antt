@@ -11,4 +11,4 @@ returns-then-k-eq0 c = sym (spare_full c.args.s.now c.args.n c.requires c.if-k-e
 pub returns : goal.returns
 returns c =
     let n = c.args.n in
-    sym (spare_shift c.args.s.now n c.requires c.if-k-eq0.false (c.shared_slice_known-1.given (n / 8)).fits)
+    sym (spare_shift c.args.s.now n c.requires c.if-k-eq0.false (c.type_inv.s (n / 8)).fits)

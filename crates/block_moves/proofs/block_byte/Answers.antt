@@ -6,17 +6,14 @@ use Rattle.block_moves.proofs.Marks.{block_on, block_full}
 use Rattle.block_moves.proofs.block_byte.Goals as goal
 
 pub marked-requires : goal.marked-requires
-marked-requires c = record { seen_bound = omega (arith, size_most c.args.k, c.block_size.ensures, c.if-seen-block_size.true); marks_bound = c.requires.marks_bound }
+marked-requires c = record { seen_bound = omega (arith, size_most c.args.k); marks_bound = c.requires.marks_bound }
 
 pub returns-then-seen-block_size : goal.returns-then-seen-block_size
 returns-then-seen-block_size c =
     let a = c.args in
-    block_on a.k a.seen a.marks a.at a.byte _ (omega (arith, c.block_size.ensures, c.if-seen-block_size.true)) c.marked.ensures
-
-pub end_byte-requires : goal.end_byte-requires
-end_byte-requires c = record { k_bound = c.requires.k_bound; k_bound_2 = omega (arith, c.requires.seen_le_at, c.block_size.ensures, c.if-seen-block_size.false); at_le_max_total = c.requires.at_le_max_total }
+    block_on a.k a.seen a.marks a.at a.byte _ (omega arith) c.marked.ensures
 
 pub returns : goal.returns
 returns c =
     let a = c.args in
-    c.end_byte.ensures ∙ block_full a.k a.seen a.marks a.at a.byte (omega (arith, c.block_size.ensures, c.if-seen-block_size.false))
+    c.end_byte.ensures ∙ block_full a.k a.seen a.marks a.at a.byte (omega arith)

@@ -1,3 +1,4 @@
+-- The bits passed are none that is set, in each turn and at each end. Assumes nothing.
 use Prim.Native.Nat.{◌-◌}
 use native.Mathlib.Omega.{arith}
 use Rattle.block_moves.proofs.Marks.{lowest_start, lowest_found, lowest_next, lowest_none}

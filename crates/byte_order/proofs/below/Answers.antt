@@ -10,7 +10,7 @@ use mir.Syntax.{w32}
 use mir.Val.{of_z}
 use Rattle.format.specs.Order.{cmp}
 use Rattle.format.specs.Batch.{is_below}
-use Rattle.format.specs.Entries.{sign}
+use Rattle.format.specs.Entries.{sign, compare_answer}
 use Rattle.byte_order.proofs.below.Goals as goal
 
 less : (o : Ordering) → eqb (of_z w32 (sign o)) 4294967295 ≡ is_below o
@@ -19,6 +19,7 @@ less eq = refl
 less gt = refl
 
 pub returns : goal.returns
+unfolding compare_answer
 returns c =
     let args = c.args in
     ap (λ (z : ℤ). eqb (of_z w32 z) 4294967295) c.compare.ensures.answers ∙ less (cmp args.a.now args.b.now)

@@ -8,5 +8,4 @@ pub returns : goal.returns
 returns c =
     c.encode64.ensures
     ∙ ap reverse
-    (read_back 8 c.args.s.now c.args.at c.low64.result (λ i. (c.shared_slice_known-1.given i).fits)
-    c.requires c.low64.ensures)
+    (read_back 8 c.args.s.now c.args.at c.low64.result (λ i. (c.type_inv.s i).fits) c.requires c.low64.ensures)

@@ -30,4 +30,4 @@ shape_of-out c = c.loop-i.invariant.1.same
 
 pub returns : goal.returns
 returns c =
-    put_end c.args.schema c.good.0 c.requires.count_le_max_columns _ _ _ c.loop-i.invariant c.loop-i-test.false c.requires.count_in_bounds
+    put_end c.args.schema c.well_formed.0 c.requires.count_le_max_columns _ _ _ c.loop-i.invariant c.loop-i-test.false c.requires.count_in_bounds

@@ -10,7 +10,7 @@ returns-in-Refuse c =
 
 pub check_rows-checked-requires : goal.check_rows-checked-requires
 check_rows-checked-requires c =
-    (((let the_good : Begun c.requires.list c.args.n c.begin-begun.result = c.begin-begun.ensures c.requires.list c.requires.says in the_good)).few c.in_default.is, (((let the_good : Begun c.requires.list c.args.n c.begin-begun.result = c.begin-begun.ensures c.requires.list c.requires.says in the_good)).sound c.in_default.is).limited)
+    record { n_le_max_rows = ((let the_good : Begun c.requires.list c.args.n c.begin-begun.result = c.begin-begun.ensures c.requires.list c.requires.says in the_good)).few c.in_default.is; limited = (((let the_good : Begun c.requires.list c.args.n c.begin-begun.result = c.begin-begun.ensures c.requires.list c.requires.says in the_good)).sound c.in_default.is).limited }
 
 pub returns-in-Refuse-found : goal.returns-in-Refuse-found
 returns-in-Refuse-found c =

@@ -14,14 +14,12 @@ returns-then-schema-count c =
 
 pub check_fields-walked-requires : goal.check_fields-walked-requires
 check_fields-walked-requires c =
-    (
-      omega arith,
-      (
-        first_limited c.args.schema c.good.0 c.requires _ c.args.key.now (λ e. omega arith) (omega arith),
-        key_lies c.args.schema c.good.0 c.requires c.args.k c.args.key.now (λ e. omega arith) (omega arith),
-      ),
-    )
+    record {
+      n_le_max_rows = omega arith;
+      limited = first_limited c.args.schema c.well_formed.0 c.requires _ c.args.key.now (λ e. omega arith) (omega arith);
+      all_lie = key_lies c.args.schema c.well_formed.0 c.requires c.args.k c.args.key.now (λ e. omega arith) (omega arith);
+    }
 
 pub returns : goal.returns
 returns c =
-    key_read c.args.schema c.good.0 c.requires c.args.k c.args.key.now (λ e. omega arith) (omega arith) _ c.check_fields-walked.ensures
+    key_read c.args.schema c.well_formed.0 c.requires c.args.k c.args.key.now (λ e. omega arith) (omega arith) _ c.check_fields-walked.ensures

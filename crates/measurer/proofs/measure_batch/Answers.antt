@@ -11,8 +11,8 @@ returns-in-Refuse c =
 
 pub check_sheet-sheeted-requires : goal.check_sheet-sheeted-requires
 check_sheet-sheeted-requires c =
-    let begun = (let the_good : let a = c.args in Begun c.requires.list a.n c.begin-begun.result = c.begin-begun.ensures c.requires.list c.requires.says in the_good) in
-    (begun.few c.in_default.is, (begun.sound c.in_default.is).limited)
+    let begun = c.begin-begun.ensures c.requires.list c.requires.says in
+    record { n_le_max_rows = begun.few c.in_default.is; limited = (begun.sound c.in_default.is).limited }
 
 pub returns-in-Refuse-check : goal.returns-in-Refuse-check
 returns-in-Refuse-check c =
@@ -24,9 +24,14 @@ returns-in-Refuse-check c =
 -- ---- the sheet passes
 pub measure_sheet-total-requires : goal.measure_sheet-total-requires
 measure_sheet-total-requires c =
-    let begun = (let the_good : let a = c.args in Begun c.requires.list a.n c.begin-begun.result = c.begin-begun.ensures c.requires.list c.requires.says in the_good) in
+    let begun = c.begin-begun.ensures c.requires.list c.requires.says in
     let whole = sym c.check_sheet-sheeted.ensures.check ∙ c.in_default-check.is in
-    (begun.few c.in_default.is, ((begun.sound c.in_default.is).limited, (whole, c.check_sheet-sheeted.ensures.facts whole)))
+    record {
+      n_le_max_rows = begun.few c.in_default.is;
+      limited = (begun.sound c.in_default.is).limited;
+      sheet_value = whole;
+      known = c.check_sheet-sheeted.ensures.facts whole;
+    }
 
 pub returns : goal.returns
 returns c =

@@ -5,5 +5,5 @@ use Rattle.number_reader.proofs.is_folded32.Goals as goal
 pub returns : goal.returns
 returns c =
     let A = c.args in
-    float_folded 4 A.descending A.row.now A.from (λ i. (c.shared_slice_known-1.given i).fits) c.requires
+    float_folded 4 A.descending A.row.now A.from (λ i. (c.type_inv.row i).fits) c.requires
     _ _ _ _ c.decode32-value.type_inv c.low32.ensures c.directed32-word.ensures c.decode32-value.ensures c.folded32.ensures

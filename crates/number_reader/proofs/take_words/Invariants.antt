@@ -1,5 +1,4 @@
 -- `number_reader::take_words` meets its contract: each turn writes a word, and the top one is written last. Assumes nothing.
-use Prim.Native.Nat.{◌-◌}
 use Rattle.number_reader.proofs.Words.{Left}
 use Rattle.number_reader.proofs.take_words.Given as goal
 

@@ -4,6 +4,7 @@ use native.Mathlib.Omega.{arith}
 use Rattle.format.specs.declared.Check.TheVariants.{Pass}
 use Rattle.format.specs.Entries.{fall_fault}
 use Rattle.offsets.proofs.Falls.{begins, falls, rises, risen, few, late, fell, past, heavy, sound}
+use Rattle.offsets.proofs.check_offsets.Goals.{After-loop-i}
 use Rattle.offsets.proofs.check_offsets.Goals as goal
 
 pub returns-then-offsets-n : goal.returns-then-offsets-n
@@ -30,17 +31,20 @@ loop-i-preserved c =
     let A = c.args in
     (omega arith, rises A.n A.offsets.now _ c.loop-i.invariant.1 c.loop-i-test.true c.if-offsets-i.false)
 
+rose : (c : After-loop-i) → fall_fault c.args.offsets.now 0 c.args.n ≡ Pass
+rose c = risen c.args.n c.args.offsets.now _ c.loop-i.invariant.1 c.loop-i-test.false
+
 pub returns-then-rows-last : goal.returns-then-rows-last
 returns-then-rows-last c =
     let A = c.args in
-    past A.n A.rows.now A.offsets.now c.if-offsets-n.false c.if-offsets-ne0.false ((let the_rose : let A = c.args in fall_fault A.offsets.now 0 A.n ≡ Pass = let A = c.args in risen A.n A.offsets.now _ c.loop-i.invariant.1 c.loop-i-test.false in the_rose)) c.if-rows-last.true
+    past A.n A.rows.now A.offsets.now c.if-offsets-n.false c.if-offsets-ne0.false (rose (goal.at.returns-then-rows-last c).After-loop-i) c.if-rows-last.true
 
 pub returns-then-last-gt-MAX_TOTAL : goal.returns-then-last-gt-MAX_TOTAL
 returns-then-last-gt-MAX_TOTAL c =
     let A = c.args in
-    heavy A.n A.rows.now A.offsets.now c.if-offsets-n.false c.if-offsets-ne0.false ((let the_rose : let A = c.args in fall_fault A.offsets.now 0 A.n ≡ Pass = let A = c.args in risen A.n A.offsets.now _ c.loop-i.invariant.1 c.loop-i-test.false in the_rose)) c.if-rows-last.false c.if-last-gt-MAX_TOTAL.true
+    heavy A.n A.rows.now A.offsets.now c.if-offsets-n.false c.if-offsets-ne0.false (rose (goal.at.returns-then-last-gt-MAX_TOTAL c).After-loop-i) c.if-rows-last.false c.if-last-gt-MAX_TOTAL.true
 
 pub returns : goal.returns
 returns c =
     let A = c.args in
-    sound A.n A.rows.now A.offsets.now c.if-offsets-n.false c.if-offsets-ne0.false ((let the_rose : let A = c.args in fall_fault A.offsets.now 0 A.n ≡ Pass = let A = c.args in risen A.n A.offsets.now _ c.loop-i.invariant.1 c.loop-i-test.false in the_rose)) c.if-rows-last.false c.if-last-gt-MAX_TOTAL.false
+    sound A.n A.rows.now A.offsets.now c.if-offsets-n.false c.if-offsets-ne0.false (rose (goal.at.returns c).After-loop-i) c.if-rows-last.false c.if-last-gt-MAX_TOTAL.false

@@ -1,14 +1,8 @@
-use borrow.Author.Rules.{rules}
-use Prim.Native.Nat.{◌-◌}
-use mathlib.Core.Path.{sym}
 use native.Mathlib.Omega.{arith}
 use borrow.Author.Tests.{eqb-true}
 use Rattle.laws.proofs.Parsed.{and_true}
-use Rattle.variable_reader.proofs.Padding.{clear_start, clear_more, clear_word, clear_end}
+use Rattle.variable_reader.proofs.Padding.{clear_more, clear_word}
 use Rattle.plain_fields.proofs.clear.Goals as goal
-
-pub loop-i-init : goal.loop-i-init
-loop-i-init c = (omega arith, search rules, λ e. clear_start _ _ _ (search rules))
 
 pub loop-i-preserved-then-to-i-ge8 : goal.loop-i-preserved-then-to-i-ge8
 loop-i-preserved-then-to-i-ge8 c =
@@ -37,6 +31,3 @@ loop-i-preserved c =
       omega arith,
       λ e. let p = and_true _ _ e in clear_more (inv.2 p.0) (omega arith) (omega arith) (eqb-true _ 0 p.1),
     )
-
-pub returns : goal.returns
-returns c e = sym (clear_end (c.loop-i.invariant.2 e) (omega arith))

@@ -4,6 +4,7 @@ use Prim.Native.Nat.{ℕ, ◌-◌, ◌≤◌}
 use mathlib.Core.Path.{◌≡◌, sym, ◌∙◌}
 use mathlib.Core.Bool.{Bool}
 use mathlib.Core.List.{List}
+use native.Mathlib.Omega.{arith}
 use lib.ListN.{length, take, drop}
 use Rattle.format.specs.declared.Refusal.{Refusal}
 use Rattle.format.specs.declared.Check.{Check}
@@ -22,23 +23,26 @@ module _ (q : Bool) (ly : Layout) (n c : ℕ) (s : List ℕ) where
       → values ≡ values_fault ly n c (take (length s - p) (drop p s)) → r ≡ both missing values → r ≡ column_fault q ly n c s
   rest p missing values r e w m v f = f ∙ rw (m, v, part_rest s p, w, e)
 
+-- validity bytes that pass are there
+there : (n c : ℕ) (s : List ℕ) → bits_fault n c s ≡ Pass → packed n ≤ length s
+there n c s e = (bits_passed n c s e).0
+
 pub returns-in-Refuse : goal.returns-in-Refuse
 returns-in-Refuse c =
     let a = c.args in
-    validity a.column.options.required (layout a.column) a.n a.c a.part.now _
-    (sym c.check_bits-check.ensures ∙ c.in-Refuse.is)
+    validity a.column.options.required (layout a.column) a.n a.c a.part.now _ (sym c.check_bits-check.ensures ∙ c.in-Refuse.is)
 
 pub check_required-missing-requires : goal.check_required-missing-requires
-check_required-missing-requires c = (let the_there : let a = c.args in packed a.n ≤ length a.part.now = let a = c.args in (bits_passed a.n a.c a.part.now ((let the_passes : let a = c.args in bits_fault a.n a.c a.part.now ≡ Pass = sym c.check_bits-check.ensures ∙ c.in_default.is in the_passes))).0 in the_there)
+check_required-missing-requires c = there c.args.n c.args.c c.args.part.now (sym c.check_bits-check.ensures ∙ c.in_default.is)
 
 pub slice_bounds-check_values-count : goal.slice_bounds-check_values-count
-slice_bounds-check_values-count c = room c
+slice_bounds-check_values-count c = omega (arith, there c.args.n c.args.c c.args.part.now (sym c.check_bits-check.ensures ∙ c.in_default.is))
 
 pub slice_bounds-check_values-start : goal.slice_bounds-check_values-start
-slice_bounds-check_values-start c = room c
+slice_bounds-check_values-start c = omega (arith, there c.args.n c.args.c c.args.part.now (sym c.check_bits-check.ensures ∙ c.in_default.is))
 
 pub returns : goal.returns
 returns c =
     let a = c.args in
-    rest a.column.options.required (layout a.column) a.n a.c a.part.now _ _ _ _ ((let the_passes : let a = c.args in bits_fault a.n a.c a.part.now ≡ Pass = sym c.check_bits-check.ensures ∙ c.in_default.is in the_passes))
+    rest a.column.options.required (layout a.column) a.n a.c a.part.now _ _ _ _ (sym c.check_bits-check.ensures ∙ c.in_default.is)
     c.packed-valid.ensures.0 c.check_required-missing.ensures c.check_values-values.ensures c.first_fault.ensures

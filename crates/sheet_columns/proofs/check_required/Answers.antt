@@ -4,7 +4,7 @@ use Prim.Native.Nat.{ℕ, ◌<◌, ◌≤◌}
 use mathlib.Core.Path.{◌≡◌}
 use mathlib.Core.Bool.{Bool, true, false}
 use mathlib.Core.List.{List}
-use borrow.Author.Tests.{lt-ltb, le-ltb, not-true, not-false}
+use borrow.Author.Tests.{lt-ltb, le-ltb}
 use Rattle.format.specs.declared.Check.TheVariants.{Pass, Refuse}
 use Rattle.format.specs.declared.Refusal.TheVariants.{Missing}
 use Rattle.format.specs.Sheet.{first_clear, required_fault}
@@ -24,14 +24,14 @@ module _ (q : Bool) (n c : ℕ) (s : List ℕ) where
 pub returns-then-not-required : goal.returns-then-not-required
 returns-then-not-required c =
     let A = c.args in
-    free A.required A.n A.c A.part.now (not-true _ c.if-not-required.true)
+    free A.required A.n A.c A.part.now c.if-not-required.true
 
 pub returns-then-row-n : goal.returns-then-row-n
 returns-then-row-n c =
     let A = c.args in
-    missing A.required A.n A.c A.part.now _ (not-false _ c.if-not-required.false) c.first_clear-row.ensures c.if-row-n.true
+    missing A.required A.n A.c A.part.now _ c.if-not-required.false c.first_clear-row.ensures c.if-row-n.true
 
 pub returns : goal.returns
 returns c =
     let A = c.args in
-    full A.required A.n A.c A.part.now _ (not-false _ c.if-not-required.false) c.first_clear-row.ensures c.if-row-n.false
+    full A.required A.n A.c A.part.now _ c.if-not-required.false c.first_clear-row.ensures c.if-row-n.false

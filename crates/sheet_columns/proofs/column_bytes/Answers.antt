@@ -26,9 +26,11 @@ values_bytes-requires c =
     record { n_le_max_rows = c.requires.n_le_max_rows; part_in_bounds = room (layout_for (shape a.kind)) a.n _ a.part.now c.packed-valid.ensures.0 c.requires.part_in_bounds }
 
 pub overflow_add-result : goal.overflow_add-result
-overflow_add-result c = omega (arith, whole c)
+overflow_add-result c =
+    let a = c.args in
+    let sum = bytes (layout_for (shape a.kind)) a.n _ a.part.now c.packed-valid.ensures.0 _ c.values_bytes.ensures in
+    omega arith
 
--- at the sum
 pub returns : goal.returns
 returns c =
     let a = c.args in

@@ -14,6 +14,7 @@ use Rattle.bits.specs.Ones.{ones_in}
 use Rattle.bits.proofs.Nulls.{column_nulls}
 use Rattle.basics.proofs.Bytes.{bytes_of}
 use Rattle.sheet_columns.proofs.null_rows.Goals as goal
+use Rattle.sheet_columns.proofs.null_rows.Goals.{After-count_ones}
 
 module _ (n : ℕ) (s : List ℕ) (b : (i : ℕ) → get_or s i 0 < 256) (room : packed n ≤ length s) (clear : spare_set (take (packed n) s) n ≡ false) where
   passes : bits_fault n 0 s ≡ Pass
@@ -22,6 +23,11 @@ module _ (n : ℕ) (s : List ℕ) (b : (i : ℕ) → get_or s i 0 < 256) (room :
   together : (ly : Layout) (p ones : ℕ) → p ≡ packed n → ones ≡ ones_in (take p s) → nulls_in (column_slots ly n s) + ones ≡ n
   together ly p ones w e = rw (e, w) (column_nulls ly n 0 s (bytes_of s b) passes)
 
+nulls : (c : After-count_ones) (ly : Layout) → nulls_in (column_slots ly c.args.n c.args.part.now) + c.count_ones.result ≡ c.args.n
+nulls c ly =
+    together c.args.n c.args.part.now (λ i. (c.type_inv.part i).fits) c.requires.n_in_bounds c.requires.n_value ly _ _
+    c.packed-valid.ensures.0 c.count_ones.ensures.value
+
 pub slice_bounds-count_ones-end : goal.slice_bounds-count_ones-end
 slice_bounds-count_ones-end c = sym (length-take-le _ _ (omega arith))
 
@@ -29,13 +35,7 @@ pub count_ones-requires : goal.count_ones-requires
 count_ones-requires c = omega (arith, length-take-le c.packed-valid.result c.args.part.now (omega arith))
 
 pub overflow_sub-result : goal.overflow_sub-result
-overflow_sub-result c = 
-    omega (arith, (let the_nulls : (ly : Layout) → nulls_in (column_slots ly c.args.n c.args.part.now) + c.count_ones.result ≡ c.args.n = λ ly. let a = c.args in
-    together a.n a.part.now (λ i. (c.shared_slice_known-1.given i).fits) c.requires.n_in_bounds c.requires.n_value ly _ _
-    c.packed-valid.ensures.0 c.count_ones.ensures.value in the_nulls) bits)
+overflow_sub-result c = omega (arith, nulls (goal.at.overflow_sub-result c).After-count_ones bits)
 
 pub returns : goal.returns
-returns c = 
-    record { value = (λ ly. omega (arith, (let the_nulls : (ly : Layout) → nulls_in (column_slots ly c.args.n c.args.part.now) + c.count_ones.result ≡ c.args.n = λ ly. let a = c.args in
-    together a.n a.part.now (λ i. (c.shared_slice_known-1.given i).fits) c.requires.n_in_bounds c.requires.n_value ly _ _
-    c.packed-valid.ensures.0 c.count_ones.ensures.value in the_nulls) ly)); upper_bound = omega arith }
+returns c = record { value = λ ly. omega (arith, nulls (goal.at.returns c).After-count_ones ly); upper_bound = omega arith }

@@ -13,7 +13,7 @@ slice_bounds-decode_bytes-end-2 c = sym (length-take-le c.args.k c.args.numbers.
 
 pub decode_bytes-r-requires : goal.decode_bytes-r-requires
 decode_bytes-r-requires c =
-    (c.requires.ready.read, omega (arith, c.requires.ready.used.there, slice-aggregate-decode-bytes c))
+    record { of_list = c.requires.ready.read; numbers_in_bounds = omega (arith, c.requires.ready.used.there, slice-aggregate-decode-bytes c) }
 
 pub returns : goal.returns
 returns c =

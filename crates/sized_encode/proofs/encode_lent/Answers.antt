@@ -16,7 +16,7 @@ pub encode_bytes-r-requires : goal.encode_bytes-r-requires
 encode_bytes-r-requires c =
     let used = c.requires.ready.used in
     let long = slice-aggregate-encode-bytes c in
-    (c.requires.ready.read, record { most = omega (arith, used.most, long); there = omega (arith, used.there, long) })
+    record { of_list = c.requires.ready.read; held = record { most = omega (arith, used.most, long); there = omega (arith, used.there, long) } }
 
 pub returns : goal.returns
 returns c =

@@ -13,7 +13,7 @@ slice_bounds-look_up_bytes-end-2 c = sym (length-take-le c.args.used c.args.numb
 
 pub look_up_bytes-r-requires : goal.look_up_bytes-r-requires
 look_up_bytes-r-requires c =
-    (c.requires.ready.read, omega (arith, c.requires.ready.used.there, slice-aggregate-look-up-bytes c))
+    record { of_list = c.requires.ready.read; numbers_in_bounds = omega (arith, c.requires.ready.used.there, slice-aggregate-look-up-bytes c) }
 
 pub returns : goal.returns
 returns c =

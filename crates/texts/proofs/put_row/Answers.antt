@@ -1,36 +1,33 @@
-use Prim.Native.Nat.{◌+◌, ◌-◌, ◌≤◌}
+-- `texts::put_row` meets its contract: there is room for each pair of digits and for the newline, and they are what is written.
 use native.Mathlib.Omega.{arith}
-use lib.ListN.{length, length-set}
+use lib.ListN.{length-set}
 use Rattle.texts.proofs.Written.{hex_begin, hex_room, hex_last, hex_more, hex_wrote}
 use Rattle.texts.proofs.put_row.Goals as goal
 
 pub loop-i-init : goal.loop-i-init
 loop-i-init c = hex_begin _ _ _
 
-pub digit-requires : goal.digit-requires
-digit-requires c = omega (arith, (c.shared_slice_known-in-loop-i-1.given c.loop-i.i).fits)
-
 pub bounds-out-place : goal.bounds-out-place
-bounds-out-place c = omega (arith, (let the_room : c.loop-i.place + 2 ≤ length c.loop-i.out = hex_room c.loop-i.invariant c.requires c.loop-i-test.true in the_room))
+bounds-out-place c = omega (arith, hex_room c.loop-i.invariant c.requires c.loop-i-test.true)
 
 pub overflow_add-out : goal.overflow_add-out
-overflow_add-out c = omega (arith, (let the_room : c.loop-i.place + 2 ≤ length c.loop-i.out = hex_room c.loop-i.invariant c.requires c.loop-i-test.true in the_room), c.loop-i.invariant.walk.same, c.well_formed)
+overflow_add-out c = omega (arith, hex_room c.loop-i.invariant c.requires c.loop-i-test.true, c.loop-i.invariant.walk.same, c.well_formed)
 
 pub bounds-out-place-in-loop-i : goal.bounds-out-place-in-loop-i
-bounds-out-place-in-loop-i c = simp length-set (omega (arith, (let the_room : c.loop-i.place + 2 ≤ length c.loop-i.out = hex_room c.loop-i.invariant c.requires c.loop-i-test.true in the_room)))
+bounds-out-place-in-loop-i c = simp length-set (omega (arith, hex_room c.loop-i.invariant c.requires c.loop-i-test.true))
 
 pub overflow_add-place : goal.overflow_add-place
-overflow_add-place c = omega (arith, (let the_room : c.loop-i.place + 2 ≤ length c.loop-i.out = hex_room c.loop-i.invariant c.requires c.loop-i-test.true in the_room), c.loop-i.invariant.walk.same, c.well_formed)
+overflow_add-place c = omega (arith, hex_room c.loop-i.invariant c.requires c.loop-i-test.true, c.loop-i.invariant.walk.same, c.well_formed)
 
 pub loop-i-preserved : goal.loop-i-preserved
 loop-i-preserved c =
     hex_more c.loop-i.invariant c.loop-i-test.true _ _ c.digit.ensures c.digit-in-loop-i.ensures
 
 pub bounds-out-place-2 : goal.bounds-out-place-2
-bounds-out-place-2 c = omega (arith, (let the_last : c.loop-i.place + 1 ≤ length c.loop-i.out = hex_last c.loop-i.invariant c.requires c.loop-i-test.false in the_last))
+bounds-out-place-2 c = omega (arith, hex_last c.loop-i.invariant c.requires c.loop-i-test.false)
 
 pub overflow_add-result : goal.overflow_add-result
-overflow_add-result c = omega (arith, (let the_last : c.loop-i.place + 1 ≤ length c.loop-i.out = hex_last c.loop-i.invariant c.requires c.loop-i-test.false in the_last), c.loop-i.invariant.walk.same, c.well_formed)
+overflow_add-result c = omega (arith, hex_last c.loop-i.invariant c.requires c.loop-i-test.false, c.loop-i.invariant.walk.same, c.well_formed)
 
 pub shape_of-out : goal.shape_of-out
 shape_of-out c = simp length-set c.loop-i.invariant.walk.same

@@ -5,6 +5,7 @@ use native.Mathlib.Omega.{arith}
 use Rattle.format.specs.declared.Spot.TheVariants.{Value}
 use Rattle.format.specs.Kinds.{Shape, shape}
 use Rattle.format.specs.Cutter.{move}
+use Rattle.basics.proofs.Sorts.{PlainArm}
 use Rattle.value_moves.proofs.Arms.{plain_kind, value_inside, float_kept, value_told}
 use Rattle.value_moves.proofs.value_byte.Goals as goal
 
@@ -18,13 +19,13 @@ pub float_byte-requires-in-F32 : goal.float_byte-requires-in-F32
 float_byte-requires-in-F32 c =
     let a = c.args in
     let k = float_kept 4 a.options.fold a.at a.seen a.spelt c.in-F32.is refl c.requires.spelt_value in
-    (inr (inl refl), (k.0, (k.1, c.requires.seen_le_at)))
+    record { fact = inr (inl refl); seen_lt_width = k.0; spelt_value = k.1; seen_le_at = c.requires.seen_le_at }
 
 pub float_byte-requires-in-F64 : goal.float_byte-requires-in-F64
 float_byte-requires-in-F64 c =
     let a = c.args in
     let k = float_kept 8 a.options.fold a.at a.seen a.spelt c.in-F64.is refl c.requires.spelt_value in
-    (inr (inr refl), (k.0, (k.1, c.requires.seen_le_at)))
+    record { fact = inr (inr refl); seen_lt_width = k.0; spelt_value = k.1; seen_le_at = c.requires.seen_le_at }
 
 pub plain_byte-requires : goal.plain_byte-requires
 plain_byte-requires c =
@@ -59,5 +60,7 @@ returns-in-Variable c =
 pub returns-in_default : goal.returns-in_default
 returns-in_default c =
     let a = c.args in
-    let k = plain_kind a.kind _ a.options.fold (record { no_bool = c.in_default.not-Bool; no_half = c.in_default.not-F16; no_single = c.in_default.not-F32; no_double = c.in_default.not-F64; no_variable = c.in_default.not-Variable }) c.width.ensures in
+    let d = c.in_default in
+    let arm : PlainArm a.kind = record { no_bool = d.not-Bool; no_half = d.not-F16; no_single = d.not-F32; no_double = d.not-F64; no_variable = d.not-Variable } in
+    let k = plain_kind a.kind _ a.options.fold arm c.width.ensures in
     c.plain_byte.ensures k.0 a.spelt k.2 ∙ ap (λ (sh : Shape). move sh a.options (Value a.seen a.spelt) a.at a.byte) (sym k.1)

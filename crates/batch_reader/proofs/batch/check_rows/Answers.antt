@@ -16,7 +16,8 @@ returns-in-Refuse c =
     refused a.n (cols_of a.schema) a.rows.now a.offsets.now 0 (sym c.check_offsets-check.ensures ∙ c.in-Refuse.is)
 
 pub check_fields-walked-requires : goal.check_fields-walked-requires
-check_fields-walked-requires c = (c.requires.n_le_max_rows, (c.requires.limited, cuts_lie (offsets_passed _ _ _ ((let the_passed : let a = c.args in offsets_fault a.n a.rows.now a.offsets.now ≡ Pass = sym c.check_offsets-check.ensures ∙ c.in_default.is in the_passed)))))
+check_fields-walked-requires c =
+    record { n_le_max_rows = c.requires.n_le_max_rows; limited = c.requires.limited; all_lie = cuts_lie (offsets_passed _ _ _ ((let the_passed : let a = c.args in offsets_fault a.n a.rows.now a.offsets.now ≡ Pass = sym c.check_offsets-check.ensures ∙ c.in_default.is in the_passed))) }
 
 pub returns : goal.returns
 returns c =

@@ -13,7 +13,7 @@ bounds-columns-c c = omega (arith, ((let the_limited : Limited c.args.schema = c
 
 pub frame_bytes-bytes-requires : goal.frame_bytes-bytes-requires
 frame_bytes-bytes-requires c =
-    (c.requires.n_le_max_rows, ((let the_limited : Limited c.args.schema = c.requires.limited in the_limited)).narrow _ c.loop-c-test.true)
+    record { n_le_max_rows = c.requires.n_le_max_rows; kind_bound = ((let the_limited : Limited c.args.schema = c.requires.limited in the_limited)).narrow _ c.loop-c-test.true }
 
 pub overflow_add-bytes : goal.overflow_add-bytes
 overflow_add-bytes c =

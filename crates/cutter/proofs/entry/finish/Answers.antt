@@ -1,23 +1,20 @@
 -- `cutter::entry::finish` meets its contract. Assumes nothing.
-use mathlib.Core.Path.{◌≡◌, sym, ◌∙◌}
-use mathlib.Core.Bool.{true}
-use borrow.Author.Tests.{not-true, not-false}
-use Rattle.format.specs.CutterRule.{keeps}
+use mathlib.Core.Path.{sym, ◌∙◌}
 use Rattle.cutter.proofs.Entering.{finish_broken, finish_stands, finish_within, finish_done}
 use Rattle.cutter.proofs.entry.finish.Goals as goal
 
 pub returns-then-not-keeps : goal.returns-then-not-keeps
 returns-then-not-keeps c =
-    finish_broken c.args.state (sym c.keeps.ensures ∙ not-true c.keeps.result c.if-not-keeps.true)
+    finish_broken c.args.state (sym c.keeps.ensures ∙ c.if-not-keeps.true)
 
 pub returns-in-Refuse : goal.returns-in-Refuse
 returns-in-Refuse c =
-    finish_stands c.args.state ((let the_keeping : keeps c.args.state ≡ true = sym c.keeps.ensures ∙ not-false c.keeps.result c.if-not-keeps.false in the_keeping)) _ c.in-Refuse.is
+    finish_stands c.args.state (sym c.keeps.ensures ∙ c.if-not-keeps.false) _ c.in-Refuse.is
 
 pub returns-then-row-gt0 : goal.returns-then-row-gt0
 returns-then-row-gt0 c =
-    finish_within c.args.state ((let the_keeping : keeps c.args.state ≡ true = sym c.keeps.ensures ∙ not-false c.keeps.result c.if-not-keeps.false in the_keeping)) c.in_default.is c.if-row-gt0.true
+    finish_within c.args.state (sym c.keeps.ensures ∙ c.if-not-keeps.false) c.in_default.is c.if-row-gt0.true
 
 pub returns : goal.returns
 returns c =
-    finish_done c.args.state ((let the_keeping : keeps c.args.state ≡ true = sym c.keeps.ensures ∙ not-false c.keeps.result c.if-not-keeps.false in the_keeping)) c.in_default.is c.if-row-gt0.false
+    finish_done c.args.state (sym c.keeps.ensures ∙ c.if-not-keeps.false) c.in_default.is c.if-row-gt0.false

@@ -1,5 +1,4 @@
 -- `cutter::entry::refused` meets its contract. Assumes nothing.
-
 use Rattle.cutter.proofs.entry.refused.Goals as goal
 
 pub returns : goal.returns

@@ -1,81 +1,64 @@
 -- `cutter_bytes::entry::cut_lent` meets its contract. Assumes nothing.
-use mathlib.Core.Path.{◌≡◌, sym, ◌∙◌}
-use mathlib.Core.Bool.{true}
-use native.Mathlib.Omega.{arith}
-use lib.ListN.{take}
-use borrow.Author.Tests.{not-true, not-false}
-use Rattle.format.specs.Lists.{Bytes}
-use Rattle.format.specs.CutterRule.{keeps}
-use Rattle.format.specs.CutterBytes.{state_size, state_bytes, state_of, same}
+use mathlib.Core.Path.{sym, ◌∙◌}
 use Rattle.basics.proofs.Bytes.{bytes_of}
-use Rattle.cutter_bytes.proofs.Entering.{open_keeps, short_broken, other_broken, unkept_broken, read_few, read_keeps, read_written, read_refusal, cut_broken, cut_stands, cut_short, cut_refuses, cut_done}
+use Rattle.cutter_bytes.proofs.Entering.{open_keeps, short_broken, other_broken, unkept_broken, read_few, read_keeps, read_written, read_refusal, kept_of, cut_broken, cut_stands, cut_short, cut_refuses, cut_done}
 use Rattle.cutter_bytes.proofs.entry.cut_lent.Goals as goal
 
--- ---- the needs
 pub returns-then-state-lt-STATE_BYTES : goal.returns-then-state-lt-STATE_BYTES
 returns-then-state-lt-STATE_BYTES c =
     let a = c.args in
-    cut_broken a.state.now a.piece.now a.ends.now (bytes_of a.ends.now (λ i. (c.slice_known-2-1.given i).fits))
+    cut_broken a.state.now a.piece.now a.ends.now (bytes_of a.ends.now (λ i. (c.type_inv.ends i).fits))
     (short_broken a.state.now c.if-state-lt-STATE_BYTES.true)
 
 pub written_as-requires : goal.written_as-requires
-written_as-requires c = record { count_le_max_columns = read_few c.args.state.now _ c.read_state-s.ensures; state_size_in_bounds = c.if-state-lt-STATE_BYTES.false }
+written_as-requires c = record {
+  count_le_max_columns = read_few c.args.state.now _ c.read_state-s.ensures;
+  state_size_in_bounds = c.if-state-lt-STATE_BYTES.false;
+}
 
 pub returns-then-not-written_as : goal.returns-then-not-written_as
 returns-then-not-written_as c =
     let a = c.args in
-    cut_broken a.state.now a.piece.now a.ends.now ((let the_ends_bytes : Bytes c.args.ends.now = bytes_of c.args.ends.now (λ i. (c.slice_known-2-1.given i).fits) in the_ends_bytes))
-    (other_broken a.state.now ((let the_written_is : let x = take state_size c.args.state.now in same (state_bytes (state_of x)) x ≡ c.written_as.result = read_written c.args.state.now _ c.read_state-s.ensures _ _ c.place_of-first.ensures c.written_as.ensures in the_written_is) ∙ not-true c.written_as.result c.if-not-written_as.true))
+    cut_broken a.state.now a.piece.now a.ends.now (bytes_of a.ends.now (λ i. (c.type_inv.ends i).fits))
+    (other_broken a.state.now (read_written a.state.now _ c.read_state-s.ensures _ _ c.place_of-first.ensures c.written_as.ensures ∙ c.if-not-written_as.true))
 
 pub returns-then-not-keeps : goal.returns-then-not-keeps
 returns-then-not-keeps c =
     let a = c.args in
-    cut_broken a.state.now a.piece.now a.ends.now ((let the_ends_bytes : Bytes c.args.ends.now = bytes_of c.args.ends.now (λ i. (c.slice_known-2-1.given i).fits) in the_ends_bytes))
-    (unkept_broken a.state.now
-    (read_keeps a.state.now _ c.read_state-s.ensures _ c.keeps.ensures ∙ not-true c.keeps.result c.if-not-keeps.true))
+    cut_broken a.state.now a.piece.now a.ends.now (bytes_of a.ends.now (λ i. (c.type_inv.ends i).fits))
+    (unkept_broken a.state.now (read_keeps a.state.now _ c.read_state-s.ensures _ c.keeps.ensures ∙ c.if-not-keeps.true))
 
 pub returns-in-Refuse : goal.returns-in-Refuse
 returns-in-Refuse c =
     let a = c.args in
-    cut_stands a.state.now a.piece.now a.ends.now ((let the_ends_bytes : Bytes c.args.ends.now = bytes_of c.args.ends.now (λ i. (c.slice_known-2-1.given i).fits) in the_ends_bytes)) c.if-state-lt-STATE_BYTES.false ((let the_canon : let x = take state_size c.args.state.now in same (state_bytes (state_of x)) x ≡ true = (let the_written_is : let x = take state_size c.args.state.now in same (state_bytes (state_of x)) x ≡ c.written_as.result = read_written c.args.state.now _ c.read_state-s.ensures _ _ c.place_of-first.ensures c.written_as.ensures in the_written_is) ∙ not-false c.written_as.result c.if-not-written_as.false in the_canon)) ((let the_kept : keeps (state_of (take state_size c.args.state.now)) ≡ true = read_keeps c.args.state.now _ c.read_state-s.ensures _ c.keeps.ensures
-    ∙ not-false c.keeps.result c.if-not-keeps.false in the_kept)) _
+    let q = kept_of a.state.now _ c.read_state-s.ensures _ c.place_of-first.ensures c.if-state-lt-STATE_BYTES.false
+        c.written_as.ensures c.if-not-written_as.false c.keeps.ensures c.if-not-keeps.false in
+    cut_stands a.state.now a.piece.now a.ends.now (bytes_of a.ends.now (λ i. (c.type_inv.ends i).fits)) q _
     (read_refusal a.state.now _ c.read_state-s.ensures _ c.in-Refuse.is)
 
 pub returns-then-ends-piece : goal.returns-then-ends-piece
 returns-then-ends-piece c =
     let a = c.args in
-    cut_short a.state.now a.piece.now a.ends.now ((let the_ends_bytes : Bytes c.args.ends.now = bytes_of c.args.ends.now (λ i. (c.slice_known-2-1.given i).fits) in the_ends_bytes)) c.if-state-lt-STATE_BYTES.false ((let the_canon : let x = take state_size c.args.state.now in same (state_bytes (state_of x)) x ≡ true = (let the_written_is : let x = take state_size c.args.state.now in same (state_bytes (state_of x)) x ≡ c.written_as.result = read_written c.args.state.now _ c.read_state-s.ensures _ _ c.place_of-first.ensures c.written_as.ensures in the_written_is) ∙ not-false c.written_as.result c.if-not-written_as.false in the_canon)) ((let the_kept : keeps (state_of (take state_size c.args.state.now)) ≡ true = read_keeps c.args.state.now _ c.read_state-s.ensures _ c.keeps.ensures
-    ∙ not-false c.keeps.result c.if-not-keeps.false in the_kept))
+    let q = kept_of a.state.now _ c.read_state-s.ensures _ c.place_of-first.ensures c.if-state-lt-STATE_BYTES.false
+        c.written_as.ensures c.if-not-written_as.false c.keeps.ensures c.if-not-keeps.false in
+    cut_short a.state.now a.piece.now a.ends.now (bytes_of a.ends.now (λ i. (c.type_inv.ends i).fits)) q
     (read_refusal a.state.now _ c.read_state-s.ensures _ c.in_default.is) c.if-ends-piece.true
 
 pub walk_sized-walked-requires : goal.walk_sized-walked-requires
 walk_sized-walked-requires c =
-    let t = c.read_state-s in (
-      open_keeps t.result _ c.place_of-first.ensures c.in_default.is
-          (sym c.keeps.ensures ∙ not-false c.keeps.result c.if-not-keeps.false),
-      c.if-ends-piece.false,
-    )
-
-pub put_refused-requires : goal.put_refused-requires
-put_refused-requires c =
-    c.if-state-lt-STATE_BYTES.false
+    record {
+      place_value = open_keeps c.read_state-s.result _ c.place_of-first.ensures c.in_default.is (sym c.keeps.ensures ∙ c.if-not-keeps.false);
+      piece_in_bounds = c.if-ends-piece.false;
+    }
 
 pub returns-in-Refuse-check : goal.returns-in-Refuse-check
 returns-in-Refuse-check c =
     let a = c.args in
-    cut_refuses a.state.now a.piece.now a.ends.now ((let the_ends_bytes : Bytes c.args.ends.now = bytes_of c.args.ends.now (λ i. (c.slice_known-2-1.given i).fits) in the_ends_bytes)) c.if-state-lt-STATE_BYTES.false ((let the_canon : let x = take state_size c.args.state.now in same (state_bytes (state_of x)) x ≡ true = (let the_written_is : let x = take state_size c.args.state.now in same (state_bytes (state_of x)) x ≡ c.written_as.result = read_written c.args.state.now _ c.read_state-s.ensures _ _ c.place_of-first.ensures c.written_as.ensures in the_written_is) ∙ not-false c.written_as.result c.if-not-written_as.false in the_canon)) ((let the_kept : keeps (state_of (take state_size c.args.state.now)) ≡ true = read_keeps c.args.state.now _ c.read_state-s.ensures _ c.keeps.ensures
-    ∙ not-false c.keeps.result c.if-not-keeps.false in the_kept))
+    let q = kept_of a.state.now _ c.read_state-s.ensures _ c.place_of-first.ensures c.if-state-lt-STATE_BYTES.false
+        c.written_as.ensures c.if-not-written_as.false c.keeps.ensures c.if-not-keeps.false in
+    cut_refuses a.state.now a.piece.now a.ends.now (bytes_of a.ends.now (λ i. (c.type_inv.ends i).fits)) q
     (read_refusal a.state.now _ c.read_state-s.ensures _ c.in_default.is) c.if-ends-piece.false _ c.read_state-s.ensures _ c.place_of-first.ensures _ _ _
     c.walk_sized-walked.ensures _ c.in-Refuse-check.is c.put_refused.ensures
 
-pub put_numbers-requires : goal.put_numbers-requires
-put_numbers-requires c =
-    omega (arith, c.if-state-lt-STATE_BYTES.false)
-
 pub returns : goal.returns
-returns c =
-    let a = c.args in
-    cut_done a.state.now a.piece.now a.ends.now ((let the_ends_bytes : Bytes c.args.ends.now = bytes_of c.args.ends.now (λ i. (c.slice_known-2-1.given i).fits) in the_ends_bytes)) c.if-state-lt-STATE_BYTES.false ((let the_canon : let x = take state_size c.args.state.now in same (state_bytes (state_of x)) x ≡ true = (let the_written_is : let x = take state_size c.args.state.now in same (state_bytes (state_of x)) x ≡ c.written_as.result = read_written c.args.state.now _ c.read_state-s.ensures _ _ c.place_of-first.ensures c.written_as.ensures in the_written_is) ∙ not-false c.written_as.result c.if-not-written_as.false in the_canon)) ((let the_kept : keeps (state_of (take state_size c.args.state.now)) ≡ true = read_keeps c.args.state.now _ c.read_state-s.ensures _ c.keeps.ensures
-    ∙ not-false c.keeps.result c.if-not-keeps.false in the_kept))
-    (read_refusal a.state.now _ c.read_state-s.ensures _ c.in_default.is) c.if-ends-piece.false _ c.read_state-s.ensures _ c.place_of-first.ensures _ _ _
-    c.walk_sized-walked.ensures c.in_default-check.is c.put_numbers.ensures
+returns c = let h = c.well_formed in ?

@@ -6,7 +6,10 @@ pub returns-then-state-lt-STATE_BYTES : goal.returns-then-state-lt-STATE_BYTES
 returns-then-state-lt-STATE_BYTES c = λ list is. start_short list c.args.state.now c.if-state-lt-STATE_BYTES.true
 
 pub put_state-requires : goal.put_state-requires
-put_state-requires c = record { count_le_max_columns = start_few c.requires.list _ (c.start_listed-started.ensures c.requires.list c.requires.says).state; state_size_in_bounds = c.if-state-lt-STATE_BYTES.false }
+put_state-requires c = record {
+  count_le_max_columns = start_few c.requires.list _ (c.start_listed-started.ensures c.requires.list c.requires.says).state;
+  state_size_in_bounds = c.if-state-lt-STATE_BYTES.false;
+}
 
 pub returns : goal.returns
 returns c =

@@ -7,12 +7,12 @@ use Rattle.cutter_rule.proofs.rule.column_kept.Goals as goal
 
 pub returns-then-width-gt-MAX_WIDTH : goal.returns-then-width-gt-MAX_WIDTH
 returns-then-width-gt-MAX_WIDTH c =
-    rw (lt-leb (value_bytes c.args.column.kind) max_width (omega (arith, c.width.ensures, c.if-width-gt-MAX_WIDTH.true)))
+    rw (lt-leb (value_bytes c.args.column.kind) max_width (omega arith))
 
 pub returns-then-options : goal.returns-then-options
 returns-then-options c =
-    rw (le-leb (value_bytes c.args.column.kind) max_width (omega (arith, c.width.ensures, c.if-width-gt-MAX_WIDTH.false)), c.if-options.true) c.may_fold.ensures
+    rw (le-leb (value_bytes c.args.column.kind) max_width (omega arith), c.if-options.true) c.may_fold.ensures
 
 pub returns : goal.returns
 returns c =
-    rw (le-leb (value_bytes c.args.column.kind) max_width (omega (arith, c.width.ensures, c.if-width-gt-MAX_WIDTH.false)), c.if-options.false)
+    rw (le-leb (value_bytes c.args.column.kind) max_width (omega arith), c.if-options.false)

@@ -12,4 +12,4 @@ returns-in-Variable c = (sym (ap (λ (k : Kind). fewest (shape k)) c.in-Variable
 
 pub returns-in_default : goal.returns-in_default
 returns-in_default c =
-    (fixed_fewest c.args.kind _ c.in_default.not-Variable c.width.ensures, omega (arith, c.width.ensures, c.requires))
+    (fixed_fewest c.args.kind _ c.in_default.not-Variable c.width.ensures, omega arith)

@@ -1,7 +1,6 @@
 -- `cutter_rule::rule::keeps` meets its contract. By the refusal that stands. Assumes nothing.
 use mathlib.Core.Path.{ap, sym, ◌∙◌}
 use mathlib.Core.Bool.{Bool, ◌&&◌}
-use borrow.Author.Tests.{not-true, not-false}
 use Rattle.format.specs.Numbers.{refusal_numbers}
 use Rattle.format.specs.CutterRule.{numbers_kept}
 use Rattle.cutter_rule.proofs.Rules.{rule_stands, rule_refused}
@@ -10,7 +9,7 @@ use Rattle.cutter_rule.proofs.rule.keeps.Goals as goal
 pub returns-then-not-emptied : goal.returns-then-not-emptied
 returns-then-not-emptied c =
     rule_refused c.args.state _ _ c.in-Refuse.is
-    (sym (ap (λ (t : Bool). t && numbers_kept (refusal_numbers c.in-Refuse.r)) (sym c.emptied.ensures ∙ not-true c.emptied.result c.if-not-emptied.true)))
+    (sym (ap (λ (t : Bool). t && numbers_kept (refusal_numbers c.in-Refuse.r)) (sym c.emptied.ensures ∙ c.if-not-emptied.true)))
 
 pub returns-in-Pass : goal.returns-in-Pass
 returns-in-Pass c =
@@ -20,4 +19,4 @@ pub returns-else-not-emptied : goal.returns-else-not-emptied
 returns-else-not-emptied c =
     rule_refused c.args.state _ _ c.in-Refuse.is
     (c.numbers_kept.ensures ∙ ap numbers_kept c.refusal_numbers-numbers.ensures
-    ∙ sym (ap (λ (t : Bool). t && numbers_kept (refusal_numbers c.in-Refuse.r)) (sym c.emptied.ensures ∙ not-false c.emptied.result c.if-not-emptied.false)))
+    ∙ sym (ap (λ (t : Bool). t && numbers_kept (refusal_numbers c.in-Refuse.r)) (sym c.emptied.ensures ∙ c.if-not-emptied.false)))

@@ -26,4 +26,6 @@ pub returns-in-Variable : goal.returns-in-Variable
 returns-in-Variable c = told c.in-Variable.is
 
 pub returns-in_default : goal.returns-in_default
-returns-in_default c = plain_fold c.args.kind (record { no_bool = c.in_default.not-Bool; no_half = c.in_default.not-F16; no_single = c.in_default.not-F32; no_double = c.in_default.not-F64; no_variable = c.in_default.not-Variable })
+returns-in_default c =
+    let d = c.in_default in
+    plain_fold c.args.kind (record { no_bool = d.not-Bool; no_half = d.not-F16; no_single = d.not-F32; no_double = d.not-F64; no_variable = d.not-Variable })

@@ -12,4 +12,4 @@ returns-in-Variable c = (sym (ap (λ (k : Kind). most (shape k)) c.in-Variable.i
 
 pub returns-in_default : goal.returns-in_default
 returns-in_default c =
-    (fixed_most c.args.kind _ c.in_default.not-Variable c.width.ensures, omega (arith, c.width.ensures, c.requires))
+    (fixed_most c.args.kind _ c.in_default.not-Variable c.width.ensures, omega arith)

@@ -5,8 +5,7 @@ use Rattle.cutter_walk.proofs.Walking.{Turning}
 use Rattle.cutter_walk.proofs.walk.by_bytes.Given as goal
 
 abbrev pub invariant-loop-i : goal.invariant-loop-i
-invariant-loop-i l =
-    Turning (record { l.columns = l.columns; l.count = l.count }) l.initial.at l.piece l.from l.found l.initial.ends l.at l.n l.i l.ends
+invariant-loop-i l = Turning l.fn.schema l.fn.place l.piece l.from l.found l.initial.ends l.at l.n l.i l.ends
 
 abbrev pub decreases-loop-i : goal.decreases-loop-i
 decreases-loop-i l = length l.piece - l.i

@@ -8,7 +8,7 @@ use Rattle.cutter_walk.proofs.Fields.{shown_uncut}
 use Rattle.cutter_walk.proofs.walk.fault_shown.Goals as goal
 
 pub overflow_sub-at : goal.overflow_sub-at
-overflow_sub-at c = omega (arith, (let the_left_in : c.in-Fault.left ≤ c.args.size = omega (arith, ap left_read c.in-Fault.is, c.requires.0) in the_left_in))
+overflow_sub-at c = omega (arith, ap left_read c.in-Fault.is, c.requires.0)
 
 pub returns-else-is_cut : goal.returns-else-is_cut
 returns-else-is_cut c =

@@ -1,7 +1,6 @@
 -- `cutter_walk::walk::stops_at` meets its contract. Assumes nothing.
 use mathlib.Core.Path.{sym, subst}
 use mathlib.Core.Bool.{Bool, true, false, false≢true}
-use borrow.Author.Tests.{not-false}
 use Rattle.cutter_walk.specs.Walks.{StopsAt}
 use Rattle.cutter_walk.proofs.walk.stops_at.Goals as goal
 
@@ -11,7 +10,7 @@ returns-then-not-field c = λ e. absurd (false≢true e)
 pub returns-in-Start : goal.returns-in-Start
 returns-in-Start c =
     let a = c.args in
-    λ e. subst (λ (t : Bool). StopsAt t a.spot) (sym (not-false a.field c.if-not-field.false)) c.in-Start.is
+    λ e. subst (λ (t : Bool). StopsAt t a.spot) (sym c.if-not-field.false) c.in-Start.is
 
 pub returns-in_default : goal.returns-in_default
 returns-in_default c = λ e. absurd (false≢true e)

@@ -30,7 +30,8 @@ use Rattle.row_reader.proofs.walk.check_fields.Goals as goal
 
 -- ---- the needs
 pub pass_rows-passed-requires : goal.pass_rows-passed-requires
-pass_rows-passed-requires c = ((let the_few_rows : c.args.n ≤ max_rows = c.requires.n_le_max_rows in the_few_rows), ((let the_limited : Limited c.args.schema = c.requires.limited in the_limited), (let the_lie : AllLie c.args.n (c.args.rows.now) (c.args.offsets.now) = c.requires.all_lie in the_lie)))
+pass_rows-passed-requires c =
+    record { n_le_max_rows = (let the_few_rows : c.args.n ≤ max_rows = c.requires.n_le_max_rows in the_few_rows); limited = (let the_limited : Limited c.args.schema = c.requires.limited in the_limited); all_lie = let the_lie : AllLie c.args.n (c.args.rows.now) (c.args.offsets.now) = c.requires.all_lie in the_lie }
 
 pub rows-init : goal.rows-init
 rows-init c = (refl, c.pass_rows-passed.ensures)

@@ -29,14 +29,28 @@ pub add_column-fixed-requires : goal.add_column-fixed-requires
 add_column-fixed-requires c =
     let a = c.args in
     let i = c.loop-c.invariant in
-    rw (part_rest a.sheet.now ((get_or c.args.t4 c.loop-c.c no_facts)).base) (
+    record { n_nonzero = rw (part_rest a.sheet.now ((get_or c.args.t4 c.loop-c.c no_facts)).base) (
       (c.requires.n_nonzero.0, c.requires.n_nonzero.1, omega (arith, i.1.stays.same, c.clear.ensures.stays.same)),
       (
         stands_passes a.n c.loop-c.c ((get_or c.args.t4 c.loop-c.c no_facts)).base ((get_or c.args.t4 c.loop-c.c no_facts)).column a.sheet.now ((let the_stands : Stands ((get_or c.args.t4 c.loop-c.c no_facts)).column c.args.n c.loop-c.c ((get_or c.args.t4 c.loop-c.c no_facts)).base c.args.sheet.now = c.requires.all_stand c.loop-c.c c.loop-c-test.true in the_stands)),
         lengths_fit i.1 ((get_or c.args.t4 c.loop-c.c no_facts)).column (drop ((get_or c.args.t4 c.loop-c.c no_facts)).base a.sheet.now) ((let the_long : (r : ℕ) → (r < c.args.n) → length (field_at c.args.n c.args.sheet.now c.args.t4 r c.loop-c.c) ≡ slot_length ((get_or c.args.t4 c.loop-c.c no_facts)).column c.args.n (drop ((get_or c.args.t4 c.loop-c.c no_facts)).base c.args.sheet.now) r = λ r l. field_long c.args.n c.loop-c.c r ((get_or c.args.t4 c.loop-c.c no_facts)).base ((get_or c.args.t4 c.loop-c.c no_facts)).column c.args.sheet.now ((let the_stands : Stands ((get_or c.args.t4 c.loop-c.c no_facts)).column c.args.n c.loop-c.c ((get_or c.args.t4 c.loop-c.c no_facts)).base c.args.sheet.now = c.requires.all_stand c.loop-c.c c.loop-c-test.true in the_stands))
     (bytes_of c.args.sheet.now (λ i. (c.shared_slice_known-1.given i).fits)) l in the_long)) a.count c.loop-c-test.true c.requires.count_bound,
       ),
-    )
+    ); passes = rw (part_rest a.sheet.now ((get_or c.args.t4 c.loop-c.c no_facts)).base) (
+      (c.requires.n_nonzero.0, c.requires.n_nonzero.1, omega (arith, i.1.stays.same, c.clear.ensures.stays.same)),
+      (
+        stands_passes a.n c.loop-c.c ((get_or c.args.t4 c.loop-c.c no_facts)).base ((get_or c.args.t4 c.loop-c.c no_facts)).column a.sheet.now ((let the_stands : Stands ((get_or c.args.t4 c.loop-c.c no_facts)).column c.args.n c.loop-c.c ((get_or c.args.t4 c.loop-c.c no_facts)).base c.args.sheet.now = c.requires.all_stand c.loop-c.c c.loop-c-test.true in the_stands)),
+        lengths_fit i.1 ((get_or c.args.t4 c.loop-c.c no_facts)).column (drop ((get_or c.args.t4 c.loop-c.c no_facts)).base a.sheet.now) ((let the_long : (r : ℕ) → (r < c.args.n) → length (field_at c.args.n c.args.sheet.now c.args.t4 r c.loop-c.c) ≡ slot_length ((get_or c.args.t4 c.loop-c.c no_facts)).column c.args.n (drop ((get_or c.args.t4 c.loop-c.c no_facts)).base c.args.sheet.now) r = λ r l. field_long c.args.n c.loop-c.c r ((get_or c.args.t4 c.loop-c.c no_facts)).base ((get_or c.args.t4 c.loop-c.c no_facts)).column c.args.sheet.now ((let the_stands : Stands ((get_or c.args.t4 c.loop-c.c no_facts)).column c.args.n c.loop-c.c ((get_or c.args.t4 c.loop-c.c no_facts)).base c.args.sheet.now = c.requires.all_stand c.loop-c.c c.loop-c-test.true in the_stands))
+    (bytes_of c.args.sheet.now (λ i. (c.shared_slice_known-1.given i).fits)) l in the_long)) a.count c.loop-c-test.true c.requires.count_bound,
+      ),
+    ); fits = rw (part_rest a.sheet.now ((get_or c.args.t4 c.loop-c.c no_facts)).base) (
+      (c.requires.n_nonzero.0, c.requires.n_nonzero.1, omega (arith, i.1.stays.same, c.clear.ensures.stays.same)),
+      (
+        stands_passes a.n c.loop-c.c ((get_or c.args.t4 c.loop-c.c no_facts)).base ((get_or c.args.t4 c.loop-c.c no_facts)).column a.sheet.now ((let the_stands : Stands ((get_or c.args.t4 c.loop-c.c no_facts)).column c.args.n c.loop-c.c ((get_or c.args.t4 c.loop-c.c no_facts)).base c.args.sheet.now = c.requires.all_stand c.loop-c.c c.loop-c-test.true in the_stands)),
+        lengths_fit i.1 ((get_or c.args.t4 c.loop-c.c no_facts)).column (drop ((get_or c.args.t4 c.loop-c.c no_facts)).base a.sheet.now) ((let the_long : (r : ℕ) → (r < c.args.n) → length (field_at c.args.n c.args.sheet.now c.args.t4 r c.loop-c.c) ≡ slot_length ((get_or c.args.t4 c.loop-c.c no_facts)).column c.args.n (drop ((get_or c.args.t4 c.loop-c.c no_facts)).base c.args.sheet.now) r = λ r l. field_long c.args.n c.loop-c.c r ((get_or c.args.t4 c.loop-c.c no_facts)).base ((get_or c.args.t4 c.loop-c.c no_facts)).column c.args.sheet.now ((let the_stands : Stands ((get_or c.args.t4 c.loop-c.c no_facts)).column c.args.n c.loop-c.c ((get_or c.args.t4 c.loop-c.c no_facts)).base c.args.sheet.now = c.requires.all_stand c.loop-c.c c.loop-c-test.true in the_stands))
+    (bytes_of c.args.sheet.now (λ i. (c.shared_slice_known-1.given i).fits)) l in the_long)) a.count c.loop-c-test.true c.requires.count_bound,
+      ),
+    ) }
 
 pub loop-c-preserved : goal.loop-c-preserved
 loop-c-preserved c =

@@ -4,52 +4,110 @@ use mathlib.Core.List.{List}
 use native.Mathlib.Omega.{arith}
 use lib.ListN.{length, get_or, take, drop, length-drop}
 use lib.Seq.{get_or-take}
+use Rattle.format.specs.declared.Column.{Column}
+use Rattle.format.specs.declared.Schema.{Schema}
+use Rattle.format.specs.declared.Check.{Check}
 use Rattle.format.specs.declared.Check.TheVariants.{Pass}
-use Rattle.format.specs.Limits.{max_rows, max_width}
-use Rattle.format.specs.Kinds.{value_bytes}
-use Rattle.format.specs.Sheet.{layout, column_fault, column_bytes, column_slots, nulls_in}
+use Rattle.format.specs.Sheet.{layout, packed, bits_fault, column_fault, column_bytes, column_slots, nulls_in}
 use Rattle.bits.proofs.Nulls.{bits_passed}
-use Rattle.laws.proofs.InUse.{in_use}
+use Rattle.laws.proofs.InUse.{Held, in_use}
 use Rattle.laws.proofs.Parts.{part_rest}
 use Rattle.laws.proofs.Sheets.{column_passed, column_room}
 use Rattle.format.specs.Schemas.{Limited, cols_of, no_column}
 use Rattle.sheet_reader.proofs.SheetTurns.{start, bad, more, after, good}
 use Rattle.sheet_reader.proofs.sheet.check_sheet.Goals as goal
 
+-- as many columns are in use as the schema counts, and column c is that of the array
+module _ (schema : Schema) (held : Held schema) (limited : Limited schema) (c : ℕ) where
+  past : schema.count ≤ c → length (cols_of schema) ≤ c
+  past h = omega (arith, in_use schema held limited.few)
+
+  there : c < schema.count → c < length (cols_of schema)
+  there h = omega (arith, in_use schema held limited.few)
+
+  is : c < schema.count → get_or schema.columns c no_column ≡ get_or (cols_of schema) c no_column
+  is h = sym (get_or-take schema.count schema.columns c no_column h)
+
+-- a column that was checked in the part of the sheet from `at` on, which the code takes as a range
+module _ (n c at : ℕ) (col : Column) (s : List ℕ) (check : Check)
+    (e : check ≡ column_fault col.options.required (layout col) n c (take (length s - at) (drop at s))) where
+  abbrev part : List ℕ
+  part = drop at s
+
+  said : check ≡ column_fault col.options.required (layout col) n c part
+  said = e ∙ rw (part_rest s at)
+
+  module _ (p : check ≡ Pass) where
+    passes : column_fault col.options.required (layout col) n c part ≡ Pass
+    passes = sym said ∙ p
+
+    room : column_bytes (layout col) n part ≤ length part
+    room = column_room col.options.required (layout col) n c part passes
+
+    bytes_there : column_bytes (layout col) n (take (length s - at) part) ≤ length (take (length s - at) part)
+    bytes_there = rw (part_rest s at) room
+
+    valid : bits_fault n c (take (length s - at) part) ≡ Pass
+    valid = rw (part_rest s at) (column_passed col.options.required (layout col) n c part passes).0
+
+-- what the code takes of the part
+wide : (n at w : ℕ) (col : Column) (s : List ℕ) → w ≡ column_bytes (layout col) n (take (length s - at) (drop at s))
+    → w ≡ column_bytes (layout col) n (drop at s)
+wide n at w col s e = e ∙ rw (part_rest s at)
+
 pub loop-c-init : goal.loop-c-init
 loop-c-init c = start _ _ _ _
 
 pub check_column-check-requires : goal.check_column-check-requires
 check_column-check-requires c =
-    ((let the_few : c.args.n ≤ max_rows = c.requires.n_le_max_rows in the_few), (let the_narrow : value_bytes ((get_or c.args.schema.columns (c.loop-c.c) no_column)).kind ≤ max_width = ((let the_limited : Limited c.args.schema = c.requires.limited in the_limited)).narrow (c.loop-c.c) c.loop-c-test.true in the_narrow))
+    record { n_le_max_rows = c.requires.n_le_max_rows; kind_bound = c.requires.limited.narrow c.loop-c.c c.loop-c-test.true }
 
 pub returns-in-Refuse : goal.returns-in-Refuse
 returns-in-Refuse c =
-    let refused = sym ((let the_said : c.check_column-check.result ≡ (column_fault ((get_or c.args.schema.columns (c.loop-c.c) no_column)).options.required (layout ((get_or c.args.schema.columns (c.loop-c.c) no_column))) (c.args.n) (c.loop-c.c) ((drop c.loop-c.at (c.args.sheet.now)))) = c.check_column-check.ensures ∙ rw ((let the_rest : take (length (c.args.sheet.now) - c.loop-c.at) ((drop c.loop-c.at (c.args.sheet.now))) ≡ ((drop c.loop-c.at (c.args.sheet.now))) = part_rest (c.args.sheet.now) c.loop-c.at in the_rest)) in the_said)) ∙ c.in-Refuse.is in
-    bad _ _ _ _ _ _ _ c.loop-c.invariant ((get_or c.args.schema.columns (c.loop-c.c) no_column)) ((let the_there : (c.loop-c.c) < length ((cols_of c.args.schema)) = omega (arith, (let the_full : length ((cols_of c.args.schema)) ≡ c.args.schema.count = let held = c.well_formed.0 in in_use c.args.schema held ((let the_limited : Limited c.args.schema = c.requires.limited in the_limited)).few in the_full), c.loop-c-test.true) in the_there)) ((let the_is : ((get_or c.args.schema.columns (c.loop-c.c) no_column)) ≡ get_or ((cols_of c.args.schema)) (c.loop-c.c) no_column = sym (get_or-take c.args.schema.count c.args.schema.columns (c.loop-c.c) no_column c.loop-c-test.true) in the_is)) _ _ refused c.found.ensures.0
+    let schema = c.args.schema in
+    let col = get_or schema.columns c.loop-c.c no_column in
+    bad _ _ _ _ _ _ _ c.loop-c.invariant col (there schema c.well_formed.0 c.requires.limited _ c.loop-c-test.true)
+    (is schema c.well_formed.0 c.requires.limited _ c.loop-c-test.true) _ _
+    (sym (said _ _ c.loop-c.at col c.args.sheet.now _ c.check_column-check.ensures) ∙ c.in-Refuse.is) c.found.ensures.0
 
 pub column_bytes-requires : goal.column_bytes-requires
-column_bytes-requires c = record { n_le_max_rows = rw ((let the_rest : take (length (c.args.sheet.now) - c.loop-c.at) ((drop c.loop-c.at (c.args.sheet.now))) ≡ ((drop c.loop-c.at (c.args.sheet.now))) = part_rest (c.args.sheet.now) c.loop-c.at in the_rest)) ((let the_few : c.args.n ≤ max_rows = c.requires.n_le_max_rows in the_few), (let the_room : (((column_fault ((get_or c.args.schema.columns (c.loop-c.c) no_column)).options.required (layout ((get_or c.args.schema.columns (c.loop-c.c) no_column))) (c.args.n) (c.loop-c.c) ((drop c.loop-c.at (c.args.sheet.now))))) ≡ Pass) → ((column_bytes (layout ((get_or c.args.schema.columns (c.loop-c.c) no_column))) (c.args.n) ((drop c.loop-c.at (c.args.sheet.now))))) ≤ length ((drop c.loop-c.at (c.args.sheet.now))) = column_room ((get_or c.args.schema.columns (c.loop-c.c) no_column)).options.required (layout ((get_or c.args.schema.columns (c.loop-c.c) no_column))) (c.args.n) (c.loop-c.c) ((drop c.loop-c.at (c.args.sheet.now))) in the_room) ((let the_passes : (column_fault ((get_or c.args.schema.columns (c.loop-c.c) no_column)).options.required (layout ((get_or c.args.schema.columns (c.loop-c.c) no_column))) (c.args.n) (c.loop-c.c) ((drop c.loop-c.at (c.args.sheet.now)))) ≡ Pass = sym ((let the_said : c.check_column-check.result ≡ (column_fault ((get_or c.args.schema.columns (c.loop-c.c) no_column)).options.required (layout ((get_or c.args.schema.columns (c.loop-c.c) no_column))) (c.args.n) (c.loop-c.c) ((drop c.loop-c.at (c.args.sheet.now)))) = c.check_column-check.ensures ∙ rw ((let the_rest : take (length (c.args.sheet.now) - c.loop-c.at) ((drop c.loop-c.at (c.args.sheet.now))) ≡ ((drop c.loop-c.at (c.args.sheet.now))) = part_rest (c.args.sheet.now) c.loop-c.at in the_rest)) in the_said)) ∙ c.in_default.is in the_passes))); part_in_bounds = rw ((let the_rest : take (length (c.args.sheet.now) - c.loop-c.at) ((drop c.loop-c.at (c.args.sheet.now))) ≡ ((drop c.loop-c.at (c.args.sheet.now))) = part_rest (c.args.sheet.now) c.loop-c.at in the_rest)) ((let the_few : c.args.n ≤ max_rows = c.requires.n_le_max_rows in the_few), (let the_room : (((column_fault ((get_or c.args.schema.columns (c.loop-c.c) no_column)).options.required (layout ((get_or c.args.schema.columns (c.loop-c.c) no_column))) (c.args.n) (c.loop-c.c) ((drop c.loop-c.at (c.args.sheet.now))))) ≡ Pass) → ((column_bytes (layout ((get_or c.args.schema.columns (c.loop-c.c) no_column))) (c.args.n) ((drop c.loop-c.at (c.args.sheet.now))))) ≤ length ((drop c.loop-c.at (c.args.sheet.now))) = column_room ((get_or c.args.schema.columns (c.loop-c.c) no_column)).options.required (layout ((get_or c.args.schema.columns (c.loop-c.c) no_column))) (c.args.n) (c.loop-c.c) ((drop c.loop-c.at (c.args.sheet.now))) in the_room) ((let the_passes : (column_fault ((get_or c.args.schema.columns (c.loop-c.c) no_column)).options.required (layout ((get_or c.args.schema.columns (c.loop-c.c) no_column))) (c.args.n) (c.loop-c.c) ((drop c.loop-c.at (c.args.sheet.now)))) ≡ Pass = sym ((let the_said : c.check_column-check.result ≡ (column_fault ((get_or c.args.schema.columns (c.loop-c.c) no_column)).options.required (layout ((get_or c.args.schema.columns (c.loop-c.c) no_column))) (c.args.n) (c.loop-c.c) ((drop c.loop-c.at (c.args.sheet.now)))) = c.check_column-check.ensures ∙ rw ((let the_rest : take (length (c.args.sheet.now) - c.loop-c.at) ((drop c.loop-c.at (c.args.sheet.now))) ≡ ((drop c.loop-c.at (c.args.sheet.now))) = part_rest (c.args.sheet.now) c.loop-c.at in the_rest)) in the_said)) ∙ c.in_default.is in the_passes))) }
+column_bytes-requires c = record {
+  n_le_max_rows = c.requires.n_le_max_rows;
+  part_in_bounds = bytes_there c.args.n c.loop-c.c c.loop-c.at (get_or c.args.schema.columns c.loop-c.c no_column) c.args.sheet.now _
+      c.check_column-check.ensures c.in_default.is;
+}
 
 pub overflow_add-next : goal.overflow_add-next
 overflow_add-next c =
-    omega (arith, (let the_wide : c.column_bytes.result ≡ (column_bytes (layout ((get_or c.args.schema.columns (c.loop-c.c) no_column))) (c.args.n) ((drop c.loop-c.at (c.args.sheet.now)))) = c.column_bytes.ensures ∙ rw ((let the_rest : take (length (c.args.sheet.now) - c.loop-c.at) ((drop c.loop-c.at (c.args.sheet.now))) ≡ ((drop c.loop-c.at (c.args.sheet.now))) = part_rest (c.args.sheet.now) c.loop-c.at in the_rest)) in the_wide), (let the_room : (((column_fault ((get_or c.args.schema.columns (c.loop-c.c) no_column)).options.required (layout ((get_or c.args.schema.columns (c.loop-c.c) no_column))) (c.args.n) (c.loop-c.c) ((drop c.loop-c.at (c.args.sheet.now))))) ≡ Pass) → ((column_bytes (layout ((get_or c.args.schema.columns (c.loop-c.c) no_column))) (c.args.n) ((drop c.loop-c.at (c.args.sheet.now))))) ≤ length ((drop c.loop-c.at (c.args.sheet.now))) = column_room ((get_or c.args.schema.columns (c.loop-c.c) no_column)).options.required (layout ((get_or c.args.schema.columns (c.loop-c.c) no_column))) (c.args.n) (c.loop-c.c) ((drop c.loop-c.at (c.args.sheet.now))) in the_room) ((let the_passes : (column_fault ((get_or c.args.schema.columns (c.loop-c.c) no_column)).options.required (layout ((get_or c.args.schema.columns (c.loop-c.c) no_column))) (c.args.n) (c.loop-c.c) ((drop c.loop-c.at (c.args.sheet.now)))) ≡ Pass = sym ((let the_said : c.check_column-check.result ≡ (column_fault ((get_or c.args.schema.columns (c.loop-c.c) no_column)).options.required (layout ((get_or c.args.schema.columns (c.loop-c.c) no_column))) (c.args.n) (c.loop-c.c) ((drop c.loop-c.at (c.args.sheet.now)))) = c.check_column-check.ensures ∙ rw ((let the_rest : take (length (c.args.sheet.now) - c.loop-c.at) ((drop c.loop-c.at (c.args.sheet.now))) ≡ ((drop c.loop-c.at (c.args.sheet.now))) = part_rest (c.args.sheet.now) c.loop-c.at in the_rest)) in the_said)) ∙ c.in_default.is in the_passes)), length-drop c.loop-c.at (c.args.sheet.now))
+    let col = get_or c.args.schema.columns c.loop-c.c no_column in
+    let s = c.args.sheet.now in
+    omega (arith, wide _ c.loop-c.at _ col s c.column_bytes.ensures, room _ _ c.loop-c.at col s _ c.check_column-check.ensures c.in_default.is,
+    length-drop c.loop-c.at s)
 
 pub null_rows-nulls-requires : goal.null_rows-nulls-requires
 null_rows-nulls-requires c =
-    let valid = (column_passed ((get_or c.args.schema.columns (c.loop-c.c) no_column)).options.required (layout ((get_or c.args.schema.columns (c.loop-c.c) no_column))) (c.args.n) (c.loop-c.c) ((drop c.loop-c.at (c.args.sheet.now))) ((let the_passes : (column_fault ((get_or c.args.schema.columns (c.loop-c.c) no_column)).options.required (layout ((get_or c.args.schema.columns (c.loop-c.c) no_column))) (c.args.n) (c.loop-c.c) ((drop c.loop-c.at (c.args.sheet.now)))) ≡ Pass = sym ((let the_said : c.check_column-check.result ≡ (column_fault ((get_or c.args.schema.columns (c.loop-c.c) no_column)).options.required (layout ((get_or c.args.schema.columns (c.loop-c.c) no_column))) (c.args.n) (c.loop-c.c) ((drop c.loop-c.at (c.args.sheet.now)))) = c.check_column-check.ensures ∙ rw ((let the_rest : take (length (c.args.sheet.now) - c.loop-c.at) ((drop c.loop-c.at (c.args.sheet.now))) ≡ ((drop c.loop-c.at (c.args.sheet.now))) = part_rest (c.args.sheet.now) c.loop-c.at in the_rest)) in the_said)) ∙ c.in_default.is in the_passes))).0 in
-    rw ((let the_rest : take (length (c.args.sheet.now) - c.loop-c.at) ((drop c.loop-c.at (c.args.sheet.now))) ≡ ((drop c.loop-c.at (c.args.sheet.now))) = part_rest (c.args.sheet.now) c.loop-c.at in the_rest)) ((let the_few : c.args.n ≤ max_rows = c.requires.n_le_max_rows in the_few), bits_passed (c.args.n) (c.loop-c.c) ((drop c.loop-c.at (c.args.sheet.now))) valid)
+    let checked = bits_passed _ _ _ (valid c.args.n c.loop-c.c c.loop-c.at (get_or c.args.schema.columns c.loop-c.c no_column) c.args.sheet.now _
+    c.check_column-check.ensures c.in_default.is) in
+    record { n_le_max_rows = c.requires.n_le_max_rows; n_in_bounds = checked.0; n_value = checked.1 }
 
 -- ---- the end of a turn
 pub loop-c-preserved : goal.loop-c-preserved
 loop-c-preserved c =
-    let null = c.null_rows-nulls.ensures.value (layout ((get_or c.args.schema.columns (c.loop-c.c) no_column))) ∙ ap (λ (s' : List ℕ). nulls_in (column_slots (layout ((get_or c.args.schema.columns (c.loop-c.c) no_column))) (c.args.n) s')) ((let the_rest : take (length (c.args.sheet.now) - c.loop-c.at) ((drop c.loop-c.at (c.args.sheet.now))) ≡ ((drop c.loop-c.at (c.args.sheet.now))) = part_rest (c.args.sheet.now) c.loop-c.at in the_rest)) in
-    more _ _ _ _ _ _ _ c.loop-c.invariant ((get_or c.args.schema.columns (c.loop-c.c) no_column)) ((let the_there : (c.loop-c.c) < length ((cols_of c.args.schema)) = omega (arith, (let the_full : length ((cols_of c.args.schema)) ≡ c.args.schema.count = let held = c.well_formed.0 in in_use c.args.schema held ((let the_limited : Limited c.args.schema = c.requires.limited in the_limited)).few in the_full), c.loop-c-test.true) in the_there)) ((let the_is : ((get_or c.args.schema.columns (c.loop-c.c) no_column)) ≡ get_or ((cols_of c.args.schema)) (c.loop-c.c) no_column = sym (get_or-take c.args.schema.count c.args.schema.columns (c.loop-c.c) no_column c.loop-c-test.true) in the_is)) ((let the_passes : (column_fault ((get_or c.args.schema.columns (c.loop-c.c) no_column)).options.required (layout ((get_or c.args.schema.columns (c.loop-c.c) no_column))) (c.args.n) (c.loop-c.c) ((drop c.loop-c.at (c.args.sheet.now)))) ≡ Pass = sym ((let the_said : c.check_column-check.result ≡ (column_fault ((get_or c.args.schema.columns (c.loop-c.c) no_column)).options.required (layout ((get_or c.args.schema.columns (c.loop-c.c) no_column))) (c.args.n) (c.loop-c.c) ((drop c.loop-c.at (c.args.sheet.now)))) = c.check_column-check.ensures ∙ rw ((let the_rest : take (length (c.args.sheet.now) - c.loop-c.at) ((drop c.loop-c.at (c.args.sheet.now))) ≡ ((drop c.loop-c.at (c.args.sheet.now))) = part_rest (c.args.sheet.now) c.loop-c.at in the_rest)) in the_said)) ∙ c.in_default.is in the_passes)) _ _ null c.null_rows-nulls.ensures.upper_bound ((let the_few : c.args.n ≤ max_rows = c.requires.n_le_max_rows in the_few)) ((let the_wide : c.column_bytes.result ≡ (column_bytes (layout ((get_or c.args.schema.columns (c.loop-c.c) no_column))) (c.args.n) ((drop c.loop-c.at (c.args.sheet.now)))) = c.column_bytes.ensures ∙ rw ((let the_rest : take (length (c.args.sheet.now) - c.loop-c.at) ((drop c.loop-c.at (c.args.sheet.now))) ≡ ((drop c.loop-c.at (c.args.sheet.now))) = part_rest (c.args.sheet.now) c.loop-c.at in the_rest)) in the_wide)) (omega arith)
+    let schema = c.args.schema in
+    let col = get_or schema.columns c.loop-c.c no_column in
+    let s = c.args.sheet.now in
+    let null = c.null_rows-nulls.ensures.value (layout col) ∙ ap (λ (t : List ℕ). nulls_in (column_slots (layout col) c.args.n t)) (part_rest s c.loop-c.at) in
+    more _ _ _ _ _ _ _ c.loop-c.invariant col (there schema c.well_formed.0 c.requires.limited _ c.loop-c-test.true)
+    (is schema c.well_formed.0 c.requires.limited _ c.loop-c-test.true)
+    (passes _ _ c.loop-c.at col s _ c.check_column-check.ensures c.in_default.is) _ _ null c.null_rows-nulls.ensures.upper_bound
+    c.requires.n_le_max_rows (wide _ c.loop-c.at _ col s c.column_bytes.ensures) (omega arith)
 
 pub returns-then-at-sheet : goal.returns-then-at-sheet
 returns-then-at-sheet c =
-    after _ _ _ _ _ _ _ c.loop-c.invariant ((let the_past : length ((cols_of c.args.schema)) ≤ c.loop-c.c = omega (arith, (let the_full : length ((cols_of c.args.schema)) ≡ c.args.schema.count = let held = c.well_formed.0 in in_use c.args.schema held ((let the_limited : Limited c.args.schema = c.requires.limited in the_limited)).few in the_full), c.loop-c-test.false) in the_past)) _ c.if-at-sheet.true c.found-then-at-sheet.ensures.0
+    after _ _ _ _ _ _ _ c.loop-c.invariant (past c.args.schema c.well_formed.0 c.requires.limited _ c.loop-c-test.false) _
+    c.if-at-sheet.true c.found-then-at-sheet.ensures.0
 
 pub returns : goal.returns
 returns c =
-    good _ _ _ _ _ _ _ c.loop-c.invariant ((let the_past : length ((cols_of c.args.schema)) ≤ c.loop-c.c = omega (arith, (let the_full : length ((cols_of c.args.schema)) ≡ c.args.schema.count = let held = c.well_formed.0 in in_use c.args.schema held ((let the_limited : Limited c.args.schema = c.requires.limited in the_limited)).few in the_full), c.loop-c-test.false) in the_past)) _ c.if-at-sheet.false c.found-2.ensures.0 c.found-2.ensures.1 c.found-2.ensures.2
+    good _ _ _ _ _ _ _ c.loop-c.invariant (past c.args.schema c.well_formed.0 c.requires.limited _ c.loop-c-test.false) _
+    c.if-at-sheet.false c.found-2.ensures.0 c.found-2.ensures.1 c.found-2.ensures.2

@@ -32,7 +32,7 @@ bounds-columns-c c = omega (arith, c.requires.limited.few)
 
 pub pack-values-requires : goal.pack-values-requires
 pack-values-requires c =
-    ((let the_readable : Readable ((get_or c.args.schema.columns c.loop-c.c no_column)) (c.args.rows.now) (c.loop-c.cursors) = stand_here (c.loop-c.invariant) ((let the_row_bytes : Bytes (c.args.rows.now) = bytes_of (c.args.rows.now) (λ i. (c.shared_slice_known-1.given i).fits) in the_row_bytes)) ((get_or c.args.schema.columns c.loop-c.c no_column)) ((let the_next : drop c.loop-c.c ((cols_of c.args.schema)) ≡ ((get_or c.args.schema.columns c.loop-c.c no_column)) ∷ drop (suc c.loop-c.c) ((cols_of c.args.schema)) = next_in_use c.args.schema ((let the_held : Held c.args.schema = c.well_formed.0 in the_held)) c.requires.limited.few c.loop-c.c c.loop-c-test.true in the_next)) in the_readable), (tt, omega (arith, (let the_validity_room : c.loop-c.at + length ((flags_at Valid ((get_or c.args.schema.columns c.loop-c.c no_column)) (c.args.rows.now) (c.loop-c.cursors))) ≤ length (c.loop-c.sheet) = room_first ((flags_at Valid ((get_or c.args.schema.columns c.loop-c.c no_column)) (c.args.rows.now) (c.loop-c.cursors))) (values_at ((get_or c.args.schema.columns c.loop-c.c no_column)) (c.args.rows.now) (c.loop-c.cursors)) c.loop-c.at (c.loop-c.sheet) ((let the_room : c.loop-c.at + length (column_to_come ((get_or c.args.schema.columns c.loop-c.c no_column)) (c.args.rows.now) (c.loop-c.cursors)) ≤ length (c.loop-c.sheet) = stand_room (c.loop-c.invariant) ((let the_row_bytes : Bytes (c.args.rows.now) = bytes_of (c.args.rows.now) (λ i. (c.shared_slice_known-1.given i).fits) in the_row_bytes)) ((get_or c.args.schema.columns c.loop-c.c no_column)) ((let the_next : drop c.loop-c.c ((cols_of c.args.schema)) ≡ ((get_or c.args.schema.columns c.loop-c.c no_column)) ∷ drop (suc c.loop-c.c) ((cols_of c.args.schema)) = next_in_use c.args.schema ((let the_held : Held c.args.schema = c.well_formed.0 in the_held)) c.requires.limited.few c.loop-c.c c.loop-c-test.true in the_next)) c.requires.room in the_room)) in the_validity_room), flags_long ((get_or c.args.schema.columns c.loop-c.c no_column)) (c.args.rows.now) (c.loop-c.cursors) Valid)))
+    record { readable = (let the_readable : Readable ((get_or c.args.schema.columns c.loop-c.c no_column)) (c.args.rows.now) (c.loop-c.cursors) = stand_here (c.loop-c.invariant) ((let the_row_bytes : Bytes (c.args.rows.now) = bytes_of (c.args.rows.now) (λ i. (c.shared_slice_known-1.given i).fits) in the_row_bytes)) ((get_or c.args.schema.columns c.loop-c.c no_column)) ((let the_next : drop c.loop-c.c ((cols_of c.args.schema)) ≡ ((get_or c.args.schema.columns c.loop-c.c no_column)) ∷ drop (suc c.loop-c.c) ((cols_of c.args.schema)) = next_in_use c.args.schema ((let the_held : Held c.args.schema = c.well_formed.0 in the_held)) c.requires.limited.few c.loop-c.c c.loop-c-test.true in the_next)) in the_readable); flagged = tt; cursors_in_bounds = omega (arith, (let the_validity_room : c.loop-c.at + length ((flags_at Valid ((get_or c.args.schema.columns c.loop-c.c no_column)) (c.args.rows.now) (c.loop-c.cursors))) ≤ length (c.loop-c.sheet) = room_first ((flags_at Valid ((get_or c.args.schema.columns c.loop-c.c no_column)) (c.args.rows.now) (c.loop-c.cursors))) (values_at ((get_or c.args.schema.columns c.loop-c.c no_column)) (c.args.rows.now) (c.loop-c.cursors)) c.loop-c.at (c.loop-c.sheet) ((let the_room : c.loop-c.at + length (column_to_come ((get_or c.args.schema.columns c.loop-c.c no_column)) (c.args.rows.now) (c.loop-c.cursors)) ≤ length (c.loop-c.sheet) = stand_room (c.loop-c.invariant) ((let the_row_bytes : Bytes (c.args.rows.now) = bytes_of (c.args.rows.now) (λ i. (c.shared_slice_known-1.given i).fits) in the_row_bytes)) ((get_or c.args.schema.columns c.loop-c.c no_column)) ((let the_next : drop c.loop-c.c ((cols_of c.args.schema)) ≡ ((get_or c.args.schema.columns c.loop-c.c no_column)) ∷ drop (suc c.loop-c.c) ((cols_of c.args.schema)) = next_in_use c.args.schema ((let the_held : Held c.args.schema = c.well_formed.0 in the_held)) c.requires.limited.few c.loop-c.c c.loop-c-test.true in the_next)) c.requires.room in the_room)) in the_validity_room), flags_long ((get_or c.args.schema.columns c.loop-c.c no_column)) (c.args.rows.now) (c.loop-c.cursors) Valid) }
 
 pub slice_bounds-count_ones-count : goal.slice_bounds-count_ones-count
 slice_bounds-count_ones-count c = omega (arith, (let the_place : c.pack-values.result ≡ c.loop-c.at + length ((flags_at Valid ((get_or c.args.schema.columns c.loop-c.c no_column)) (c.args.rows.now) (c.loop-c.cursors))) = c.pack-values.ensures.place in the_place))
@@ -60,7 +60,7 @@ overflow_add-nulls c =
 
 pub write_values-at-requires : goal.write_values-at-requires
 write_values-at-requires c =
-    ((let the_few : length (c.loop-c.cursors) ≤ max_rows = omega (arith, (c.loop-c.invariant).many, c.requires.few) in the_few), ((let the_readable : Readable ((get_or c.args.schema.columns c.loop-c.c no_column)) (c.args.rows.now) (c.loop-c.cursors) = stand_here (c.loop-c.invariant) ((let the_row_bytes : Bytes (c.args.rows.now) = bytes_of (c.args.rows.now) (λ i. (c.shared_slice_known-1.given i).fits) in the_row_bytes)) ((get_or c.args.schema.columns c.loop-c.c no_column)) ((let the_next : drop c.loop-c.c ((cols_of c.args.schema)) ≡ ((get_or c.args.schema.columns c.loop-c.c no_column)) ∷ drop (suc c.loop-c.c) ((cols_of c.args.schema)) = next_in_use c.args.schema ((let the_held : Held c.args.schema = c.well_formed.0 in the_held)) c.requires.limited.few c.loop-c.c c.loop-c-test.true in the_next)) in the_readable), room_after c.pack-values.ensures (values_at ((get_or c.args.schema.columns c.loop-c.c no_column)) (c.args.rows.now) (c.loop-c.cursors)) ((let the_room : c.loop-c.at + length (column_to_come ((get_or c.args.schema.columns c.loop-c.c no_column)) (c.args.rows.now) (c.loop-c.cursors)) ≤ length (c.loop-c.sheet) = stand_room (c.loop-c.invariant) ((let the_row_bytes : Bytes (c.args.rows.now) = bytes_of (c.args.rows.now) (λ i. (c.shared_slice_known-1.given i).fits) in the_row_bytes)) ((get_or c.args.schema.columns c.loop-c.c no_column)) ((let the_next : drop c.loop-c.c ((cols_of c.args.schema)) ≡ ((get_or c.args.schema.columns c.loop-c.c no_column)) ∷ drop (suc c.loop-c.c) ((cols_of c.args.schema)) = next_in_use c.args.schema ((let the_held : Held c.args.schema = c.well_formed.0 in the_held)) c.requires.limited.few c.loop-c.c c.loop-c-test.true in the_next)) c.requires.room in the_room))))
+    record { cursors_len_bound = (let the_few : length (c.loop-c.cursors) ≤ max_rows = omega (arith, (c.loop-c.invariant).many, c.requires.few) in the_few); readable = (let the_readable : Readable ((get_or c.args.schema.columns c.loop-c.c no_column)) (c.args.rows.now) (c.loop-c.cursors) = stand_here (c.loop-c.invariant) ((let the_row_bytes : Bytes (c.args.rows.now) = bytes_of (c.args.rows.now) (λ i. (c.shared_slice_known-1.given i).fits) in the_row_bytes)) ((get_or c.args.schema.columns c.loop-c.c no_column)) ((let the_next : drop c.loop-c.c ((cols_of c.args.schema)) ≡ ((get_or c.args.schema.columns c.loop-c.c no_column)) ∷ drop (suc c.loop-c.c) ((cols_of c.args.schema)) = next_in_use c.args.schema ((let the_held : Held c.args.schema = c.well_formed.0 in the_held)) c.requires.limited.few c.loop-c.c c.loop-c-test.true in the_next)) in the_readable); cursors_in_bounds = room_after c.pack-values.ensures (values_at ((get_or c.args.schema.columns c.loop-c.c no_column)) (c.args.rows.now) (c.loop-c.cursors)) ((let the_room : c.loop-c.at + length (column_to_come ((get_or c.args.schema.columns c.loop-c.c no_column)) (c.args.rows.now) (c.loop-c.cursors)) ≤ length (c.loop-c.sheet) = stand_room (c.loop-c.invariant) ((let the_row_bytes : Bytes (c.args.rows.now) = bytes_of (c.args.rows.now) (λ i. (c.shared_slice_known-1.given i).fits) in the_row_bytes)) ((get_or c.args.schema.columns c.loop-c.c no_column)) ((let the_next : drop c.loop-c.c ((cols_of c.args.schema)) ≡ ((get_or c.args.schema.columns c.loop-c.c no_column)) ∷ drop (suc c.loop-c.c) ((cols_of c.args.schema)) = next_in_use c.args.schema ((let the_held : Held c.args.schema = c.well_formed.0 in the_held)) c.requires.limited.few c.loop-c.c c.loop-c-test.true in the_next)) c.requires.room in the_room)) }
 
 pub loop-c-preserved : goal.loop-c-preserved
 loop-c-preserved c =

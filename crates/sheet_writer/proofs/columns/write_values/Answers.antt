@@ -21,7 +21,7 @@ use Rattle.sheet_writer.proofs.columns.write_values.Goals as goal
 pub pack-end-requires : goal.pack-end-requires
 pack-end-requires c =
     let fits = (let the_room : (parts : List ℕ) → (values_at (c.args.column) (c.args.rows.now) (c.args.cursors.now) ≡ parts) → c.args.at + length parts ≤ length c.args.sheet.now = λ parts e. subst (λ (l : List ℕ). c.args.at + length l ≤ length c.args.sheet.now) e c.requires.cursors_in_bounds in the_room) _ ((let the_trues : values_at (c.args.column) (c.args.rows.now) (c.args.cursors.now) ≡ flags_at True (c.args.column) (c.args.rows.now) (c.args.cursors.now) = bool_values (c.args.column) (c.args.rows.now) (c.args.cursors.now) c.in-Bool.is in the_trues)) in
-    ((let the_readable : Readable (c.args.column) (c.args.rows.now) (c.args.cursors.now) = c.requires.readable in the_readable), (ap shape c.in-Bool.is, omega (arith, flags_long (c.args.column) (c.args.rows.now) (c.args.cursors.now) True)))
+    record { readable = (let the_readable : Readable (c.args.column) (c.args.rows.now) (c.args.cursors.now) = c.requires.readable in the_readable); flagged = ap shape c.in-Bool.is; cursors_in_bounds = omega (arith, flags_long (c.args.column) (c.args.rows.now) (c.args.cursors.now) True) }
 
 pub advance-requires : goal.advance-requires
 advance-requires c =

@@ -1,3 +1,4 @@
+-- The words before are the same, in each turn and at the end. Assumes nothing.
 use Prim.Native.Nat.{◌-◌}
 use mathlib.Core.Path.{refl}
 use native.Mathlib.Omega.{arith}
@@ -15,18 +16,18 @@ low64-requires-in-loop-i c = omega (arith, c.requires.state_size_in_bounds_2)
 
 pub returns-then-low64 : goal.returns-then-low64
 returns-then-low64 c =
-    same_not c.args.a.now c.args.b.now (λ j. (c.shared_slice_known-1.given j).fits) (λ j. (c.shared_slice_known-2-1.given j).fits)
+    same_not c.args.a.now c.args.b.now (λ j. (c.type_inv.a j).fits) (λ j. (c.type_inv.b j).fits)
     c.requires.state_size_in_bounds c.requires.state_size_in_bounds_2 _ _ _ c.loop-i-test.true c.low64.ensures c.low64-in-loop-i.ensures c.if-low64.true
 
 pub loop-i-preserved : goal.loop-i-preserved
 loop-i-preserved c =
     (
       omega arith,
-      same_more c.args.a.now c.args.b.now (λ j. (c.shared_slice_known-1.given j).fits) (λ j. (c.shared_slice_known-2-1.given j).fits)
+      same_more c.args.a.now c.args.b.now (λ j. (c.type_inv.a j).fits) (λ j. (c.type_inv.b j).fits)
           c.requires.state_size_in_bounds c.requires.state_size_in_bounds_2 _ _ _ c.loop-i-test.true c.low64.ensures c.low64-in-loop-i.ensures c.loop-i.invariant.1 c.if-low64.false,
     )
 
 pub returns : goal.returns
 returns c =
-    same_end c.args.a.now c.args.b.now (λ j. (c.shared_slice_known-1.given j).fits) (λ j. (c.shared_slice_known-2-1.given j).fits)
+    same_end c.args.a.now c.args.b.now (λ j. (c.type_inv.a j).fits) (λ j. (c.type_inv.b j).fits)
     c.requires.state_size_in_bounds c.requires.state_size_in_bounds_2 _ c.loop-i.invariant.1 c.loop-i.invariant.0 c.loop-i-test.false

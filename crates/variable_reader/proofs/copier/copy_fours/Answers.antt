@@ -12,11 +12,11 @@ returns c =
     let A = c.args in
     let l = A.row.now in
     let k = A.count - 4 in
-    let bytes : ((i : ℕ) → get_or l i 0 < 256) = λ i. (c.shared_slice_known-1.given i).fits in
+    let bytes : ((i : ℕ) → get_or l i 0 < 256) = λ i. (c.type_inv.row i).fits in
     copy_twice l A.from A.count A.descending A.out.now A.at c.requires.count_in_bounds c.requires.count_in_bounds_2 k 4 4 _ _
     (omega (arith, c.requires.le_count)) c.requires.le_count.0 (omega (arith, c.requires.le_count))
     (c.put32.ensures
     ∙ ap (sets A.out.now A.at) (word_is l A.from 4 A.descending _ _ bytes (omega (arith, c.requires)) c.low32-first.ensures c.directed32.ensures))
     (c.put32-2.ensures
-    ∙ ap (sets c.put32.new.0 (A.at + k))
+    ∙ ap (sets c.put32.new.out (A.at + k))
     (word_is l (A.from + k) 4 A.descending _ _ bytes (omega (arith, c.requires)) c.low32-last.ensures c.directed32-2.ensures))

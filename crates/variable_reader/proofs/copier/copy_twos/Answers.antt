@@ -12,11 +12,11 @@ returns c =
     let A = c.args in
     let l = A.row.now in
     let k = A.count - 2 in
-    let bytes : ((i : ℕ) → get_or l i 0 < 256) = λ i. (c.shared_slice_known-1.given i).fits in
+    let bytes : ((i : ℕ) → get_or l i 0 < 256) = λ i. (c.type_inv.row i).fits in
     copy_twice l A.from A.count A.descending A.out.now A.at c.requires.count_in_bounds c.requires.count_in_bounds_2 k 2 2 _ _
     (omega (arith, c.requires.le_count)) c.requires.le_count.0 (omega (arith, c.requires.le_count))
     (c.put16.ensures
     ∙ ap (sets A.out.now A.at) (word_is l A.from 2 A.descending _ _ bytes (omega (arith, c.requires)) c.low16-first.ensures c.directed16.ensures))
     (c.put16-2.ensures
-    ∙ ap (sets c.put16.new.0 (A.at + k))
+    ∙ ap (sets c.put16.new.out (A.at + k))
     (word_is l (A.from + k) 2 A.descending _ _ bytes (omega (arith, c.requires)) c.low16-last.ensures c.directed16-2.ensures))

@@ -5,18 +5,8 @@ use lib.ListN.{drop}
 use Rattle.format.specs.Field.{directed}
 use Rattle.laws.proofs.Directed.{length_directed}
 use Rattle.variable_reader.proofs.Padding.{bad_few}
-use Rattle.variable_reader.proofs.Reading.{ended_none, ended_over, ended_padding, ended_long, ended_done}
+use Rattle.variable_reader.proofs.Reading.{ended_padding, ended_long, ended_done}
 use Rattle.variable_reader.proofs.reader.last_block.Goals as goal
-
-pub returns-then-end-lt1 : goal.returns-then-end-lt1
-returns-then-end-lt1 c =
-    let A = c.args in
-    ended_none _ _ _ _ _ _ (length_directed A.descending A.row.now) c.requires.size_in_bounds c.requires.fact (omega arith)
-
-pub returns-then-size-end : goal.returns-then-size-end
-returns-then-size-end c =
-    let A = c.args in
-    ended_over _ _ _ _ _ _ (length_directed A.descending A.row.now) c.requires.size_in_bounds c.requires.fact (omega arith) (omega arith)
 
 pub overflow_add-result : goal.overflow_add-result
 overflow_add-result c =

@@ -1,16 +1,9 @@
-use Prim.Native.Nat.{◌-◌}
 use mathlib.Core.Path.{sym, ◌∙◌}
 use native.Mathlib.Omega.{arith}
 use borrow.Author.Rules.{rules}
 use Rattle.laws.proofs.Directed.{length_directed}
-use Rattle.variable_reader.proofs.Padding.{clear_start, clear_more, clear_bad, clear_end}
+use Rattle.variable_reader.proofs.Padding.{clear_more, clear_bad}
 use Rattle.variable_reader.proofs.reader.unpadded.Goals as goal
-
-pub returns-then-clear : goal.returns-then-clear
-returns-then-clear c = sym (c.clear.ensures c.if-clear.true)
-
-pub loop-i-init : goal.loop-i-init
-loop-i-init c = clear_start _ _ _ (search rules)
 
 pub returns-then-byte-ne0 : goal.returns-then-byte-ne0
 returns-then-byte-ne0 c =
@@ -23,6 +16,3 @@ loop-i-preserved c =
     let A = c.args in
     clear_more c.loop-i.invariant (search rules) (omega (arith, length_directed A.descending A.row.now))
     (sym c.byte_at-byte.ensures ∙ c.if-byte-ne0.false)
-
-pub returns : goal.returns
-returns c = clear_end c.loop-i.invariant (search rules)

@@ -1,2 +1,0 @@
--- The law that the proofs of the field readers cite.
-pub mod Arms

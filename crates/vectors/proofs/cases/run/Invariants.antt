@@ -1,0 +1,9 @@
+-- `vectors::cases::run`: the place stays within the text, and each turn goes on from a later one.
+use Rattle.std.proofs.Common.{length, ◌-◌, ◌≤◌}
+use Rattle.vectors.proofs.cases.run.Given as goal
+
+abbrev pub invariant-loop-at : goal.invariant-loop-at
+invariant-loop-at g l = l.at ≤ length l.text
+
+abbrev pub decreases-loop-at : goal.decreases-loop-at
+decreases-loop-at g l = length l.text - l.at
