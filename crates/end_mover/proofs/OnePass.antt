@@ -11,15 +11,16 @@ use Rattle.format.specs.Kinds.{Slot}
 use Rattle.format.specs.Limits.{max_slot}
 use Rattle.format.specs.Lists.{ends_from, low_bytes}
 use Rattle.format.specs.Cleared.{variable_slot}
-use Rattle.format.specs.Read.{Good}
 use Rattle.basics.specs.Wrote.{Wrote}
 use Rattle.basics.proofs.Append.{Walk}
+use Rattle.basics.proofs.Bytes.{bytes_of, bytes_drop}
 use Rattle.basics.proofs.Lists.{length_joined, length_ends}
 use Rattle.laws.proofs.Room.{all_four}
-use Rattle.cursors.specs.Cursors.{cursor_field, cursor_slot, cursor_slots, next_at, nexts_at, Readable}
+use Rattle.cursors.specs.Cursors.{Readable, cursor_slot, next_at, nexts_at}
 use Rattle.end_mover.specs.Ends.{variable_column, ends_at, data_at}
-use Rattle.cursors.proofs.Moving.{Moving, still, move_start, move_more, move_end}
-use Rattle.end_mover.proofs.Running.{Running, end_bytes, run_start, run_room, run_more, run_end}
+use Rattle.cursors.proofs.Lead.{inside, variable_short}
+use Rattle.cursors.proofs.Moving.{Moving, still, move_readable, move_room, move_more, move_end}
+use Rattle.end_mover.proofs.Running.{Running, end_bytes, run_room, run_more, run_end}
 use Rattle.cursors.proofs.Wrotes.{wrote_both}
 
 -- ---- runs of bytes apart from each other
@@ -62,9 +63,10 @@ ends_long slot k xs =
       length-map xs slot,
     )
 
--- and stand before the bytes
-pub ends_room : (o : SortOptions) (rows xs : List ℕ) → 4 * (length xs + 1) ≤ length (ends_at o rows xs ++ data_at o rows xs)
-ends_room o rows xs = omega (arith, length-append (ends_at o rows xs) (data_at o rows xs), ends_long (cursor_slot (variable_column o) rows) 0 xs)
+-- every value is short
+pub value_short : (o : SortOptions) (rows : List ℕ) → ((i : ℕ) → get_or rows i 0 < 256) → (p : ℕ)
+    → length (variable_slot (cursor_slot (variable_column o) rows p)) ≤ max_slot
+value_short o rows known p = variable_short o (drop p rows) (bytes_drop p rows (bytes_of rows known))
 
 -- r of the values are copied, from `from` on, and counted; `mid` has the ends before k alone
 pub record Ended (o : SortOptions) (rows xs out₀ : List ℕ) (at₀ from : ℕ) (now out : List ℕ) (end k r : ℕ) : Type 0 where
@@ -72,15 +74,6 @@ pub record Ended (o : SortOptions) (rows xs out₀ : List ℕ) (at₀ from : ℕ
   pub place : from ≡ at₀ + 4 * (length xs + 1)
   pub ends : Running (cursor_slot (variable_column o) rows) xs out₀ at₀ mid end k r
   pub copied : Moving (variable_column o) rows variable_slot xs mid from now out (from + k) r
-
-pub ended_start : (o : SortOptions) (rows xs out : List ℕ) (at from : ℕ) → from ≡ at + 4 * (length xs + 1) → Ended o rows xs out at from xs out at 0 0
-ended_start o rows xs out at from e = record {
-  mid = out;
-  place = e;
-  ends = run_start (cursor_slot (variable_column o) rows) xs out at;
-  copied = subst (λ (at : ℕ). Moving (variable_column o) rows variable_slot xs out from xs out at 0) {x = from} {y = from + 0} (omega arith)
-      (move_start (variable_column o) rows variable_slot xs out from);
-}
 
 module _ {o : SortOptions} {rows xs out₀ : List ℕ} {at₀ from : ℕ} {now out : List ℕ} {end k r : ℕ}
     (t : Ended o rows xs out₀ at₀ from now out end k r) where
@@ -111,6 +104,15 @@ module _ {o : SortOptions} {rows xs out₀ : List ℕ} {at₀ from : ℕ} {now o
 
     pub data_room : from + length (data_at o rows xs) ≤ length (sets t.mid end next)
     data_room = omega (arith, both_long, t.place, length-sets t.mid end next, t.ends.wrote.same)
+
+  -- the cursor of row r stands within the rows, and there is room for its value
+  module _ (h : r < length now) where
+    pub row_there : Readable (variable_column o) rows xs → get_or now r 0 < length rows
+    row_there all = inside (variable_column o) rows (get_or now r 0) (move_readable t.copied h all)
+
+    pub value_room : at₀ + length (ends_at o rows xs ++ data_at o rows xs) ≤ length out₀
+        → from + k + length (variable_slot (slot (get_or now r 0))) ≤ length out
+    value_room fits = let m = move_room marked h (data_room fits) in omega (arith, m, length-sets out end next)
 
   -- value r is copied and counted
   pub ended_more : (h : r < length now) (n v : ℕ) → n ≡ length (variable_slot (slot (get_or now r 0))) → n ≤ max_slot

@@ -11,7 +11,7 @@ use Rattle.format.specs.Limits.{max_slot}
 use Rattle.format.specs.Lists.{ends_from, joined, low_bytes}
 use Rattle.format.specs.Cleared.{variable_slot}
 use Rattle.basics.specs.Wrote.{Wrote}
-use Rattle.basics.proofs.Append.{Walk, walk_start, walk_piece, walk_room}
+use Rattle.basics.proofs.Append.{Walk, walk_piece, walk_room}
 use Rattle.cursors.proofs.Wrotes.{wrote_whole}
 
 -- k, and after it where the value of the slot at each cursor ends, four bytes each
@@ -28,9 +28,6 @@ pub record Running (slot : ℕ → Slot) (xs out₀ : List ℕ) (at₀ : ℕ) (o
   pub within : r ≤ length xs
   pub small : k ≤ max_slot * r
   pub wrote : Walk (end_bytes slot 0 xs) (end_bytes slot k (drop r xs)) out₀ at₀ out at
-
-pub run_start : (slot : ℕ → Slot) (xs out : List ℕ) (at : ℕ) → Running slot xs out at out at 0 0
-run_start slot xs out at = record { within = omega arith; small = omega arith; wrote = walk_start (end_bytes slot 0 xs) out at }
 
 module _ {slot : ℕ → Slot} {xs out₀ : List ℕ} {at₀ : ℕ} {out : List ℕ} {at k r : ℕ} (t : Running slot xs out₀ at₀ out at k r) where
   -- there is room for the next end

@@ -1,4 +1,6 @@
 // Variable bytes: the ends of the values, and their bytes.
+#![tactic(auto)]
+
 ghost use Rattle.std.specs.Prelude.{◌≡◌, ◌++◌, ◌+◌, ◌≤◌, length};
 ghost use Rattle.basics.specs.Wrote.{Wrote};
 ghost use Rattle.format.specs.Limits.{max_rows};
