@@ -1,5 +1,6 @@
 -- `cutter_bytes::entry::cut_lent` meets its contract. Assumes nothing.
 use mathlib.Core.Path.{sym, ◌∙◌}
+use Rattle.std.proofs.Common.{rules}
 use Rattle.basics.proofs.Bytes.{bytes_of}
 use Rattle.cutter_bytes.proofs.Entering.{open_keeps, short_broken, other_broken, unkept_broken, read_few, read_keeps, read_written, read_refusal, kept_of, cut_broken, cut_stands, cut_short, cut_refuses, cut_done}
 use Rattle.cutter_bytes.proofs.entry.cut_lent.Goals as goal
@@ -56,9 +57,15 @@ returns-in-Refuse-check c =
     let a = c.args in
     let q = kept_of a.state.now _ c.read_state-s.ensures _ c.place_of-first.ensures c.if-state-lt-STATE_BYTES.false
         c.written_as.ensures c.if-not-written_as.false c.keeps.ensures c.if-not-keeps.false in
-    cut_refuses a.state.now a.piece.now a.ends.now (bytes_of a.ends.now (λ i. (c.type_inv.ends i).fits)) q
+    cut_refuses a.state.now a.piece.now a.ends.now (bytes_of a.ends.now (λ i. search rules)) q
     (read_refusal a.state.now _ c.read_state-s.ensures _ c.in_default.is) c.if-ends-piece.false _ c.read_state-s.ensures _ c.place_of-first.ensures _ _ _
     c.walk_sized-walked.ensures _ c.in-Refuse-check.is c.put_refused.ensures
 
 pub returns : goal.returns
-returns c = let h = c.well_formed in ?
+returns c =
+    let a = c.args in
+    let q = kept_of a.state.now _ c.read_state-s.ensures _ c.place_of-first.ensures c.if-state-lt-STATE_BYTES.false
+        c.written_as.ensures c.if-not-written_as.false c.keeps.ensures c.if-not-keeps.false in
+    cut_done a.state.now a.piece.now a.ends.now (bytes_of a.ends.now (λ i. search rules)) q
+    (read_refusal a.state.now _ c.read_state-s.ensures _ c.in_default.is) c.if-ends-piece.false _ c.read_state-s.ensures _ c.place_of-first.ensures _ _ _
+    c.walk_sized-walked.ensures c.in_default-check.is c.put_numbers.ensures
