@@ -13,7 +13,8 @@ pub folding_byte-requires : goal.folding_byte-requires
 folding_byte-requires c =
     let a = c.args in
     let kept = subst (λ (t : Bool). ltb a.spelt (cond t (256 ^ a.seen) 1) ≡ true) c.if-options.true c.requires.spelt_value in
-    record { fact = c.requires.fact; seen_lt_width = c.requires.seen_lt_width; spelt_bound = ltb-true a.spelt (256 ^ a.seen) kept; seen_le_at = c.requires.seen_le_at }
+    let q = c.requires in
+    record { fact = q.fact; seen_lt_width = q.seen_lt_width; spelt_bound = ltb-true a.spelt (256 ^ a.seen) kept; seen_le_at = q.seen_le_at }
 
 pub returns-then-options : goal.returns-then-options
 returns-then-options c =

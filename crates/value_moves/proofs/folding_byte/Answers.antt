@@ -29,8 +29,8 @@ pub may_stand-requires : goal.may_stand-requires
 may_stand-requires c = record {
   fact = c.requires.fact;
   spelt_bound =
-    let last : suc c.args.seen ≡ c.args.width = omega (arith, c.if-seen-width.false, c.requires.seen_lt_width) in
-    subst (λ (w : ℕ). 256 * c.args.spelt + c.wide.result < 256 ^ w) last (spelt_room c.args.seen c.args.spelt _ c.requires.spelt_bound c.wide.ensures.1);
+      let last : suc c.args.seen ≡ c.args.width = omega (arith, c.if-seen-width.false, c.requires.seen_lt_width) in
+      subst (λ (w : ℕ). 256 * c.args.spelt + c.wide.result < 256 ^ w) last (spelt_room c.args.seen c.args.spelt _ c.requires.spelt_bound c.wide.ensures.1);
 }
 
 pub returns-then-may_stand : goal.returns-then-may_stand

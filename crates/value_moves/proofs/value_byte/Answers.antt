@@ -61,6 +61,7 @@ pub returns-in_default : goal.returns-in_default
 returns-in_default c =
     let a = c.args in
     let d = c.in_default in
-    let arm : PlainArm a.kind = record { no_bool = d.not-Bool; no_half = d.not-F16; no_single = d.not-F32; no_double = d.not-F64; no_variable = d.not-Variable } in
+    let arm : PlainArm a.kind =
+    record { no_bool = d.not-Bool; no_half = d.not-F16; no_single = d.not-F32; no_double = d.not-F64; no_variable = d.not-Variable } in
     let k = plain_kind a.kind _ a.options.fold arm c.width.ensures in
     c.plain_byte.ensures k.0 a.spelt k.2 ∙ ap (λ (sh : Shape). move sh a.options (Value a.seen a.spelt) a.at a.byte) (sym k.1)

@@ -21,7 +21,8 @@ returns-in-Refuse c =
 pub returns-then-ends-piece : goal.returns-then-ends-piece
 returns-then-ends-piece c =
     let a = c.args in
-    cut_short a.state a.piece.now a.ends.now (sym c.keeps.ensures ∙ c.if-not-keeps.false) c.in_default.is _ c.if-ends-piece.true c.kept_back-then-ends-piece.ensures
+    cut_short a.state a.piece.now a.ends.now (sym c.keeps.ensures ∙ c.if-not-keeps.false) c.in_default.is _ c.if-ends-piece.true
+    c.kept_back-then-ends-piece.ensures
 
 pub walk-walked-requires : goal.walk-walked-requires
 walk-walked-requires c =

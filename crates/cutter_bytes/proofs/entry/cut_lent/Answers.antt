@@ -33,7 +33,7 @@ pub returns-in-Refuse : goal.returns-in-Refuse
 returns-in-Refuse c =
     let a = c.args in
     let q = kept_of a.state.now _ c.read_state-s.ensures _ c.place_of-first.ensures c.if-state-lt-STATE_BYTES.false
-        c.written_as.ensures c.if-not-written_as.false c.keeps.ensures c.if-not-keeps.false in
+    c.written_as.ensures c.if-not-written_as.false c.keeps.ensures c.if-not-keeps.false in
     cut_stands a.state.now a.piece.now a.ends.now (bytes_of a.ends.now (λ i. (c.type_inv.ends i).fits)) q _
     (read_refusal a.state.now _ c.read_state-s.ensures _ c.in-Refuse.is)
 
@@ -41,7 +41,7 @@ pub returns-then-ends-piece : goal.returns-then-ends-piece
 returns-then-ends-piece c =
     let a = c.args in
     let q = kept_of a.state.now _ c.read_state-s.ensures _ c.place_of-first.ensures c.if-state-lt-STATE_BYTES.false
-        c.written_as.ensures c.if-not-written_as.false c.keeps.ensures c.if-not-keeps.false in
+    c.written_as.ensures c.if-not-written_as.false c.keeps.ensures c.if-not-keeps.false in
     cut_short a.state.now a.piece.now a.ends.now (bytes_of a.ends.now (λ i. (c.type_inv.ends i).fits)) q
     (read_refusal a.state.now _ c.read_state-s.ensures _ c.in_default.is) c.if-ends-piece.true
 
@@ -56,7 +56,7 @@ pub returns-in-Refuse-check : goal.returns-in-Refuse-check
 returns-in-Refuse-check c =
     let a = c.args in
     let q = kept_of a.state.now _ c.read_state-s.ensures _ c.place_of-first.ensures c.if-state-lt-STATE_BYTES.false
-        c.written_as.ensures c.if-not-written_as.false c.keeps.ensures c.if-not-keeps.false in
+    c.written_as.ensures c.if-not-written_as.false c.keeps.ensures c.if-not-keeps.false in
     cut_refuses a.state.now a.piece.now a.ends.now (bytes_of a.ends.now (λ i. search rules)) q
     (read_refusal a.state.now _ c.read_state-s.ensures _ c.in_default.is) c.if-ends-piece.false _ c.read_state-s.ensures _ c.place_of-first.ensures _ _ _
     c.walk_sized-walked.ensures _ c.in-Refuse-check.is c.put_refused.ensures
@@ -65,7 +65,7 @@ pub returns : goal.returns
 returns c =
     let a = c.args in
     let q = kept_of a.state.now _ c.read_state-s.ensures _ c.place_of-first.ensures c.if-state-lt-STATE_BYTES.false
-        c.written_as.ensures c.if-not-written_as.false c.keeps.ensures c.if-not-keeps.false in
+    c.written_as.ensures c.if-not-written_as.false c.keeps.ensures c.if-not-keeps.false in
     cut_done a.state.now a.piece.now a.ends.now (bytes_of a.ends.now (λ i. search rules)) q
     (read_refusal a.state.now _ c.read_state-s.ensures _ c.in_default.is) c.if-ends-piece.false _ c.read_state-s.ensures _ c.place_of-first.ensures _ _ _
     c.walk_sized-walked.ensures c.in_default-check.is c.put_numbers.ensures

@@ -24,7 +24,7 @@ overflow_mul-from c =
     let a = c.args in
     let l = c.loop-i in
     let t = turn a.schema a.place a.piece.now a.ends.now l.at l.numbers c.walk-walked.result c.walk-walked.new.ends
-        l.invariant.within c.requires.piece_in_bounds l.invariant.stored c.walk-walked.ensures.walked_on in
+    l.invariant.within c.requires.piece_in_bounds l.invariant.stored c.walk-walked.ensures.walked_on in
     omega (arith, t.room, l.invariant.stored.long)
 
 pub slice_bounds-write_offsets-count : goal.slice_bounds-write_offsets-count
@@ -32,7 +32,7 @@ slice_bounds-write_offsets-count c =
     let a = c.args in
     let l = c.loop-i in
     let t = turn a.schema a.place a.piece.now a.ends.now l.at l.numbers c.walk-walked.result c.walk-walked.new.ends
-        l.invariant.within c.requires.piece_in_bounds l.invariant.stored c.walk-walked.ensures.walked_on in
+    l.invariant.within c.requires.piece_in_bounds l.invariant.stored c.walk-walked.ensures.walked_on in
     omega (arith, t.room)
 
 pub slice_bounds-write_offsets-start : goal.slice_bounds-write_offsets-start
@@ -40,7 +40,7 @@ slice_bounds-write_offsets-start c =
     let a = c.args in
     let l = c.loop-i in
     let t = turn a.schema a.place a.piece.now a.ends.now l.at l.numbers c.walk-walked.result c.walk-walked.new.ends
-        l.invariant.within c.requires.piece_in_bounds l.invariant.stored c.walk-walked.ensures.walked_on in
+    l.invariant.within c.requires.piece_in_bounds l.invariant.stored c.walk-walked.ensures.walked_on in
     omega (arith, t.room)
 
 pub write_offsets-requires : goal.write_offsets-requires
@@ -48,7 +48,7 @@ write_offsets-requires c =
     let a = c.args in
     let l = c.loop-i in
     let t = turn a.schema a.place a.piece.now a.ends.now l.at l.numbers c.walk-walked.result c.walk-walked.new.ends
-        l.invariant.within c.requires.piece_in_bounds l.invariant.stored c.walk-walked.ensures.walked_on in
+    l.invariant.within c.requires.piece_in_bounds l.invariant.stored c.walk-walked.ensures.walked_on in
     omega (
       arith,
       t.room,
@@ -61,7 +61,7 @@ overflow_add-n c =
     let a = c.args in
     let l = c.loop-i in
     let t = turn a.schema a.place a.piece.now a.ends.now l.at l.numbers c.walk-walked.result c.walk-walked.new.ends
-        l.invariant.within c.requires.piece_in_bounds l.invariant.stored c.walk-walked.ensures.walked_on in
+    l.invariant.within c.requires.piece_in_bounds l.invariant.stored c.walk-walked.ensures.walked_on in
     omega (arith, t.room, l.invariant.stored.long)
 
 pub returns-in-Refuse : goal.returns-in-Refuse
@@ -69,7 +69,7 @@ returns-in-Refuse c =
     let a = c.args in
     let l = c.loop-i in
     let t = turn a.schema a.place a.piece.now a.ends.now l.at l.numbers c.walk-walked.result c.walk-walked.new.ends
-        l.invariant.within c.requires.piece_in_bounds l.invariant.stored c.walk-walked.ensures.walked_on in
+    l.invariant.within c.requires.piece_in_bounds l.invariant.stored c.walk-walked.ensures.walked_on in
     walks_refused a.schema a.place a.piece.now a.ends.now _ _ _ _ _ _ _ (t.stored _ c.write_offsets.ensures)
     (ap (λ (d : Check). walked_to d a.schema c.walk-walked.result.place) c.in-Refuse.is)
 
@@ -78,10 +78,13 @@ loop-i-preserved c =
     let a = c.args in
     let l = c.loop-i in
     let t = turn a.schema a.place a.piece.now a.ends.now l.at l.numbers c.walk-walked.result c.walk-walked.new.ends
-        l.invariant.within c.requires.piece_in_bounds l.invariant.stored c.walk-walked.ensures.walked_on in
+    l.invariant.within c.requires.piece_in_bounds l.invariant.stored c.walk-walked.ensures.walked_on in
     let read = ap (λ (d : Check). l.i + took d c.walk-walked.result.read (length a.piece.now - l.i)) c.in_default.is in
     let passes = ap (λ (d : Check). walked_to d a.schema c.walk-walked.result.place) c.in_default.is in
-    record { within = omega (arith, t.within, read); stored = stored_is a.schema a.place a.piece.now a.ends.now _ _ _ _ _ _ read passes (t.stored _ c.write_offsets.ensures) }
+    record {
+      within = omega (arith, t.within, read);
+      stored = stored_is a.schema a.place a.piece.now a.ends.now _ _ _ _ _ _ read passes (t.stored _ c.write_offsets.ensures);
+    }
 
 pub returns : goal.returns
 returns c =

@@ -9,7 +9,7 @@ use Rattle.cutter_bytes.proofs.parts.walk_parts.Given as goal
 abbrev pub invariant-loop-i : goal.invariant-loop-i
 invariant-loop-i l = record {
   within : l.i ≤ length l.piece;
-  stored : Stored l.schema l.fn.place l.piece l.initial.ends l.i (state_at l.schema l.at) l.n l.ends
+  stored : Stored l.schema l.fn.place l.piece l.initial.ends l.i (state_at l.schema l.at) l.n l.ends;
 }
 
 abbrev pub decreases-loop-i : goal.decreases-loop-i

@@ -19,7 +19,8 @@ returns-then-k-gt-LAST_BLOCK c =
 pub returns-then-block_size-seen : goal.returns-then-block_size-seen
 returns-then-block_size-seen c =
     let a = c.args in
-    λ fold row. block_over (shape a.kind) fold row a.k a.seen a.marks (sym c.is_variable.ensures ∙ c.if-not-is_variable.false) c.if-k-gt-LAST_BLOCK.false (omega arith)
+    λ fold row. block_over (shape a.kind) fold row a.k a.seen a.marks (sym c.is_variable.ensures ∙ c.if-not-is_variable.false)
+    c.if-k-gt-LAST_BLOCK.false (omega arith)
 
 pub overflow_shr-result : goal.overflow_shr-result
 overflow_shr-result c =
@@ -28,4 +29,5 @@ overflow_shr-result c =
 pub returns : goal.returns
 returns c =
     let a = c.args in
-    λ fold row. block_in (shape a.kind) fold row a.k a.seen a.marks (sym c.is_variable.ensures ∙ c.if-not-is_variable.false) c.if-k-gt-LAST_BLOCK.false (omega arith)
+    λ fold row. block_in (shape a.kind) fold row a.k a.seen a.marks (sym c.is_variable.ensures ∙ c.if-not-is_variable.false)
+    c.if-k-gt-LAST_BLOCK.false (omega arith)

@@ -23,22 +23,23 @@ returns-then-number-eq12 c =
 pub returns-then-not-fault_kept : goal.returns-then-not-fault_kept
 returns-then-not-fault_kept c =
     let a = c.args in
-    fault_none (four a.number a.second a.third a.fourth) (sym c.within.ensures ∙ c.if-within.false) c.if-number-eq12.false (sym c.fault_kept.ensures ∙ c.if-not-fault_kept.true)
+    fault_none (four a.number a.second a.third a.fourth) (sym c.within.ensures ∙ c.if-within.false) c.if-number-eq12.false
+    (sym c.fault_kept.ensures ∙ c.if-not-fault_kept.true)
 
 pub returns-then-second-ge-MAX_TOTAL : goal.returns-then-second-ge-MAX_TOTAL
 returns-then-second-ge-MAX_TOTAL c =
     let a = c.args in
-    fault_far (four a.number a.second a.third a.fourth) (sym c.within.ensures ∙ c.if-within.false) c.if-number-eq12.false (sym c.fault_kept.ensures ∙ c.if-not-fault_kept.false)
-    (omega arith)
+    fault_far (four a.number a.second a.third a.fourth) (sym c.within.ensures ∙ c.if-within.false) c.if-number-eq12.false
+    (sym c.fault_kept.ensures ∙ c.if-not-fault_kept.false) (omega arith)
 
 pub returns-then-second-fourth : goal.returns-then-second-fourth
 returns-then-second-fourth c =
     let a = c.args in
-    fault_far (four a.number a.second a.third a.fourth) (sym c.within.ensures ∙ c.if-within.false) c.if-number-eq12.false (sym c.fault_kept.ensures ∙ c.if-not-fault_kept.false)
-    (omega arith)
+    fault_far (four a.number a.second a.third a.fourth) (sym c.within.ensures ∙ c.if-within.false) c.if-number-eq12.false
+    (sym c.fault_kept.ensures ∙ c.if-not-fault_kept.false) (omega arith)
 
 pub returns : goal.returns
 returns c =
     let a = c.args in
-    fault_number (four a.number a.second a.third a.fourth) (sym c.within.ensures ∙ c.if-within.false) c.if-number-eq12.false (sym c.fault_kept.ensures ∙ c.if-not-fault_kept.false)
-    (omega arith)
+    fault_number (four a.number a.second a.third a.fourth) (sym c.within.ensures ∙ c.if-within.false) c.if-number-eq12.false
+    (sym c.fault_kept.ensures ∙ c.if-not-fault_kept.false) (omega arith)

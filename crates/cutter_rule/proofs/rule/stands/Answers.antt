@@ -38,16 +38,18 @@ field_seen-seen-requires c =
     let a = c.args in
     let few = c.if-count-gt-MAX_COLUMNS.false in
     spot_small (column_shape (get_or a.schema.columns a.c no_column)) _ a.row a.spot
-    (column_narrow a.schema a.rows a.bytes a.row a.c a.spot few (sym c.sum_columns-sums.ensures.kept ∙ not-false _ c.if-not-sums.false) c.if-count-c.false (in_use a.schema c.well_formed.0 few))
+    (column_narrow a.schema a.rows a.bytes a.row a.c a.spot few
+    (sym c.sum_columns-sums.ensures.kept ∙ not-false _ c.if-not-sums.false) c.if-count-c.false (in_use a.schema c.well_formed.0 few))
     (sym c.spot_kept.ensures ∙ c.if-not-spot_kept.false)
 
 pub returns-then-not-within : goal.returns-then-not-within
 returns-then-not-within c =
     let a = c.args in
     let sums = c.sum_columns-sums.ensures in
+    let kept = not-false _ c.if-not-sums.false in
     stands_row a.schema a.rows a.bytes a.row a.c a.spot c.if-count-gt-MAX_COLUMNS.false
-    (sym sums.kept ∙ not-false _ c.if-not-sums.false) c.if-count-c.false (sym c.spot_kept.ensures ∙ c.if-not-spot_kept.false)
-    _ _ (omega (arith, sums.low (not-false _ c.if-not-sums.false))) (omega (arith, sums.high (not-false _ c.if-not-sums.false))) (sym c.within.ensures ∙ c.if-not-within.true)
+    (sym sums.kept ∙ kept) c.if-count-c.false (sym c.spot_kept.ensures ∙ c.if-not-spot_kept.false)
+    _ _ (omega (arith, sums.low kept)) (omega (arith, sums.high kept)) (sym c.within.ensures ∙ c.if-not-within.true)
 
 pub stream_kept-requires : goal.stream_kept-requires
 stream_kept-requires c =
@@ -60,7 +62,8 @@ pub returns : goal.returns
 returns c =
     let a = c.args in
     let sums = c.sum_columns-sums.ensures in
+    let kept = not-false _ c.if-not-sums.false in
     stands_stream a.schema a.rows a.bytes a.row a.c a.spot c.if-count-gt-MAX_COLUMNS.false
-    (sym sums.kept ∙ not-false _ c.if-not-sums.false) c.if-count-c.false (sym c.spot_kept.ensures ∙ c.if-not-spot_kept.false)
-    _ _ (omega (arith, sums.low (not-false _ c.if-not-sums.false))) (omega (arith, sums.high (not-false _ c.if-not-sums.false))) (sym c.within.ensures ∙ c.if-not-within.false) _
-    (c.stream_kept.ensures ∙ stream_sums (cols_of a.schema) a.rows a.row a.bytes _ _ (sums.fewest_all (not-false _ c.if-not-sums.false)) (sums.most_all (not-false _ c.if-not-sums.false)))
+    (sym sums.kept ∙ kept) c.if-count-c.false (sym c.spot_kept.ensures ∙ c.if-not-spot_kept.false)
+    _ _ (omega (arith, sums.low kept)) (omega (arith, sums.high kept)) (sym c.within.ensures ∙ c.if-not-within.false) _
+    (c.stream_kept.ensures ∙ stream_sums (cols_of a.schema) a.rows a.row a.bytes _ _ (sums.fewest_all kept) (sums.most_all kept))

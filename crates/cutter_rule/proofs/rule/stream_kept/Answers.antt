@@ -12,7 +12,8 @@ returns-then-not-within c = rw (sym c.within.ensures ∙ c.if-not-within.true)
 pub returns-then-rows-gt-MAX_TOTAL : goal.returns-then-rows-gt-MAX_TOTAL
 returns-then-rows-gt-MAX_TOTAL c =
     let a = c.args in
-    stream_many a.rows a.row a.bytes a.low a.high c.requires.0 (sym c.within.ensures ∙ c.if-not-within.false) (within_true a.row max_total a.bytes (sym c.within.ensures ∙ c.if-not-within.false)).1 c.if-rows-gt-MAX_TOTAL.true
+    let inside = sym c.within.ensures ∙ c.if-not-within.false in
+    stream_many a.rows a.row a.bytes a.low a.high c.requires.0 inside (within_true a.row max_total a.bytes inside).1 c.if-rows-gt-MAX_TOTAL.true
 
 pub overflow_mul-rows : goal.overflow_mul-rows
 overflow_mul-rows c = omega (arith, product_fits c.args.rows c.args.low c.if-rows-gt-MAX_TOTAL.false c.requires.1)

@@ -28,7 +28,8 @@ returns-then-not-column_kept c =
     let schema = c.args.schema in
     let full : length (cols_of schema) ≡ schema.count = in_use schema c.well_formed.0 c.requires in
     let same = get_or-take schema.count schema.columns c.loop-c.c no_column c.loop-c-test.true in
-    sum_breaks (cols_of schema) c.args.column c.loop-c.invariant (omega arith) (omega arith) (ap column_kept same ∙ sym c.column_kept.ensures ∙ c.if-not-column_kept.true)
+    sum_breaks (cols_of schema) c.args.column c.loop-c.invariant (omega arith) (omega arith)
+    (ap column_kept same ∙ sym c.column_kept.ensures ∙ c.if-not-column_kept.true)
 
 pub fewest-least-requires : goal.fewest-least-requires
 fewest-least-requires c = kept_width (get_or c.args.schema.columns c.loop-c.c no_column) (sym c.column_kept.ensures ∙ c.if-not-column_kept.false)
@@ -53,7 +54,8 @@ loop-c-preserved c =
     let schema = c.args.schema in
     let full : length (cols_of schema) ≡ schema.count = in_use schema c.well_formed.0 c.requires in
     let same = get_or-take schema.count schema.columns c.loop-c.c no_column c.loop-c-test.true in
-    sum_more (cols_of schema) c.args.column c.loop-c.invariant (omega arith) _ _ _ _ (ap column_kept same ∙ sym c.column_kept.ensures ∙ c.if-not-column_kept.false)
+    sum_more (cols_of schema) c.args.column c.loop-c.invariant (omega arith) _ _ _ _
+    (ap column_kept same ∙ sym c.column_kept.ensures ∙ c.if-not-column_kept.false)
     (c.fewest-least.ensures.0 ∙ ap (λ (col : Column). fewest (column_shape col)) (sym same))
     (c.most-longest.ensures.0 ∙ ap (λ (col : Column). most (column_shape col)) (sym same))
     c.fewest-least.ensures.1 c.most-longest.ensures.1 c.part-low.ensures c.part-high.ensures

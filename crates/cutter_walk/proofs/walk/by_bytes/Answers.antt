@@ -26,8 +26,8 @@ step-turn-requires c = standing c.args.schema c.loop-i.at c.loop-i.invariant.kep
 pub returns-in-Stopped : goal.returns-in-Stopped
 returns-in-Stopped c = record {
   goes =
-    turn_stops c.loop-i.invariant (bytes_of c.args.piece.now (λ i. (c.type_inv.piece i).fits)) _
-    (one_byte _ c.args.schema.count c.loop-i.at c.args.piece.now c.loop-i.i _ c.loop-i-test.true c.step-turn.ensures) _ _ _ c.in-Stopped.is;
+      turn_stops c.loop-i.invariant (bytes_of c.args.piece.now (λ i. (c.type_inv.piece i).fits)) _
+      (one_byte _ c.args.schema.count c.loop-i.at c.args.piece.now c.loop-i.i _ c.loop-i-test.true c.step-turn.ensures) _ _ _ c.in-Stopped.is;
   halts = λ e. absurd (let z : ◌≡◌ {A = ℕ} 0 1 = cc in omega arith);
 }
 
@@ -36,6 +36,6 @@ loop-i-preserved c =
     let bytes = bytes_of c.args.piece.now (λ i. (c.type_inv.piece i).fits) in
     let byte = one_byte _ c.args.schema.count c.loop-i.at c.args.piece.now c.loop-i.i _ c.loop-i-test.true c.step-turn.ensures in
     elim c.match-turn.branch [
-        in-Going w ↦ turn_goes c.loop-i.invariant bytes _ byte _ w.in-Going.is w.ends-is w.at-is w.n-is
+      | in-Going w ↦ turn_goes c.loop-i.invariant bytes _ byte _ w.in-Going.is w.ends-is w.at-is w.n-is
       | in-Ended w ↦ turn_ends c.loop-i.invariant bytes _ byte _ c.if-ends-n.false w.in-Ended.is w.ends-is w.at-is w.n-is
     ]

@@ -55,7 +55,8 @@ quick_field-read-requires c = c.plain_lengths-lengths.ensures _ (fields_standing
 pub fault_shown-check-requires : goal.fault_shown-check-requires
 fault_shown-check-requires c =
     let w = c.loop-i.invariant in
-    (fields_left w (bytes_of c.args.piece.now (λ i. (c.type_inv.piece i).fits)) c.loop-i-test.true _ c.quick_field-read.ensures, omega (arith, (fields_standing w).row, w.room))
+    let l = fields_left w (bytes_of c.args.piece.now (λ i. (c.type_inv.piece i).fits)) c.loop-i-test.true _ c.quick_field-read.ensures in
+    (l, omega (arith, (fields_standing w).row, w.room))
 
 pub returns-then-len-eq0 : goal.returns-then-len-eq0
 returns-then-len-eq0 c =
@@ -93,16 +94,16 @@ loop-i-smaller-then-c-count c = omega (arith, pos_of_ne-zero c.if-len-eq0.false)
 
 pub loop-i-preserved-then-c-count : goal.loop-i-preserved-then-c-count
 loop-i-preserved-then-c-count c =
-    fields_go c.loop-i.invariant (bytes_of c.args.piece.now (λ i. (c.type_inv.piece i).fits)) c.loop-i-test.true _ c.quick_field-read.ensures _ c.field_length-len.ensures
-    c.if-len-eq0.false c.if-c-count.true
+    fields_go c.loop-i.invariant (bytes_of c.args.piece.now (λ i. (c.type_inv.piece i).fits)) c.loop-i-test.true _
+    c.quick_field-read.ensures _ c.field_length-len.ensures c.if-len-eq0.false c.if-c-count.true
 
 pub loop-i-smaller : goal.loop-i-smaller
 loop-i-smaller c = omega (arith, pos_of_ne-zero c.if-len-eq0.false)
 
 pub loop-i-preserved : goal.loop-i-preserved
 loop-i-preserved c =
-    fields_end c.loop-i.invariant (bytes_of c.args.piece.now (λ i. (c.type_inv.piece i).fits)) c.loop-i-test.true _ c.quick_field-read.ensures _ c.field_length-len.ensures
-    c.if-len-eq0.false c.if-c-count.false c.if-ends-n.false
+    fields_end c.loop-i.invariant (bytes_of c.args.piece.now (λ i. (c.type_inv.piece i).fits)) c.loop-i-test.true _
+    c.quick_field-read.ensures _ c.field_length-len.ensures c.if-len-eq0.false c.if-c-count.false c.if-ends-n.false
 
 pub returns : goal.returns
 returns c = from_place c.args.place _ _ c.requires.spot_value (fields_leave c.loop-i.invariant _ c.walked-2.ensures)

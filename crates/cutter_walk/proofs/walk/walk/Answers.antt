@@ -19,7 +19,8 @@ module _ (schema : Schema) (p : Place) (piece ends : List ℕ) (r : Walked) (lis
   first : Walking schema p piece ends r.place r.ends r.read list
   first = part_passed r.check schema p piece ends r list e (first_part schema p piece ends r list g)
 
-  second : (q : Walked) (list' : List ℕ) → Goes schema r.place piece r.read r.ends list q list' → q.check ≡ Pass → Walking schema p piece ends q.place q.ends q.read list'
+  second : (q : Walked) (list' : List ℕ) → Goes schema r.place piece r.read r.ends list q list' → q.check ≡ Pass
+      → Walking schema p piece ends q.place q.ends q.read list'
   second q list' h f = part_passed q.check schema p piece ends q list' f (h p ends first)
 
 pub returns-in-Refuse-clause-walked_on : goal.returns-in-Refuse-clause-walked_on
@@ -53,7 +54,8 @@ returns-in-Refuse-check-clause-walked_on c =
 pub by_bytes-requires : goal.by_bytes-requires
 by_bytes-requires c =
     let a = c.args in
-    let w = second a.schema a.place a.piece.now a.ends.now _ _ c.by_bytes-first.ensures.goes c.in_default.is _ _ c.by_fields-next.ensures c.in_default-check.is in
+    let w = second a.schema a.place a.piece.now a.ends.now _ _ c.by_bytes-first.ensures.goes c.in_default.is
+    _ _ c.by_fields-next.ensures c.in_default-check.is in
     record {
       place_value = walking_kept (bytes_of a.piece.now (λ i. (c.type_inv.piece i).fits)) (columns_room a.schema c.well_formed.0) c.requires w;
       found_le_from = w.few;
@@ -63,7 +65,8 @@ by_bytes-requires c =
 pub returns : goal.returns
 returns c =
     let a = c.args in
-    let w = second a.schema a.place a.piece.now a.ends.now _ _ c.by_bytes-first.ensures.goes c.in_default.is _ _ c.by_fields-next.ensures c.in_default-check.is in
+    let w = second a.schema a.place a.piece.now a.ends.now _ _ c.by_bytes-first.ensures.goes c.in_default.is
+    _ _ c.by_fields-next.ensures c.in_default-check.is in
     record {
       walked_on = c.by_bytes.ensures.goes a.place a.ends.now w;
       ends_len_bound = λ e l. ⊎_elim (λ full. omega (arith, full, w.long)) (λ never. absurd never) (c.by_bytes.ensures.halts e l);

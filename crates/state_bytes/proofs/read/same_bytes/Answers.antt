@@ -20,12 +20,12 @@ returns-then-low64 c =
     c.requires.state_size_in_bounds c.requires.state_size_in_bounds_2 _ _ _ c.loop-i-test.true c.low64.ensures c.low64-in-loop-i.ensures c.if-low64.true
 
 pub loop-i-preserved : goal.loop-i-preserved
-loop-i-preserved c =
-    (
-      omega arith,
-      same_more c.args.a.now c.args.b.now (λ j. (c.type_inv.a j).fits) (λ j. (c.type_inv.b j).fits)
-          c.requires.state_size_in_bounds c.requires.state_size_in_bounds_2 _ _ _ c.loop-i-test.true c.low64.ensures c.low64-in-loop-i.ensures c.loop-i.invariant.1 c.if-low64.false,
-    )
+loop-i-preserved c = (
+  omega arith,
+  same_more c.args.a.now c.args.b.now (λ j. (c.type_inv.a j).fits) (λ j. (c.type_inv.b j).fits)
+      c.requires.state_size_in_bounds c.requires.state_size_in_bounds_2 _ _ _ c.loop-i-test.true c.low64.ensures c.low64-in-loop-i.ensures
+      c.loop-i.invariant.1 c.if-low64.false,
+)
 
 pub returns : goal.returns
 returns c =
