@@ -2,7 +2,6 @@
 -- front of the buffer, came to the same rows again. Assumes nothing.
 use mathlib.Core.Path.{sym}
 use lib.Seq.{length-take-le}
-use Rattle.format.specs.Lists.{Bytes}
 use Rattle.basics.proofs.Bytes.{bytes_of}
 use Rattle.demands.proofs.Calls.{part_there, again_refused, again_done}
 use Rattle.round_trip.proofs.decode_encode.Goals as goal
@@ -17,7 +16,7 @@ slice_bounds-encode-end-in-Done c =
 -- and encode was called
 pub returns-in-Done : goal.returns-in-Done
 returns-in-Done c =
-    again_done c.decode-decoded.ensures _ _ c.in-Done.is _ _ ((let the_rows_bytes : Bytes c.args.rows.now = bytes_of c.args.rows.now (λ i. (c.shared_slice_known-2-1.given i).fits) in the_rows_bytes)) c.encode.ensures
+    again_done c.decode-decoded.ensures _ _ c.in-Done.is _ _ (bytes_of c.args.rows.now (λ i. (c.type_inv.rows i).fits)) c.encode.ensures
 
 -- decode refused
 pub returns-in-Refused : goal.returns-in-Refused

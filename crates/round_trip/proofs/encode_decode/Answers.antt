@@ -1,5 +1,4 @@
 -- `round_trip::encode_decode` meets its contract: what encode refuses is refused, and what it wrote came back. Assumes nothing.
-use Rattle.format.specs.Lists.{Bytes}
 use Rattle.basics.proofs.Bytes.{bytes_of}
 use Rattle.demands.proofs.Calls.{back_refused, back_done}
 use Rattle.round_trip.proofs.encode_decode.Goals as goal
@@ -11,4 +10,4 @@ returns-in-Refused c = back_refused c.encode-encoded.ensures _ _ c.in-Refused.is
 -- encode wrote, and decode was called
 pub returns : goal.returns
 returns c =
-    back_done c.encode-encoded.ensures _ _ _ ((let the_sheet_bytes : Bytes c.args.sheet.now = bytes_of c.args.sheet.now (λ i. (c.shared_slice_known-2-1.given i).fits) in the_sheet_bytes)) c.in_default.is c.decode.ensures
+    back_done c.encode-encoded.ensures _ _ _ (bytes_of c.args.sheet.now (λ i. (c.type_inv.sheet i).fits)) c.in_default.is c.decode.ensures

@@ -8,6 +8,6 @@ pub returns : goal.returns
 returns c =
     let a = c.args in
     looked_up (spelled a.list.now) a.k a.key.now a.n a.rows.now a.offsets.now _
-    (bytes_of a.key.now (λ i. (c.shared_slice_known-2-1.given i).fits))
-    (bytes_of a.rows.now (λ i. (c.shared_slice_known-3-1.given i).fits))
+    (bytes_of a.key.now (λ i. (c.type_inv.key i).fits))
+    (bytes_of a.rows.now (λ i. (c.type_inv.rows i).fits))
     c.look_up.ensures

@@ -1,6 +1,5 @@
 -- `plate_calls::prefix::encode_agree` meets its contract: what encode refuses of either sheet is refused, and else rows share their first
 -- fields exactly where the sheets share their first values. Assumes nothing.
-use Rattle.format.specs.Lists.{Bytes}
 use Rattle.basics.proofs.Bytes.{bytes_of}
 use Rattle.demands.proofs.Calls.{encode_refused, batch_written}
 use Rattle.plates.proofs.Plates.{first_refused, second_refused, agree_refused, agree_both}
@@ -11,12 +10,12 @@ returns-in-Refused c = agree_refused _ (first_refused _ _ (encode_refused c.enco
 
 pub returns-in-Refused-second : goal.returns-in-Refused-second
 returns-in-Refused-second c =
-    let v = batch_written c.encode-first.ensures ((let the_sheet_bytes : Bytes c.args.sheet.now = bytes_of c.args.sheet.now (λ i. (c.shared_slice_known-2-1.given i).fits) in the_sheet_bytes)) _ _ c.in_default.is in
+    let v = batch_written c.encode-first.ensures (bytes_of c.args.sheet.now (λ i. (c.type_inv.sheet i).fits)) _ _ c.in_default.is in
     agree_refused _ (second_refused _ _ v.passes (encode_refused c.encode-second.ensures _ c.in-Refused-second.is))
 
 -- ---- both
 pub returns : goal.returns
 returns c =
     agree_both
-    (batch_written c.encode-first.ensures ((let the_sheet_bytes : Bytes c.args.sheet.now = bytes_of c.args.sheet.now (λ i. (c.shared_slice_known-2-1.given i).fits) in the_sheet_bytes)) _ _ c.in_default.is)
-    (batch_written c.encode-second.ensures ((let the_other_bytes : Bytes c.args.other.now = bytes_of c.args.other.now (λ i. (c.shared_slice_known-3-1.given i).fits) in the_other_bytes)) _ _ c.in_default-second.is)
+    (batch_written c.encode-first.ensures (bytes_of c.args.sheet.now (λ i. (c.type_inv.sheet i).fits)) _ _ c.in_default.is)
+    (batch_written c.encode-second.ensures (bytes_of c.args.other.now (λ i. (c.type_inv.other i).fits)) _ _ c.in_default-second.is)
