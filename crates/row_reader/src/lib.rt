@@ -1,4 +1,6 @@
 // The checking walk over the rows of a batch: every field of every row.
+#![tactic(auto)]
+
 use format::Check;
 
 mod walk;
