@@ -1,6 +1,6 @@
 -- Pieces written at cursors, one row after the other: what holds at the head of every such loop. Assumes nothing.
 use Prim.Native.Nat.{ℕ, suc, ◌+◌, ◌-◌, ◌<◌, ◌≤◌}
-use mathlib.Core.Path.{◌≡◌, refl, sym, ap, ◌∙◌}
+use mathlib.Core.Path.{◌≡◌, sym, ap, ◌∙◌}
 use mathlib.Core.List.{List}
 use mathlib.Core.Logic.{◌⊎◌, inl, inr}
 use native.Mathlib.Numerals.{add-one}
@@ -16,15 +16,6 @@ pub placed_step : (place : ℕ → ℕ) (piece : ℕ → List ℕ) (i to : ℕ) 
     → placed place piece i (to - i) out ≡ placed place piece (i + 1) (to - (i + 1)) (sets out (place i) (piece i))
 placed_step place piece i to out h =
     ap (λ (k : ℕ). placed place piece i k out) {x = to - i} {y = suc (to - suc i)} (omega arith) ∙ rw (add-one i)
-
--- no cursor has moved
-pub moved_none : (piece : ℕ → List ℕ) (from : ℕ) (xs : List ℕ) → Moved piece from from xs xs
-moved_none piece from xs = record {
-  same = refl;
-  past = λ r a b. absurd (omega arith);
-  before = λ i h. refl;
-  after = λ i h. refl;
-}
 
 -- the next one moves
 module _ {piece : ℕ → List ℕ} {from r : ℕ} {xs now : List ℕ} (t : Moved piece from r xs now) (h : from ≤ r) where

@@ -7,8 +7,8 @@ ghost use Rattle.format.specs.Passed.{Passes};
 ghost use Rattle.chunk_writer.specs.Cursors.{Roomy, WroteEach, slot_field};
 
 use crate::names::write_names;
-use crate::valid::all_valid;
 use crate::numbers::write_words;
+use crate::valid::all_valid;
 use field_writer::put_field;
 use format::{Column, Kind};
 use number::Coding;

@@ -4,7 +4,7 @@
 
 mod column;
 mod names;
-mod valid;
 mod numbers;
+mod valid;
 
 pub use column::write_column;

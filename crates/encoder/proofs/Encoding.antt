@@ -1,6 +1,6 @@
 -- What `encode` answers and leaves in the buffers: where list, 6 or sheet refuses, and where 12, 13 and 14 are asked. Assumes nothing.
 use Prim.Native.Nat.{ℕ, ◌≤◌}
-use mathlib.Core.Path.{◌≡◌, refl, sym, ap, ◌∙◌}
+use mathlib.Core.Path.{◌≡◌, refl, sym, ◌∙◌}
 use mathlib.Core.List.{List}
 use native.Mathlib.Omega.{arith}
 use lib.ListN.{length, length-map}
@@ -23,11 +23,10 @@ use Rattle.basics.proofs.Append.{over_sets}
 use Rattle.basics.proofs.Lists.{length_each, length_ends}
 use Rattle.sheet_reader.specs.declared.sheet.Facts.{Facts}
 use Rattle.measurer.specs.declared.Measuring.{Measuring}
-use Rattle.measurer.specs.Measuring.{batch_check, Found, Measures}
+use Rattle.measurer.specs.Measuring.{batch_check, Measures}
 use Rattle.encoder.specs.Encoding.{RowsReady, RowsLeft}
 use Rattle.measurer.proofs.Batches.{batch_first}
 use Rattle.room_checks.specs.Room.{room_fault}
-use Rattle.room_checks.proofs.Rooms.{has_room}
 use Rattle.checks.proofs.Begun.{both_grouped}
 
 -- a sheet of n rows gives n of them
@@ -36,10 +35,6 @@ rows_many n cols sheet = length-map (turned n (sheet_slots n cols sheet)) (row c
 
 -- ---- the writing walk
 module _ (fault : Check) (schema : Schema) (n : ℕ) (sheet rows offsets : List ℕ) where
-  -- something is at fault: nothing is written
-  pub none_written : (x : Refusal) → fault ≡ Refuse x → RowsLeft fault schema n sheet rows offsets rows offsets
-  none_written x e = record { row_bytes = rw e; row_ends = rw e }
-
   -- nothing is: what is written goes in front
   front : (new old end : List ℕ) → fault ≡ Pass → length new ≤ length old → end ≡ sets old 0 new → end ≡ written fault new old
   front new old end e h w = rw e (w ∙ sym (over_sets new old h))
@@ -58,20 +53,6 @@ module _ (fault : Check) (schema : Schema) (n : ℕ) (sheet rows offsets : List 
 -- two checks made one after the other
 pub in_order : (x y first second fault : Check) → x ≡ first → y ≡ second → fault ≡ both x y → fault ≡ both first second
 in_order x y first second fault p q e = rw (← p, ← q) e
-
--- a batch that passes is ready where its total has room
-pub ready : (list : ColumnList) (n : ℕ) (sheet : List ℕ) (m : Measuring) → Found list n sheet m → (fault : Check) (rows offsets : List ℕ)
-    → fault ≡ both (total_fault m.total) (room_fault m.total (length rows) n (length offsets))
-    → RowsReady fault m.schema n sheet m.facts rows offsets
-ready list n sheet m f fault rows offsets e =
-    let room = has_room m.total (length rows) n (length offsets) fault e in
-    record {
-      few = f.few;
-      narrow = f.sound.limited.few;
-      known = f.known;
-      fits = λ p. omega (arith, (room p).0, f.total, ap (λ (cs : List Column). sheet_total n cs sheet) f.sound.cols);
-      ends_fit = λ p. (room p).1;
-    }
 
 -- ---- what is answered and left in the buffers
 module _ (list : ColumnList) (n : ℕ) (sheet rows offsets : List ℕ) (m : Measuring) (h : Measures list n sheet m) where

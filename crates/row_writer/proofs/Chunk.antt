@@ -1,15 +1,14 @@
 -- A chunk of rows, column by column, and chunks one after the other: what holds at the heads of the loops. Assumes nothing.
 use Prim.Native.Nat.{ℕ, zero, suc, ◌+◌, ◌-◌, ◌<◌, ◌≤◌}
-use mathlib.Core.Path.{◌≡◌, refl, sym, ap, ap₂, ◌∙◌}
+use mathlib.Core.Path.{◌≡◌, refl, sym, ap, ◌∙◌}
 use mathlib.Core.List.{List, [], ◌∷◌, ◌++◌, append_assoc, append-nil}
 use native.Mathlib.Numerals.{add-one}
 use native.Mathlib.Omega.{arith}
-use lib.ListN.{length, get_or, length-append}
+use lib.ListN.{length, length-append}
 use lib.Seq.{length-sets}
 use Rattle.format.specs.Lists.{each, joined}
 use Rattle.basics.proofs.Append.{each_step, each_none}
 use Rattle.chunk_writer.specs.Cursors.{cursor, placed, Moved, WroteEach}
-use Rattle.chunk_writer.proofs.Placing.{moved_none}
 use Rattle.row_writer.proofs.Side.{Apart, placed_same, placed_empty, placed_split, placed_both, moved_both, moved_on, moved_same}
 use Rattle.row_writer.proofs.Summing.{each_snoc}
 
@@ -48,18 +47,6 @@ pub record Chunk (F : ℕ → ℕ → List ℕ) (count from to : ℕ) (rows₀ x
   pub says : placed (cursor now) (rest F count c) from (to - from) rows ≡ placed (cursor xs) (first F count) from (to - from) rows₀
   pub moved : Moved (first F c) from to xs now
   pub long : (r : ℕ) → length (first F c r) + length (rest F count c r) ≡ length (first F count r)
-
-pub chunk_start : (F : ℕ → ℕ → List ℕ) (count from to : ℕ) (rows xs : List ℕ) → Chunk F count from to rows xs rows xs 0
-chunk_start F count from to rows xs = record {
-  within = omega arith;
-  same = refl;
-  says = placed_same (cursor xs) (cursor xs) (rest F count 0) (first F count) from (to - from) rows (λ j a b. (refl, whole j));
-  moved = record { same = refl; past = λ r a b. omega arith; before = λ i h. refl; after = λ i h. refl };
-  long = λ r. omega (arith, ap length (whole r));
-}
-  where
-    whole : (r : ℕ) → rest F count 0 r ≡ first F count r
-    whole r = ap (λ (k : ℕ). joined (each 0 k (F r))) {x = count - 0} {y = count} (omega arith)
 
 module _ {F : ℕ → ℕ → List ℕ} {count from to : ℕ} {rows₀ xs rows now : List ℕ} {c : ℕ} (t : Chunk F count from to rows₀ xs rows now c) (h : c < count) where
   abbrev left : ℕ → ℕ
@@ -128,9 +115,6 @@ pub record Chunks (row : ℕ → List ℕ) (n : ℕ) (rows₀ xs rows now : List
   pub says : placed (cursor xs) row from (n - from) rows ≡ placed (cursor xs) row 0 (n - 0) rows₀
   pub moved : Moved row 0 from xs now
 
-pub chunks_start : (row : ℕ → List ℕ) (n : ℕ) (rows xs : List ℕ) → Chunks row n rows xs rows xs 0
-chunks_start row n rows xs = record { within = omega arith; same = refl; says = refl; moved = moved_none row 0 xs }
-
 module _ {row : ℕ → List ℕ} {n : ℕ} {rows₀ xs rows now : List ℕ} {from : ℕ} (t : Chunks row n rows₀ xs rows now from) where
   -- cursors of rows to come are where they were
   pub chunks_still : (r : ℕ) → from ≤ r → cursor now r ≡ cursor xs r
@@ -153,9 +137,3 @@ module _ {row : ℕ → List ℕ} {n : ℕ} {rows₀ xs rows now : List ℕ} {fr
             ∙ t.says;
         moved = moved_on t.moved w.moved (omega arith) l;
       }
-
-  -- every row is written
-  pub chunks_end : n ≤ from → WroteEach row 0 n rows₀ xs rows now
-  chunks_end h =
-      let e : from ≡ n = omega (arith, t.within) in
-      record { bytes = ap (λ (k : ℕ). placed (cursor xs) row from k rows) {x = 0} {y = n - from} (omega arith) ∙ t.says; moved = rw (← e) t.moved }

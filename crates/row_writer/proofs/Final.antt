@@ -1,12 +1,12 @@
 -- The whole: rows at their starts are the rows joined, and their cursors, moved past them, are the offsets. Assumes nothing.
 use Prim.Native.Nat.{ℕ, zero, suc, ◌+◌, ◌-◌, ◌<◌, ◌≤◌}
 use mathlib.Core.Path.{◌≡◌, refl, sym, ap, ◌∙◌}
-use mathlib.Core.List.{List, [], ◌∷◌, ◌++◌}
+use mathlib.Core.List.{List, [], ◌++◌}
 use mathlib.Core.Logic.{◌⊎◌, inl, inr}
 use native.Mathlib.Omega.{arith}
 use lib.ListN.{length, get_or, set, drop, length-set, get_or-append}
 use lib.Seq.{sets, length-sets, get_or-set_same, get_or-set_other, get_or-append-add, get_or-drop, ext_get_or}
-use Rattle.format.specs.Lists.{each, joined, ends_from, over}
+use Rattle.format.specs.Lists.{each, joined, ends_from}
 use Rattle.basics.proofs.Append.{over_sets}
 use Rattle.basics.proofs.Compare.{choose}
 use Rattle.basics.proofs.Lists.{each_at, length_each, end_at, end_first, end_next, length_ends}
@@ -23,11 +23,6 @@ ends_starts row n (suc i) h =
     ∙ ap (λ (k : ℕ). k + length (get_or (each 0 n row) i [])) (ends_starts row n i (omega arith))
     ∙ ap (λ (l : List ℕ). row_start row i + length l) (each_at n row [] i (omega arith))
     ∙ sym (start_next row i)
-
--- where there is no row
-pub none_written : (row : ℕ → List ℕ) (n : ℕ) (rows offsets : List ℕ) → n ≡ 0
-    → (rows ≡ sets rows 0 (joined (each 0 n row))) × (set offsets 0 0 ≡ sets offsets 0 (ends_from 0 (each 0 n row)))
-none_written row n rows offsets e = rw e (refl, refl)
 
 module _ (row : ℕ → List ℕ) (n : ℕ) (offsets xs rows rows' now : List ℕ) (room : n < length offsets)
     (starts : CursorsAt (row_start row) n (set offsets 0 0) xs) (w : WroteEach row 0 n rows xs rows' now) where

@@ -1,30 +1,20 @@
 -- Row starts: cursors that are set one by one, lengths that are added up at them, and the starts that come of these. Assumes nothing.
 use Prim.Native.Nat.{ℕ, zero, suc, ◌+◌, ◌-◌, ◌<◌, ◌≤◌, ◌^◌}
 use mathlib.Core.Path.{◌≡◌, refl, sym, ap, ◌∙◌}
-use mathlib.Core.Bool.{false}
 use mathlib.Core.List.{List, [], ◌∷◌, ◌++◌}
 use mathlib.Core.Logic.{◌⊎◌, inl, inr}
 use native.Mathlib.Numerals.{add-one}
 use native.Mathlib.Omega.{arith}
 use lib.ListN.{length, get_or, set, length-set, length-append}
 use lib.Seq.{get_or-set_same, get_or-set_other}
-use Rattle.format.specs.declared.Kind.TheVariants.{Variable}
 use Rattle.format.specs.declared.Column.{Column}
-use Rattle.format.specs.Kinds.{value_bytes}
 use Rattle.format.specs.Lists.{each, joined, sum}
-use Rattle.format.specs.Passed.{Passes}
-use Rattle.format.specs.Sheet.{column_fault, ended, layout, slot_at}
-use Rattle.sheet_lengths.specs.Measures.{variable_length}
-use Rattle.sheet_lengths.proofs.Arms.{field_arm}
 use Rattle.basics.proofs.Compare.{choose}
 use Rattle.basics.proofs.Lists.{each_same}
 use Rattle.chunk_writer.specs.Cursors.{cursor}
-use Rattle.row_writer.specs.Starts.{Stays, CursorsAt, Fits, GrownFits, Longer, grown, slot_length, so_far, start_of, row_start}
+use Rattle.row_writer.specs.Starts.{Stays, CursorsAt, Fits, Longer, slot_length, so_far, start_of, row_start}
 
 -- ---- cursors set one by one
-
-pub cursors_none : (f : ℕ → ℕ) (xs : List ℕ) → CursorsAt f 0 xs xs
-cursors_none f xs = record { stays = record { same = refl; first = refl; after = λ i h. refl }; says = λ r h. absurd (omega arith) }
 
 module _ {f : ℕ → ℕ} {r : ℕ} {xs now : List ℕ} (t : CursorsAt f r xs now) where
   -- the next is as it was
@@ -48,9 +38,6 @@ module _ {f : ℕ → ℕ} {r : ℕ} {xs now : List ℕ} (t : CursorsAt f r xs n
       };
       says = λ j h. says_at j (choose j r) h;
     }
-
-  pub cursors_end : (n : ℕ) → r ≡ n → CursorsAt f n xs now
-  cursors_end n e = rw (← e) t
 
 pub stays_on : {n : ℕ} {xs ys zs : List ℕ} → Stays n xs ys → Stays n ys zs → Stays n xs zs
 stays_on s t = record { same = t.same ∙ s.same; first = t.first ∙ s.first; after = λ i h. t.after i h ∙ s.after i h }
@@ -108,40 +95,10 @@ pub starts_are : (row : ℕ → List ℕ) (fixed n : ℕ) (xs : List ℕ) → ((
     → start_of fixed xs r ≡ row_start row r
 starts_are row fixed n xs h r l = ap sum (each_same 0 r (so_far fixed xs) (λ i. length (row i)) (λ j a b. h j (omega arith))) ∙ sym (joined_sum row 0 r)
 
--- ---- the lengths of the fields of a column
-module _ (col : Column) (n : ℕ) (s : List ℕ) (fixed : ℕ) (xs : List ℕ) where
-  -- variable bytes: each is added to its row's cursor
-  module _ (e : col.kind ≡ Variable) where
-    pub variable_asked : Passes (λ c. column_fault false (layout col) n c s) → Passes (λ c. column_fault false ended n c s)
-    variable_asked p = rw e at p
-
-    variable_same : (r : ℕ) → variable_length n s r ≡ slot_length col n s r
-    variable_same r = rw e
-
-    pub variable_fits : Fits col n s fixed xs → GrownFits n s xs
-    variable_fits h r l = omega (arith, h r l, variable_same r)
-
-    pub variable_longer : {ys : List ℕ} → CursorsAt (grown n s xs) n xs ys → Longer col n s fixed xs fixed ys
-    variable_longer t = record { stays = t.stays; says = λ r l. omega (arith, t.says r l, variable_same r) }
-
-  -- fixed values: of one length in every row
-  module _ (k : (col.kind ≡ Variable → ⊥)) (w : ℕ) (e : w ≡ value_bytes col.kind) where
-    fixed_same : (r : ℕ) → slot_length col n s r ≡ 1 + w
-    fixed_same r = field_arm col.kind k (slot_at (layout col) n s r) ∙ ap (λ (v : ℕ). 1 + v) (sym e)
-
-    pub fixed_fits : 0 < n → Fits col n s fixed xs → fixed + (1 + w) < 2 ^ 64
-    fixed_fits l h = omega (arith, h 0 l, fixed_same 0)
-
-    pub fixed_longer : Longer col n s fixed xs (fixed + (1 + w)) xs
-    fixed_longer = record { stays = record { same = refl; first = refl; after = λ i h. refl }; says = λ r l. omega (arith, fixed_same r) }
-
 -- ---- the lengths of c fields of each row, at the cursors
 pub record Lengths (F : ℕ → ℕ → List ℕ) (n : ℕ) (xs now : List ℕ) (fixed c : ℕ) : Type 0 where
   pub stays : Stays n xs now
   pub says : (r : ℕ) → r < n → so_far fixed now r ≡ length (joined (each 0 c (F r)))
-
-pub lengths_start : (F : ℕ → ℕ → List ℕ) {n : ℕ} {entry xs : List ℕ} → CursorsAt (λ r. 0) n entry xs → Lengths F n xs xs 0 0
-lengths_start F t = record { stays = record { same = refl; first = refl; after = λ i h. refl }; says = λ r h. omega (arith, t.says r h) }
 
 module _ {F : ℕ → ℕ → List ℕ} {n : ℕ} {xs now : List ℕ} {fixed c : ℕ} (t : Lengths F n xs now fixed c) where
   module _ (col : Column) (s : List ℕ) (same : (r : ℕ) → r < n → length (F r c) ≡ slot_length col n s r) where

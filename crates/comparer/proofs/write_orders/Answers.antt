@@ -73,10 +73,10 @@ loop-k-preserved c =
     let n = c.pair_count-pairs.result in
     let R = facts_rank A.n A.sheet.now A.facts A.m A.other.now A.known A.schema.count (pair_rows A.numbers.now A.bytes.now) in
     let found : c.loop-c.found ≡ R k =
-        deciding_end (column_order A.n A.sheet.now A.facts c.row_at-i.result A.m A.other.now A.known c.row_at-j.result) A.schema.count
-        c.loop-c.c c.loop-c.invariant c.loop-c-test.false
-        ∙ ap₂ (λ (i j : ℕ). rank (first_of (each 0 A.schema.count (column_order A.n A.sheet.now A.facts i A.m A.other.now A.known j))))
-        c.row_at-i.ensures c.row_at-j.ensures in
+    deciding_end (column_order A.n A.sheet.now A.facts c.row_at-i.result A.m A.other.now A.known c.row_at-j.result) A.schema.count
+    c.loop-c.c c.loop-c.invariant c.loop-c-test.false
+    ∙ ap₂ (λ (i j : ℕ). rank (first_of (each 0 A.schema.count (column_order A.n A.sheet.now A.facts i A.m A.other.now A.known j))))
+    c.row_at-i.ensures c.row_at-j.ensures in
     let rest : each k (n - k) R ≡ (c.loop-c.found ∷ []) ++ each (k + 1) (n - (k + 1)) R = each_step R n k c.loop-k-test.true ∙ rw (found, add-one k) in
     (omega arith, walk_piece 1 (c.loop-c.found ∷ []) _ c.loop-k.invariant.1 rest refl)
 
@@ -88,6 +88,6 @@ returns c =
     let rows = pair_rows A.numbers.now A.bytes.now in
     let R = facts_rank A.n A.sheet.now A.facts A.m A.other.now A.known in
     let all : pair_ranks (cols_of A.schema) A.n A.sheet.now A.m A.other.now rows ≡ each 0 n (R A.schema.count rows) =
-        rows_known A.n A.sheet.now A.facts A.m A.other.now A.known (cols_of A.schema) rows c.requires.known c.requires.known_2 c.requires.in_sheets
-        ∙ ap₂ (λ (k n : ℕ). each 0 k (R n rows)) (sym c.pair_count-pairs.ensures) (in_use A.schema c.well_formed.0 c.requires.count_le_max_columns) in
+    rows_known A.n A.sheet.now A.facts A.m A.other.now A.known (cols_of A.schema) rows c.requires.known c.requires.known_2 c.requires.in_sheets
+    ∙ ap₂ (λ (k n : ℕ). each 0 k (R n rows)) (sym c.pair_count-pairs.ensures) (in_use A.schema c.well_formed.0 c.requires.count_le_max_columns) in
     (walk_end c.loop-k.invariant.1 (each_none (R A.schema.count rows) n c.loop-k.k c.loop-k-test.false)).1 ∙ ap (sets A.answers.now 0) (sym all)

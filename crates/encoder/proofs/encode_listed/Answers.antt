@@ -1,6 +1,6 @@
--- `encoder::encode_listed` meets its contract: the batch is refused, or 12, 13 and 14 decide what is answered and written. The ways
--- out stand first, then what the calls ask. Assumes nothing.
-use Rattle.encoder.proofs.Encoding.{in_order, ready, bad_batch, asked}
+-- `encoder::encode_listed` meets its contract: the batch is refused, or 12, 13 and 14 decide what is answered and written.
+-- Assumes nothing.
+use Rattle.encoder.proofs.Encoding.{in_order, bad_batch, asked}
 use Rattle.encoder.proofs.encode_listed.Goals as goal
 
 pub returns-in-Refuse : goal.returns-in-Refuse
@@ -12,11 +12,3 @@ returns c =
     rw c.answer.ensures
     (asked list _ _ _ _ _ (c.measure_batch-m.ensures list l) c.in_default.is _
     (in_order _ _ _ _ _ c.total_fault-many.ensures c.room_fault-room.ensures c.both-fault.ensures) _ _ c.write_passed.ensures)
-
-pub room_fault-room-requires : goal.room_fault-room-requires
-room_fault-room-requires c = ((c.measure_batch-m.ensures c.requires.list c.requires.says).found c.in_default.is).few
-
-pub write_passed-requires : goal.write_passed-requires
-write_passed-requires c =
-    ready _ _ _ _ ((c.measure_batch-m.ensures c.requires.list c.requires.says).found c.in_default.is) _ _ _
-    (in_order _ _ _ _ _ c.total_fault-many.ensures c.room_fault-room.ensures c.both-fault.ensures)

@@ -13,13 +13,12 @@ put64-requires c =
     omega (arith, c.loop-i.invariant.0.wrote.same)
 
 pub loop-i-preserved : goal.loop-i-preserved
-loop-i-preserved c =
-    (
-      rw c.put64.ensures
-          (copy_word c.loop-i.invariant.0 8 c.low64-word.result c.directed64.result (omega arith) c.requires.count_in_bounds
-          (λ i. (c.shared_slice_known-1.given i).fits) c.low64-word.ensures c.directed64.ensures),
-      omega arith,
-    )
+loop-i-preserved c = (
+  rw c.put64.ensures
+      (copy_word c.loop-i.invariant.0 8 c.low64-word.result c.directed64.result (omega arith) c.requires.count_in_bounds
+      (λ i. (c.shared_slice_known-1.given i).fits) c.low64-word.ensures c.directed64.ensures),
+  omega arith,
+)
 
 pub shape_of-out : goal.shape_of-out
 shape_of-out c = c.loop-i.invariant.0.wrote.same

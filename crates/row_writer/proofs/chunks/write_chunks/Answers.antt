@@ -39,10 +39,10 @@ write_column-requires-clause-roomy c =
     let chunk = c.chunk_end-to.ensures in
     rw (part_rest s f.base) (λ r a b.
     let long =
-        field_long A.n k r f.base f.column s (c.requires.all_stand k c.loop-c-test.true) (bytes_of s (λ i. (c.type_inv.sheet i).fits)) (omega (arith, chunk.1)) in
+    field_long A.n k r f.base f.column s (c.requires.all_stand k c.loop-c-test.true) (bytes_of s (λ i. (c.type_inv.sheet i).fits)) (omega (arith, chunk.1)) in
     let room =
-        chunk_room c.loop-c.invariant c.loop-c-test.true (length c.loop-from.rows)
-        (λ r a b. row_room c.loop-from.invariant c.requires.at_starts c.requires.count_in_bounds r a (omega (arith, chunk.1))) r a b in
+    chunk_room c.loop-c.invariant c.loop-c-test.true (length c.loop-from.rows)
+    (λ r a b. row_room c.loop-from.invariant c.requires.at_starts c.requires.count_in_bounds r a (omega (arith, chunk.1))) r a b in
     omega (arith, long, room, c.loop-c.invariant.same))
 
 pub loop-c-preserved : goal.loop-c-preserved

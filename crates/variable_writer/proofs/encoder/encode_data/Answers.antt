@@ -40,11 +40,10 @@ pub overflow_add-place-in-loop-k : goal.overflow_add-place-in-loop-k
 overflow_add-place-in-loop-k c = omega (arith, (let the_full : c.loop-k.place + 8 < length c.loop-k.out = more_room c.loop-k.invariant.1 8 ((let the_eight : block_size c.loop-k.k ≡ 8 = small _ c.loop-k-test.true in the_eight)) block_size_room c.if-len-i-le-MINI_BLOCK_SIZE.false c.requires.val_in_bounds in the_full))
 
 pub loop-k-preserved : goal.loop-k-preserved
-loop-k-preserved c =
-    (
-      omega arith,
-      spread_more c.loop-k.invariant.1 8 ((let the_eight : block_size c.loop-k.k ≡ 8 = small _ c.loop-k-test.true in the_eight)) block_size_room c.if-len-i-le-MINI_BLOCK_SIZE.false _ c.encode_full.ensures,
-    )
+loop-k-preserved c = (
+  omega arith,
+  spread_more c.loop-k.invariant.1 8 ((let the_eight : block_size c.loop-k.k ≡ 8 = small _ c.loop-k-test.true in the_eight)) block_size_room c.if-len-i-le-MINI_BLOCK_SIZE.false _ c.encode_full.ensures,
+)
 
 pub encode_blocks-requires : goal.encode_blocks-requires
 encode_blocks-requires c =

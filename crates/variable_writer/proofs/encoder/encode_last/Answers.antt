@@ -22,7 +22,7 @@ loop-i-preserved c =
     let A = c.args in (
       rw c.put64-in-loop-i.ensures
           (fill_word c.loop-i.invariant.0 8 word.result c.directed64-in-loop-i.result (omega arith) ((let the_data_bytes : Bytes (drop c.args.from c.args.val.now) = let A = c.args in
-    bytes_drop A.from A.val.now (bytes_of A.val.now (λ i. (c.shared_slice_known-1.given i).fits)) in the_data_bytes))
+          bytes_drop A.from A.val.now (bytes_of A.val.now (λ i. (c.shared_slice_known-1.given i).fits)) in the_data_bytes))
           (word.ensures ∙ ap (λ (z : List ℕ). low (take 8 z)) (sym (drop-drop c.loop-i.i A.from A.val.now))) c.directed64-in-loop-i.ensures),
       omega arith,
     )

@@ -6,7 +6,7 @@ use Rattle.variable_writer.proofs.Whole.{lead_room, one_empty, data_room, one_da
 use Rattle.variable_writer.proofs.encoder.encode_one.Goals as goal
 
 pub put_byte-requires : goal.put_byte-requires
-put_byte-requires c = 
+put_byte-requires c =
     (let the_lead : c.args.at < length c.args.out.now = let A = c.args in
     lead_room (drop A.from A.val.now) A.out.now A.at A.options.descending c.requires.val_in_bounds in the_lead)
 
@@ -17,7 +17,7 @@ returns-then-from-val c =
     (omega (arith, c.if-from-val.true, length-drop A.from A.val.now)) c.put_byte.ensures
 
 pub put_byte-requires-2 : goal.put_byte-requires-2
-put_byte-requires-2 c = 
+put_byte-requires-2 c =
     (let the_lead : c.args.at < length c.args.out.now = let A = c.args in
     lead_room (drop A.from A.val.now) A.out.now A.at A.options.descending c.requires.val_in_bounds in the_lead)
 
