@@ -33,13 +33,13 @@ end_at-requires-then-bit c =
     part_rest a.part.now c.packed-valid.result ∙ ap (λ (k : ℕ). drop k a.part.now) c.packed-valid.ensures.0 in the_rest)) (omega (arith, ends_room c.args.n c.args.part.now c.requires.passes, c.requires.n_le_max_rows))
 
 pub overflow_sub-end_at : goal.overflow_sub-end_at
-overflow_sub-end_at c = 
+overflow_sub-end_at c =
     ((let the_distance : (c.end_at-then-bit.result ≤ c.end_at.result) × (c.end_at.result - c.end_at-then-bit.result ≤ max_slot) = apart c.args.n c.args.part.now c.requires.passes _ c.requires.n_le_max_rows.1 _ _ ((let the_from : c.end_at-then-bit.result ≡ end ((drop (packed c.args.n) c.args.part.now)) c.args.row = c.end_at-then-bit.ensures.0 ∙ ap (λ (s : List ℕ). end s c.args.row) ((let the_rest : take (length c.args.part.now - c.packed-valid.result) (drop c.packed-valid.result c.args.part.now) ≡ (drop (packed c.args.n) c.args.part.now) = let a = c.args in
     part_rest a.part.now c.packed-valid.result ∙ ap (λ (k : ℕ). drop k a.part.now) c.packed-valid.ensures.0 in the_rest)) in the_from)) ((let the_to : c.end_at.result ≡ end ((drop (packed c.args.n) c.args.part.now)) (c.args.row + 1) = c.end_at.ensures.0 ∙ ap (λ (s : List ℕ). end s (c.args.row + 1)) ((let the_rest : take (length c.args.part.now - c.packed-valid.result) (drop c.packed-valid.result c.args.part.now) ≡ (drop (packed c.args.n) c.args.part.now) = let a = c.args in
     part_rest a.part.now c.packed-valid.result ∙ ap (λ (k : ℕ). drop k a.part.now) c.packed-valid.ensures.0 in the_rest)) in the_to)) in the_distance)).0
 
 pub padded_length-requires : goal.padded_length-requires
-padded_length-requires c = 
+padded_length-requires c =
     ((let the_distance : (c.end_at-then-bit.result ≤ c.end_at.result) × (c.end_at.result - c.end_at-then-bit.result ≤ max_slot) = apart c.args.n c.args.part.now c.requires.passes _ c.requires.n_le_max_rows.1 _ _ ((let the_from : c.end_at-then-bit.result ≡ end ((drop (packed c.args.n) c.args.part.now)) c.args.row = c.end_at-then-bit.ensures.0 ∙ ap (λ (s : List ℕ). end s c.args.row) ((let the_rest : take (length c.args.part.now - c.packed-valid.result) (drop c.packed-valid.result c.args.part.now) ≡ (drop (packed c.args.n) c.args.part.now) = let a = c.args in
     part_rest a.part.now c.packed-valid.result ∙ ap (λ (k : ℕ). drop k a.part.now) c.packed-valid.ensures.0 in the_rest)) in the_from)) ((let the_to : c.end_at.result ≡ end ((drop (packed c.args.n) c.args.part.now)) (c.args.row + 1) = c.end_at.ensures.0 ∙ ap (λ (s : List ℕ). end s (c.args.row + 1)) ((let the_rest : take (length c.args.part.now - c.packed-valid.result) (drop c.packed-valid.result c.args.part.now) ≡ (drop (packed c.args.n) c.args.part.now) = let a = c.args in
     part_rest a.part.now c.packed-valid.result ∙ ap (λ (k : ℕ). drop k a.part.now) c.packed-valid.ensures.0 in the_rest)) in the_to)) in the_distance)).1

@@ -95,12 +95,12 @@ loop-c-preserved c =
     let bytes = part A.rows.now (λ i. (c.type_inv.rows i).fits) _ _ in (
       l.invariant.0,
       elim c.match-read.branch [
-        in-Null w ↦
-          past_null A.schema c.well_formed.0 c.requires.limited l.invariant.1 c.loop-c-test.true (says_rest _ _ l.at _ bytes w.in-Null.ensures)
-          w.bytes-is w.at-is
-      | in-Value w ↦
-          past_value A.schema c.well_formed.0 c.requires.limited l.invariant.1 c.loop-c-test.true (says_rest _ _ l.at _ bytes w.in-Value.ensures)
-          w.added_bytes-bytes.ensures w.bytes-is w.at-is
+        | in-Null w ↦
+            past_null A.schema c.well_formed.0 c.requires.limited l.invariant.1 c.loop-c-test.true (says_rest _ _ l.at _ bytes w.in-Null.ensures)
+            w.bytes-is w.at-is
+        | in-Value w ↦
+            past_value A.schema c.well_formed.0 c.requires.limited l.invariant.1 c.loop-c-test.true (says_rest _ _ l.at _ bytes w.in-Value.ensures)
+            w.added_bytes-bytes.ensures w.bytes-is w.at-is
       ],
     )
 

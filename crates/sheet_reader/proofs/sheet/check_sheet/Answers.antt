@@ -81,8 +81,12 @@ pub overflow_add-next : goal.overflow_add-next
 overflow_add-next c =
     let col = get_or c.args.schema.columns c.loop-c.c no_column in
     let s = c.args.sheet.now in
-    omega (arith, wide _ c.loop-c.at _ col s c.column_bytes.ensures, room _ _ c.loop-c.at col s _ c.check_column-check.ensures c.in_default.is,
-    length-drop c.loop-c.at s)
+    omega (
+      arith,
+      wide _ c.loop-c.at _ col s c.column_bytes.ensures,
+      room _ _ c.loop-c.at col s _ c.check_column-check.ensures c.in_default.is,
+      length-drop c.loop-c.at s,
+    )
 
 pub null_rows-nulls-requires : goal.null_rows-nulls-requires
 null_rows-nulls-requires c =

@@ -50,9 +50,14 @@ count_ones-requires c =
     rw there ((let the_short : length ((flags_at Valid ((get_or c.args.schema.columns c.loop-c.c no_column)) (c.args.rows.now) (c.loop-c.cursors))) ≤ packedFor max_rows = omega (arith, flags_long ((get_or c.args.schema.columns c.loop-c.c no_column)) (c.args.rows.now) (c.loop-c.cursors) Valid, (let the_few : length (c.loop-c.cursors) ≤ max_rows = omega (arith, (c.loop-c.invariant).many, c.requires.few) in the_few)) in the_short))
 
 pub overflow_sub-nulls : goal.overflow_sub-nulls
-overflow_sub-nulls c = 
-    (let the_some : c.count_ones.result ≤ length c.args.cursors.now = omega (arith, (let the_ones_are : c.count_ones.result ≡ ones_in ((flags_at Valid ((get_or c.args.schema.columns c.loop-c.c no_column)) (c.args.rows.now) (c.loop-c.cursors))) = let there = wrote_there {a = (flags_at Valid ((get_or c.args.schema.columns c.loop-c.c no_column)) (c.args.rows.now) (c.loop-c.cursors))} c.pack-values.ensures ((let the_validity_room : c.loop-c.at + length ((flags_at Valid ((get_or c.args.schema.columns c.loop-c.c no_column)) (c.args.rows.now) (c.loop-c.cursors))) ≤ length (c.loop-c.sheet) = room_first ((flags_at Valid ((get_or c.args.schema.columns c.loop-c.c no_column)) (c.args.rows.now) (c.loop-c.cursors))) (values_at ((get_or c.args.schema.columns c.loop-c.c no_column)) (c.args.rows.now) (c.loop-c.cursors)) c.loop-c.at (c.loop-c.sheet) ((let the_room : c.loop-c.at + length (column_to_come ((get_or c.args.schema.columns c.loop-c.c no_column)) (c.args.rows.now) (c.loop-c.cursors)) ≤ length (c.loop-c.sheet) = stand_room (c.loop-c.invariant) ((let the_row_bytes : Bytes (c.args.rows.now) = bytes_of (c.args.rows.now) (λ i. (c.shared_slice_known-1.given i).fits) in the_row_bytes)) ((get_or c.args.schema.columns c.loop-c.c no_column)) ((let the_next : drop c.loop-c.c ((cols_of c.args.schema)) ≡ ((get_or c.args.schema.columns c.loop-c.c no_column)) ∷ drop (suc c.loop-c.c) ((cols_of c.args.schema)) = next_in_use c.args.schema ((let the_held : Held c.args.schema = c.well_formed.0 in the_held)) c.requires.limited.few c.loop-c.c c.loop-c-test.true in the_next)) c.requires.room in the_room)) in the_validity_room)) in
-    c.count_ones.ensures.value ∙ ap ones_in there in the_ones_are), validity_nulls ((get_or c.args.schema.columns c.loop-c.c no_column)) (c.args.rows.now) (c.loop-c.cursors), (c.loop-c.invariant).many) in the_some)
+overflow_sub-nulls c =
+    (let the_some : c.count_ones.result ≤ length c.args.cursors.now = omega (
+      arith,
+      (let the_ones_are : c.count_ones.result ≡ ones_in ((flags_at Valid ((get_or c.args.schema.columns c.loop-c.c no_column)) (c.args.rows.now) (c.loop-c.cursors))) = let there = wrote_there {a = (flags_at Valid ((get_or c.args.schema.columns c.loop-c.c no_column)) (c.args.rows.now) (c.loop-c.cursors))} c.pack-values.ensures ((let the_validity_room : c.loop-c.at + length ((flags_at Valid ((get_or c.args.schema.columns c.loop-c.c no_column)) (c.args.rows.now) (c.loop-c.cursors))) ≤ length (c.loop-c.sheet) = room_first ((flags_at Valid ((get_or c.args.schema.columns c.loop-c.c no_column)) (c.args.rows.now) (c.loop-c.cursors))) (values_at ((get_or c.args.schema.columns c.loop-c.c no_column)) (c.args.rows.now) (c.loop-c.cursors)) c.loop-c.at (c.loop-c.sheet) ((let the_room : c.loop-c.at + length (column_to_come ((get_or c.args.schema.columns c.loop-c.c no_column)) (c.args.rows.now) (c.loop-c.cursors)) ≤ length (c.loop-c.sheet) = stand_room (c.loop-c.invariant) ((let the_row_bytes : Bytes (c.args.rows.now) = bytes_of (c.args.rows.now) (λ i. (c.shared_slice_known-1.given i).fits) in the_row_bytes)) ((get_or c.args.schema.columns c.loop-c.c no_column)) ((let the_next : drop c.loop-c.c ((cols_of c.args.schema)) ≡ ((get_or c.args.schema.columns c.loop-c.c no_column)) ∷ drop (suc c.loop-c.c) ((cols_of c.args.schema)) = next_in_use c.args.schema ((let the_held : Held c.args.schema = c.well_formed.0 in the_held)) c.requires.limited.few c.loop-c.c c.loop-c-test.true in the_next)) c.requires.room in the_room)) in the_validity_room)) in
+          c.count_ones.ensures.value ∙ ap ones_in there in the_ones_are),
+      validity_nulls ((get_or c.args.schema.columns c.loop-c.c no_column)) (c.args.rows.now) (c.loop-c.cursors),
+      (c.loop-c.invariant).many,
+    ) in the_some)
 
 pub overflow_add-nulls : goal.overflow_add-nulls
 overflow_add-nulls c =

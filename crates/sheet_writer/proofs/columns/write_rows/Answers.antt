@@ -39,12 +39,18 @@ write_columns-requires c =
       limited = c.requires.decodable.limited;
       few = subst (λ (m : ℕ). m ≤ max_rows) (sym ((let the_count : length (take (c.args.n) ((c.start.new.1.0) ++ ((drop (c.args.n) (c.args.cursors.now))))) ≡ c.args.n = ap length ((let the_front : take (c.args.n) ((c.start.new.1.0) ++ ((drop (c.args.n) (c.args.cursors.now)))) ≡ take (c.args.n) (c.args.offsets.now) = front_is (c.args.n) (c.args.cursors.now) (c.start.new.1.0) (c.args.offsets.now) c.requires.n_in_bounds ((let the_there : c.args.n ≤ length (c.args.offsets.now) = let k = offsets_passed (c.args.n) (c.args.rows.now) (c.args.offsets.now) (c.requires.decodable).cuts in omega (arith, k.there) in the_there)) c.start.ensures in the_front)) ∙ length-take-le (c.args.n) (c.args.offsets.now) ((let the_there : c.args.n ≤ length (c.args.offsets.now) = let k = offsets_passed (c.args.n) (c.args.rows.now) (c.args.offsets.now) (c.requires.decodable).cuts in omega (arith, k.there) in the_there)) in the_count))) c.requires.decodable.few;
       fields = (let the_fields : AllFields ((cols_of c.args.schema)) (c.args.rows.now) (take (c.args.n) ((c.start.new.1.0) ++ ((drop (c.args.n) (c.args.cursors.now))))) = subst (AllFields ((cols_of c.args.schema)) (c.args.rows.now)) (sym ((let the_front : take (c.args.n) ((c.start.new.1.0) ++ ((drop (c.args.n) (c.args.cursors.now)))) ≡ take (c.args.n) (c.args.offsets.now) = front_is (c.args.n) (c.args.cursors.now) (c.start.new.1.0) (c.args.offsets.now) c.requires.n_in_bounds ((let the_there : c.args.n ≤ length (c.args.offsets.now) = let k = offsets_passed (c.args.n) (c.args.rows.now) (c.args.offsets.now) (c.requires.decodable).cuts in omega (arith, k.there) in the_there)) c.start.ensures in the_front)))
-    (start_fields ((cols_of c.args.schema)) (c.args.rows.now) (c.args.offsets.now) ((let the_row_bytes : Bytes (c.args.rows.now) = bytes_of (c.args.rows.now) (λ i. (c.shared_slice_known-1.given i).fits) in the_row_bytes)) (c.args.n) ((let the_there : c.args.n ≤ length (c.args.offsets.now) = let k = offsets_passed (c.args.n) (c.args.rows.now) (c.args.offsets.now) (c.requires.decodable).cuts in omega (arith, k.there) in the_there)) (c.requires.decodable).passes) in the_fields);
-      room = rw ((let the_count : length (take (c.args.n) ((c.start.new.1.0) ++ ((drop (c.args.n) (c.args.cursors.now))))) ≡ c.args.n = ap length ((let the_front : take (c.args.n) ((c.start.new.1.0) ++ ((drop (c.args.n) (c.args.cursors.now)))) ≡ take (c.args.n) (c.args.offsets.now) = front_is (c.args.n) (c.args.cursors.now) (c.start.new.1.0) (c.args.offsets.now) c.requires.n_in_bounds ((let the_there : c.args.n ≤ length (c.args.offsets.now) = let k = offsets_passed (c.args.n) (c.args.rows.now) (c.args.offsets.now) (c.requires.decodable).cuts in omega (arith, k.there) in the_there)) c.start.ensures in the_front)) ∙ length-take-le (c.args.n) (c.args.offsets.now) ((let the_there : c.args.n ≤ length (c.args.offsets.now) = let k = offsets_passed (c.args.n) (c.args.rows.now) (c.args.offsets.now) (c.requires.decodable).cuts in omega (arith, k.there) in the_there)) in the_count), (let the_slots : slots_to_come ((cols_of c.args.schema)) (c.args.rows.now) (take (c.args.n) ((c.start.new.1.0) ++ ((drop (c.args.n) (c.args.cursors.now))))) ≡ rows_slots ((cols_of c.args.schema)) (cut_rows (c.args.n) (c.args.rows.now) (c.args.offsets.now)) = ap (slots_to_come ((cols_of c.args.schema)) (c.args.rows.now)) ((let the_front : take (c.args.n) ((c.start.new.1.0) ++ ((drop (c.args.n) (c.args.cursors.now)))) ≡ take (c.args.n) (c.args.offsets.now) = front_is (c.args.n) (c.args.cursors.now) (c.start.new.1.0) (c.args.offsets.now) c.requires.n_in_bounds ((let the_there : c.args.n ≤ length (c.args.offsets.now) = let k = offsets_passed (c.args.n) (c.args.rows.now) (c.args.offsets.now) (c.requires.decodable).cuts in omega (arith, k.there) in the_there)) c.start.ensures in the_front))
-    ∙ start_slots ((cols_of c.args.schema)) (c.args.rows.now) (c.args.offsets.now) ((let the_row_bytes : Bytes (c.args.rows.now) = bytes_of (c.args.rows.now) (λ i. (c.shared_slice_known-1.given i).fits) in the_row_bytes)) (c.args.n) ((let the_there : c.args.n ≤ length (c.args.offsets.now) = let k = offsets_passed (c.args.n) (c.args.rows.now) (c.args.offsets.now) (c.requires.decodable).cuts in omega (arith, k.there) in the_there)) (c.requires.decodable).passes in the_slots)) c.requires.decodable.room;
+          (start_fields ((cols_of c.args.schema)) (c.args.rows.now) (c.args.offsets.now) ((let the_row_bytes : Bytes (c.args.rows.now) = bytes_of (c.args.rows.now) (λ i. (c.shared_slice_known-1.given i).fits) in the_row_bytes)) (c.args.n) ((let the_there : c.args.n ≤ length (c.args.offsets.now) = let k = offsets_passed (c.args.n) (c.args.rows.now) (c.args.offsets.now) (c.requires.decodable).cuts in omega (arith, k.there) in the_there)) (c.requires.decodable).passes) in the_fields);
+      room = rw (
+        (let the_count : length (take (c.args.n) ((c.start.new.1.0) ++ ((drop (c.args.n) (c.args.cursors.now))))) ≡ c.args.n = ap length ((let the_front : take (c.args.n) ((c.start.new.1.0) ++ ((drop (c.args.n) (c.args.cursors.now)))) ≡ take (c.args.n) (c.args.offsets.now) = front_is (c.args.n) (c.args.cursors.now) (c.start.new.1.0) (c.args.offsets.now) c.requires.n_in_bounds ((let the_there : c.args.n ≤ length (c.args.offsets.now) = let k = offsets_passed (c.args.n) (c.args.rows.now) (c.args.offsets.now) (c.requires.decodable).cuts in omega (arith, k.there) in the_there)) c.start.ensures in the_front)) ∙ length-take-le (c.args.n) (c.args.offsets.now) ((let the_there : c.args.n ≤ length (c.args.offsets.now) = let k = offsets_passed (c.args.n) (c.args.rows.now) (c.args.offsets.now) (c.requires.decodable).cuts in omega (arith, k.there) in the_there)) in the_count),
+        (let the_slots : slots_to_come ((cols_of c.args.schema)) (c.args.rows.now) (take (c.args.n) ((c.start.new.1.0) ++ ((drop (c.args.n) (c.args.cursors.now))))) ≡ rows_slots ((cols_of c.args.schema)) (cut_rows (c.args.n) (c.args.rows.now) (c.args.offsets.now)) = ap (slots_to_come ((cols_of c.args.schema)) (c.args.rows.now)) ((let the_front : take (c.args.n) ((c.start.new.1.0) ++ ((drop (c.args.n) (c.args.cursors.now)))) ≡ take (c.args.n) (c.args.offsets.now) = front_is (c.args.n) (c.args.cursors.now) (c.start.new.1.0) (c.args.offsets.now) c.requires.n_in_bounds ((let the_there : c.args.n ≤ length (c.args.offsets.now) = let k = offsets_passed (c.args.n) (c.args.rows.now) (c.args.offsets.now) (c.requires.decodable).cuts in omega (arith, k.there) in the_there)) c.start.ensures in the_front))
+            ∙ start_slots ((cols_of c.args.schema)) (c.args.rows.now) (c.args.offsets.now) ((let the_row_bytes : Bytes (c.args.rows.now) = bytes_of (c.args.rows.now) (λ i. (c.shared_slice_known-1.given i).fits) in the_row_bytes)) (c.args.n) ((let the_there : c.args.n ≤ length (c.args.offsets.now) = let k = offsets_passed (c.args.n) (c.args.rows.now) (c.args.offsets.now) (c.requires.decodable).cuts in omega (arith, k.there) in the_there)) (c.requires.decodable).passes in the_slots),
+      ) c.requires.decodable.room;
     }
 
 pub returns : goal.returns
 returns c =
-    rw ((let the_count : length (take (c.args.n) ((c.start.new.1.0) ++ ((drop (c.args.n) (c.args.cursors.now))))) ≡ c.args.n = ap length ((let the_front : take (c.args.n) ((c.start.new.1.0) ++ ((drop (c.args.n) (c.args.cursors.now)))) ≡ take (c.args.n) (c.args.offsets.now) = front_is (c.args.n) (c.args.cursors.now) (c.start.new.1.0) (c.args.offsets.now) c.requires.n_in_bounds ((let the_there : c.args.n ≤ length (c.args.offsets.now) = let k = offsets_passed (c.args.n) (c.args.rows.now) (c.args.offsets.now) (c.requires.decodable).cuts in omega (arith, k.there) in the_there)) c.start.ensures in the_front)) ∙ length-take-le (c.args.n) (c.args.offsets.now) ((let the_there : c.args.n ≤ length (c.args.offsets.now) = let k = offsets_passed (c.args.n) (c.args.rows.now) (c.args.offsets.now) (c.requires.decodable).cuts in omega (arith, k.there) in the_there)) in the_count), (let the_slots : slots_to_come ((cols_of c.args.schema)) (c.args.rows.now) (take (c.args.n) ((c.start.new.1.0) ++ ((drop (c.args.n) (c.args.cursors.now))))) ≡ rows_slots ((cols_of c.args.schema)) (cut_rows (c.args.n) (c.args.rows.now) (c.args.offsets.now)) = ap (slots_to_come ((cols_of c.args.schema)) (c.args.rows.now)) ((let the_front : take (c.args.n) ((c.start.new.1.0) ++ ((drop (c.args.n) (c.args.cursors.now)))) ≡ take (c.args.n) (c.args.offsets.now) = front_is (c.args.n) (c.args.cursors.now) (c.start.new.1.0) (c.args.offsets.now) c.requires.n_in_bounds ((let the_there : c.args.n ≤ length (c.args.offsets.now) = let k = offsets_passed (c.args.n) (c.args.rows.now) (c.args.offsets.now) (c.requires.decodable).cuts in omega (arith, k.there) in the_there)) c.start.ensures in the_front))
-    ∙ start_slots ((cols_of c.args.schema)) (c.args.rows.now) (c.args.offsets.now) ((let the_row_bytes : Bytes (c.args.rows.now) = bytes_of (c.args.rows.now) (λ i. (c.shared_slice_known-1.given i).fits) in the_row_bytes)) (c.args.n) ((let the_there : c.args.n ≤ length (c.args.offsets.now) = let k = offsets_passed (c.args.n) (c.args.rows.now) (c.args.offsets.now) (c.requires.decodable).cuts in omega (arith, k.there) in the_there)) (c.requires.decodable).passes in the_slots)) at c.write_columns.ensures
+    rw (
+      (let the_count : length (take (c.args.n) ((c.start.new.1.0) ++ ((drop (c.args.n) (c.args.cursors.now))))) ≡ c.args.n = ap length ((let the_front : take (c.args.n) ((c.start.new.1.0) ++ ((drop (c.args.n) (c.args.cursors.now)))) ≡ take (c.args.n) (c.args.offsets.now) = front_is (c.args.n) (c.args.cursors.now) (c.start.new.1.0) (c.args.offsets.now) c.requires.n_in_bounds ((let the_there : c.args.n ≤ length (c.args.offsets.now) = let k = offsets_passed (c.args.n) (c.args.rows.now) (c.args.offsets.now) (c.requires.decodable).cuts in omega (arith, k.there) in the_there)) c.start.ensures in the_front)) ∙ length-take-le (c.args.n) (c.args.offsets.now) ((let the_there : c.args.n ≤ length (c.args.offsets.now) = let k = offsets_passed (c.args.n) (c.args.rows.now) (c.args.offsets.now) (c.requires.decodable).cuts in omega (arith, k.there) in the_there)) in the_count),
+      (let the_slots : slots_to_come ((cols_of c.args.schema)) (c.args.rows.now) (take (c.args.n) ((c.start.new.1.0) ++ ((drop (c.args.n) (c.args.cursors.now))))) ≡ rows_slots ((cols_of c.args.schema)) (cut_rows (c.args.n) (c.args.rows.now) (c.args.offsets.now)) = ap (slots_to_come ((cols_of c.args.schema)) (c.args.rows.now)) ((let the_front : take (c.args.n) ((c.start.new.1.0) ++ ((drop (c.args.n) (c.args.cursors.now)))) ≡ take (c.args.n) (c.args.offsets.now) = front_is (c.args.n) (c.args.cursors.now) (c.start.new.1.0) (c.args.offsets.now) c.requires.n_in_bounds ((let the_there : c.args.n ≤ length (c.args.offsets.now) = let k = offsets_passed (c.args.n) (c.args.rows.now) (c.args.offsets.now) (c.requires.decodable).cuts in omega (arith, k.there) in the_there)) c.start.ensures in the_front))
+          ∙ start_slots ((cols_of c.args.schema)) (c.args.rows.now) (c.args.offsets.now) ((let the_row_bytes : Bytes (c.args.rows.now) = bytes_of (c.args.rows.now) (λ i. (c.shared_slice_known-1.given i).fits) in the_row_bytes)) (c.args.n) ((let the_there : c.args.n ≤ length (c.args.offsets.now) = let k = offsets_passed (c.args.n) (c.args.rows.now) (c.args.offsets.now) (c.requires.decodable).cuts in omega (arith, k.there) in the_there)) (c.requires.decodable).passes in the_slots),
+    ) at c.write_columns.ensures
