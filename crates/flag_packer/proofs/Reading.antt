@@ -1,16 +1,15 @@
 -- The flags of a field, as they are read. Assumes nothing.
 use Prim.Native.Nat.{ℕ}
-use mathlib.Core.Path.{◌≡◌, sym, ap, ◌∙◌, subst}
+use mathlib.Core.Path.{◌≡◌, sym, ap, ◌∙◌}
 use mathlib.Core.Bool.{Bool, not}
 use mathlib.Core.List.{List}
 use lib.Dec.{eqb}
 use lib.ListN.{get_or}
 use Rattle.format.specs.declared.Column.{Column}
 use Rattle.format.specs.Lists.{Bytes}
-use Rattle.format.specs.Kinds.{bool, Shape, fixed, column_shape}
-use Rattle.format.specs.Cleared.{is_true}
+use Rattle.format.specs.Kinds.{column_shape}
 use Rattle.format.specs.Field.{null_byte}
-use Rattle.format.specs.Read.{Good, slot_read, read_field, read_fixed}
+use Rattle.format.specs.Read.{Good, slot_read, read_field}
 use Rattle.cursors.proofs.Lead.{valid_lead}
 use Rattle.flag_packer.specs.declared.Flag.{Flag}
 use Rattle.flag_packer.specs.declared.Flag.TheVariants.{Valid, True}
@@ -25,16 +24,3 @@ module _ (which : Flag) (col : Column) (s : List ℕ) (g : Good (read_field (col
   valid_flag b e =
       sym (valid_lead (column_shape col) col.options s b g)
       ∙ sym (ap (λ (w : Flag). flag_of w (slot_read (read_field (column_shape col) col.options s))) e)
-
-  module _ (e : which ≡ True) (f : Flagged which col) where
-    shape_is : column_shape col ≡ fixed bool
-    shape_is = subst (λ (w : Flag). Flagged w col) e f
-
-    -- a bool can be read
-    pub bool_good : Good (read_fixed bool col.options s)
-    bool_good = subst (λ (sh : Shape). Good (read_field sh col.options s)) shape_is g
-
-    pub bool_flag : is_true (slot_read (read_fixed bool col.options s)) ≡ flag
-    bool_flag =
-        sym (ap (λ (sh : Shape). is_true (slot_read (read_field sh col.options s))) shape_is)
-        ∙ sym (ap (λ (w : Flag). flag_of w (slot_read (read_field (column_shape col) col.options s))) e)

@@ -1,4 +1,6 @@
 // Flags packed into bytes, least bit first: the validity of a column's slots, and the values of a column of bools.
+#![tactic(auto)]
+
 ghost use Rattle.std.specs.Prelude.{◌≡◌, map, ◌+◌, ◌≤◌, length};
 ghost use Rattle.basics.specs.Wrote.{Wrote};
 ghost use Rattle.format.specs.Kinds.{column_shape};
