@@ -10,7 +10,8 @@ use Rattle.value_mover.proofs.numbers.move_words.Given as goal
 
 abbrev pub invariant-loop-r : goal.invariant-loop-r
 invariant-loop-r l =
-    Moving (word_column l.coding l.width l.options) l.rows (fixed_slot (value_bytes (word_kind l.coding l.width))) l.initial.cursors l.initial.sheet l.at l.cursors l.sheet l.place l.r
+    Moving (word_column l.coding l.width l.options) l.rows (fixed_slot (value_bytes (word_kind l.coding l.width)))
+    l.initial.cursors l.initial.sheet l.at l.cursors l.sheet l.place l.r
 
 abbrev pub decreases-loop-r : goal.decreases-loop-r
 decreases-loop-r l = length l.initial.cursors - l.r

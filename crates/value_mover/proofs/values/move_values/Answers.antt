@@ -1,27 +1,24 @@
-use Prim.Native.Nat.{◌+◌, ◌-◌, ◌<◌, ◌≤◌}
-use mathlib.Core.Path.{◌≡◌, sym, ◌∙◌}
 use native.Mathlib.Omega.{arith}
 use borrow.Author.Rules.{part_to_end}
-use lib.ListN.{length, get_or, drop, length-drop}
-use Rattle.format.specs.Kinds.{column_shape, value_bytes}
-use Rattle.format.specs.Read.{Good}
-use Rattle.basics.proofs.Bytes.{bytes_of, bytes_drop}
+use lib.ListN.{get_or}
 use Rattle.fixed_decoder.proofs.ByteKinds.{wide_bytes}
-use Rattle.cursors.specs.Cursors.{cursor_field, next_at}
-use Rattle.cursors.proofs.Lead.{inside, Whole, whole}
-use Rattle.cursors.proofs.Moving.{move_start, move_readable, move_room, move_more, move_end}
+use Rattle.cursors.proofs.Moving.{move_readable, move_end}
+use Rattle.value_mover.proofs.WordTurns.{turn_there, turn_room, turn_more}
 use Rattle.value_mover.proofs.values.move_values.Goals as goal
 
-pub loop-r-init : goal.loop-r-init
-loop-r-init c = move_start _ _ _ _ _ _
-
--- ---- in a turn: the field at the cursor of row r can be read, the cursor stands within the rows, and there is room for the value
 pub slice_bounds-decode-count : goal.slice_bounds-decode-count
-slice_bounds-decode-count c = omega (arith, (let the_within : ((get_or c.loop-r.cursors c.loop-r.r 0)) < length (c.args.rows.now) = inside (c.args.column) (c.args.rows.now) ((get_or c.loop-r.cursors c.loop-r.r 0)) ((let the_readable : Good (cursor_field (c.args.column) (c.args.rows.now) ((get_or c.loop-r.cursors c.loop-r.r 0))) = move_readable c.loop-r.invariant c.loop-r-test.true c.requires.readable in the_readable)) in the_within))
+slice_bounds-decode-count c =
+    let w = wide_bytes c.args.column.kind c.requires.kind_value in
+    let there = turn_there c.loop-r.invariant c.loop-r-test.true w.k w.says (λ i. (c.type_inv.rows i).fits) c.requires.readable in
+    omega (arith, there)
 
 pub slice_bounds-decode-start : goal.slice_bounds-decode-start
-slice_bounds-decode-start c = omega (arith, (let the_within : ((get_or c.loop-r.cursors c.loop-r.r 0)) < length (c.args.rows.now) = inside (c.args.column) (c.args.rows.now) ((get_or c.loop-r.cursors c.loop-r.r 0)) ((let the_readable : Good (cursor_field (c.args.column) (c.args.rows.now) ((get_or c.loop-r.cursors c.loop-r.r 0))) = move_readable c.loop-r.invariant c.loop-r-test.true c.requires.readable in the_readable)) in the_within))
+slice_bounds-decode-start c =
+    let w = wide_bytes c.args.column.kind c.requires.kind_value in
+    let there = turn_there c.loop-r.invariant c.loop-r-test.true w.k w.says (λ i. (c.type_inv.rows i).fits) c.requires.readable in
+    omega (arith, there)
 
+<<<<<<< HEAD
 pub decode-requires : goal.decode-requires
 decode-requires c =
     record {
@@ -31,12 +28,27 @@ decode-requires c =
           let bytes = bytes_of (c.args.rows.now) (λ i. (c.shared_slice_known-1.given i).fits) in
           whole (column_shape (c.args.column)) kind.k (c.args.column).options (drop ((get_or c.loop-r.cursors c.loop-r.r 0)) (c.args.rows.now)) kind.says (bytes_drop ((get_or c.loop-r.cursors c.loop-r.r 0)) (c.args.rows.now) bytes) ((let the_readable : Good (cursor_field (c.args.column) (c.args.rows.now) ((get_or c.loop-r.cursors c.loop-r.r 0))) = move_readable c.loop-r.invariant c.loop-r-test.true c.requires.readable in the_readable)) in the_all_there)).slot_is at (move_room c.loop-r.invariant c.loop-r-test.true c.requires.cursors_in_bounds) in the_room;
     }
+=======
+pub decode-requires-clause-good : goal.decode-requires-clause-good
+decode-requires-clause-good c =
+    rw (part_to_end c.args.rows.now (get_or c.loop-r.cursors c.loop-r.r 0))
+    (move_readable c.loop-r.invariant c.loop-r-test.true c.requires.readable)
+
+pub decode-requires-clause-kind_in_bounds : goal.decode-requires-clause-kind_in_bounds
+decode-requires-clause-kind_in_bounds c =
+    let w = wide_bytes c.args.column.kind c.requires.kind_value in
+    turn_room c.loop-r.invariant c.loop-r-test.true w.k w.says (λ i. (c.type_inv.rows i).fits) c.requires.readable c.requires.cursors_in_bounds
+>>>>>>> 46644869e0dcddd7361352af0beb36373063e240
 
 pub overflow_add-cursors : goal.overflow_add-cursors
-overflow_add-cursors c = omega (arith, (let the_within : ((get_or c.loop-r.cursors c.loop-r.r 0)) < length (c.args.rows.now) = inside (c.args.column) (c.args.rows.now) ((get_or c.loop-r.cursors c.loop-r.r 0)) ((let the_readable : Good (cursor_field (c.args.column) (c.args.rows.now) ((get_or c.loop-r.cursors c.loop-r.r 0))) = move_readable c.loop-r.invariant c.loop-r-test.true c.requires.readable in the_readable)) in the_within), c.good)
+overflow_add-cursors c =
+    let w = wide_bytes c.args.column.kind c.requires.kind_value in
+    let there = turn_there c.loop-r.invariant c.loop-r-test.true w.k w.says (λ i. (c.type_inv.rows i).fits) c.requires.readable in
+    omega (arith, there)
 
 pub overflow_add-cursors-in-loop-r : goal.overflow_add-cursors-in-loop-r
 overflow_add-cursors-in-loop-r c =
+<<<<<<< HEAD
     omega (
       arith,
       (let the_within : ((get_or c.loop-r.cursors c.loop-r.r 0)) < length (c.args.rows.now) = inside (c.args.column) (c.args.rows.now) ((get_or c.loop-r.cursors c.loop-r.r 0)) ((let the_readable : Good (cursor_field (c.args.column) (c.args.rows.now) ((get_or c.loop-r.cursors c.loop-r.r 0))) = move_readable c.loop-r.invariant c.loop-r-test.true c.requires.readable in the_readable)) in the_within),
@@ -75,12 +87,24 @@ loop-r-preserved c =
     ) in
     rw (c.decode.ensures, part_to_end (c.args.rows.now) ((get_or c.loop-r.cursors c.loop-r.r 0)))
     (move_more c.loop-r.invariant c.loop-r-test.true w.result ((get_or c.loop-r.cursors c.loop-r.r 0) + 1 + w.result) long next)
+=======
+    let w = wide_bytes c.args.column.kind c.requires.kind_value in
+    let there = turn_there c.loop-r.invariant c.loop-r-test.true w.k w.says (λ i. (c.type_inv.rows i).fits) c.requires.readable in
+    omega (arith, there)
 
-pub shape_of-cursors : goal.shape_of-cursors
-shape_of-cursors c = c.loop-r.invariant.moved.long
+pub overflow_add-place : goal.overflow_add-place
+overflow_add-place c =
+    let w = wide_bytes c.args.column.kind c.requires.kind_value in
+    let room = turn_room c.loop-r.invariant c.loop-r-test.true w.k w.says (λ i. (c.type_inv.rows i).fits) c.requires.readable c.requires.cursors_in_bounds in
+    omega (arith, room, c.loop-r.invariant.wrote.1.same)
 
-pub shape_of-sheet : goal.shape_of-sheet
-shape_of-sheet c = c.loop-r.invariant.wrote.1.same
+pub loop-r-preserved : goal.loop-r-preserved
+loop-r-preserved c =
+    let w = wide_bytes c.args.column.kind c.requires.kind_value in
+    rw (rw (part_to_end c.args.rows.now (get_or c.loop-r.cursors c.loop-r.r 0)) at c.decode.ensures)
+    (turn_more c.loop-r.invariant c.loop-r-test.true w.k w.says (λ i. (c.type_inv.rows i).fits) c.requires.readable c.width-w.result c.width-w.ensures)
+>>>>>>> 46644869e0dcddd7361352af0beb36373063e240
 
-pub returns : goal.returns
-returns c = record { wrote = (move_end c.loop-r.invariant c.loop-r-test.false).0; cursors_after = (move_end c.loop-r.invariant c.loop-r-test.false).1 }
+pub returns-clause-wrote : goal.returns-clause-wrote
+returns-clause-wrote c =
+    (move_end c.loop-r.invariant c.loop-r-test.false).0

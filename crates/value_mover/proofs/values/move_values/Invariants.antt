@@ -9,7 +9,8 @@ use Rattle.value_mover.proofs.values.move_values.Given as goal
 
 abbrev pub invariant-loop-r : goal.invariant-loop-r
 invariant-loop-r l =
-    Moving (record { l.kind = l.kind; l.options = l.options }) l.rows (fixed_slot (value_bytes l.kind)) l.initial.cursors l.initial.sheet l.at l.cursors l.sheet l.place l.r
+    Moving (record { kind = l.kind; options = l.options }) l.rows (fixed_slot (value_bytes l.kind))
+    l.initial.cursors l.initial.sheet l.at l.cursors l.sheet l.place l.r
 
 abbrev pub decreases-loop-r : goal.decreases-loop-r
 decreases-loop-r l = length l.initial.cursors - l.r
