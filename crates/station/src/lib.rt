@@ -1,5 +1,6 @@
 // The row station: the public entries, a module each, and nothing else that is public.
 #![tactic(auto)]
+
 pub mod compare;
 pub mod compare_sheets;
 pub mod decode;

@@ -1,5 +1,6 @@
 // The public entries on lent columns: those of crate station, with exactly the columns handed on in place of list bytes.
 #![tactic(auto)]
+
 ghost use Rattle.format.specs.Described.{described as described·};
 ghost use Rattle.format.specs.Promises.{Measured, Encoded, Decoded, LookedUp, Started, SheetsCompared, PairsCompared};
 

@@ -18,9 +18,12 @@ returns-in-Refuse-second c =
     bad_second _ _ _ _ _ _ _ ((let the_first_passed : let a = c.args in pass_fault 0 a.n0 a.rows0.now a.offsets0.now ≡ Pass = sym c.check_pass-first.ensures ∙ c.in_default.is in the_first_passed)) _ (sym c.check_pass-second.ensures ∙ c.in-Refuse-second.is)
 
 pub overflow_add-count : goal.overflow_add-count
-overflow_add-count c = 
-    omega (arith, (let the_few_rows : let a = c.args in (a.n0 ≤ max_rows) × (a.n1 ≤ max_rows) = let a = c.args in
-    few a.n0 a.rows0.now a.offsets0.now a.n1 a.rows1.now a.offsets1.now a.order.now ((let the_first_passed : let a = c.args in pass_fault 0 a.n0 a.rows0.now a.offsets0.now ≡ Pass = sym c.check_pass-first.ensures ∙ c.in_default.is in the_first_passed)) ((let the_second_passed : let a = c.args in pass_fault 1 a.n1 a.rows1.now a.offsets1.now ≡ Pass = sym c.check_pass-second.ensures ∙ c.in_default-second.is in the_second_passed)) in the_few_rows))
+overflow_add-count c =
+    omega (
+      arith,
+      (let the_few_rows : let a = c.args in (a.n0 ≤ max_rows) × (a.n1 ≤ max_rows) = let a = c.args in
+          few a.n0 a.rows0.now a.offsets0.now a.n1 a.rows1.now a.offsets1.now a.order.now ((let the_first_passed : let a = c.args in pass_fault 0 a.n0 a.rows0.now a.offsets0.now ≡ Pass = sym c.check_pass-first.ensures ∙ c.in_default.is in the_first_passed)) ((let the_second_passed : let a = c.args in pass_fault 1 a.n1 a.rows1.now a.offsets1.now ≡ Pass = sym c.check_pass-second.ensures ∙ c.in_default-second.is in the_second_passed)) in the_few_rows),
+    )
 
 pub returns-then-order-count : goal.returns-then-order-count
 returns-then-order-count c =
