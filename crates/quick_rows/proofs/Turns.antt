@@ -7,18 +7,23 @@ use mathlib.Core.List.{List, [], ◌∷◌}
 use native.Mathlib.Numerals.{add-one}
 use native.Mathlib.Omega.{arith}
 use lib.ListN.{length, get_or, set, take, drop, length-drop, drop_of_length-le}
-use lib.Seq.{drop-drop}
+use lib.Seq.{drop-drop, get_or-drop, take_all}
 use Rattle.format.specs.declared.Check.TheVariants.{Pass}
 use Rattle.format.specs.declared.Column.{Column}
+use Rattle.format.specs.declared.Schema.{Schema}
 use Rattle.format.specs.Kinds.{Slot, column_shape}
-use Rattle.format.specs.Limits.{max_slot}
+use Rattle.format.specs.Limits.{max_columns, max_slot}
+use Rattle.format.specs.Lists.{Bytes}
 use Rattle.format.specs.Read.{row_fault}
-use Rattle.format.specs.Schemas.{no_column}
+use Rattle.format.specs.Schemas.{cols_of, no_column}
 use Rattle.format.specs.Sheet.{layout}
 use Rattle.format.specs.Cleared.{added}
-use Rattle.plain_fields.specs.Plain.{Lengthy}
+use Rattle.basics.proofs.Bytes.{bytes_drop}
+use Rattle.laws.proofs.InUse.{Held, next_in_use}
+use Rattle.plain_fields.specs.Plain.{Lengthy, Opens, Plain}
+use Rattle.field_reader.specs.Counts.{Counts}
 use Rattle.quick_rows.specs.Quick.{row_data}
-use Rattle.quick_rows.proofs.Taken.{Took, past_fault, past_added, added_small}
+use Rattle.quick_rows.proofs.Taken.{Took, past_fault, past_added, added_small, adds_took, plain_took}
 
 -- what is left of the row has the row's fault, whichever row it is, and what is counted and what is left to count is the row's count
 pub record Fields (cols : List Column) (row : List ℕ) (bytes₀ bytes at c : ℕ) : Type 0 where
@@ -27,10 +32,6 @@ pub record Fields (cols : List Column) (row : List ℕ) (bytes₀ bytes at c : �
   pub says : (r : ℕ) → row_fault r (length row) c (drop c cols) (drop at row) ≡ row_fault r (length row) 0 cols row
   pub adds : bytes + row_data (drop c cols) (drop at row) ≡ bytes₀ + row_data cols row
   pub small : bytes ≤ bytes₀ + max_slot * c
-
--- the head of a row
-pub starts : (cols : List Column) (row : List ℕ) (bytes : ℕ) → Fields cols row bytes bytes 0 0
-starts cols row bytes = record { inside = omega arith; within = omega arith; says = λ r. refl; adds = refl; small = omega arith }
 
 -- a slot was taken: the next turn stands in what it left
 module _ {cols : List Column} {row : List ℕ} {bytes₀ bytes at c : ℕ} (t : Fields cols row bytes₀ bytes at c)
@@ -116,3 +117,41 @@ walked w l here len o inside m ready slot = record {
   ready = ready;
   says = λ e. let s = slot e in taken (w.says s.0) here s.1.0 len _ _ s.1.1 s.1.2 o;
 }
+
+-- a turn, by what it passed: the field of the next column, in front of what is left of the row
+module _ {schema : Schema} (held : Held schema) (few : schema.count ≤ max_columns) {row plain : List ℕ} {good : Bool} {more at c : ℕ}
+    (inv : Walking schema.columns schema.count row plain good more at c) (h : c < schema.count) (bytes : Bytes row) where
+  abbrev col : Column
+  col = get_or schema.columns c no_column
+
+  abbrev here : drop c (cols_of schema) ≡ col ∷ drop (suc c) (cols_of schema)
+  here = next_in_use schema held few c h
+
+  -- a plain field, which opens with 01
+  pub past_plain : (len : ℕ) → Plain col len → len ≤ length row - at → get_or row at 0 ≡ 1
+      → Walking schema.columns schema.count row plain good more (at + len) (c + 1)
+  past_plain len p inside one =
+      let first : get_or (drop at row) 0 0 ≡ 1 = get_or-drop at row 0 0 ∙ ap (λ (i : ℕ). get_or row i 0) (omega arith) ∙ one in
+      let x = plain_took col (drop at row) len (bytes_drop at row bytes) p (omega (arith, inside, length-drop at row)) (inl first) in
+      walked inv h here len refl inside (omega arith) inv.ready (λ e. (e, (x.0, x.1, omega (arith, p.adds x.0))))
+
+  -- a plain field or a null, and no length is foretold any more
+  pub past_slot : (len : ℕ) → Plain col len → len ≤ length row - at → {good' : Bool}
+      → (good' ≡ true → (good ≡ true) × Opens col.options len (drop at row))
+      → Walking schema.columns schema.count row (set plain c 0) good' more (at + len) (c + 1)
+  past_slot len p inside both =
+      walked inv h here len refl inside (omega arith) (ready_none schema.columns schema.count plain c inv.ready)
+      (λ e.
+      let g = both e in
+      let x = plain_took col (drop at row) len (bytes_drop at row bytes) p (omega (arith, inside, length-drop at row)) g.1 in
+      (g.0, (x.0, x.1, omega (arith, p.adds x.0))))
+
+  -- a field that was counted
+  pub past_counted : (len value : ℕ) → Counts col (take (length row - at) (drop at row)) len value
+      → Walking schema.columns schema.count row plain good (more + value) (at + len) (c + 1)
+  past_counted len value k =
+      let all = take_all (length row - at) (drop at row) (omega (arith, length-drop at row)) in
+      let x = adds_took col (drop at row) len value (bytes_drop at row bytes) (subst (λ (s : List ℕ). Counts col s len value) all k) in
+      let small = added_small (column_shape col) col.options x.0 x.1.fits in
+      walked inv h here len refl (omega (arith, x.1.inside, length-drop at row)) (omega (arith, small, x.2)) inv.ready
+      (λ e. (e, (x.0, x.1, omega (arith, x.2))))

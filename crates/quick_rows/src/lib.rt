@@ -1,5 +1,7 @@
 // The quick check: how many rows in front of a batch are good, and what they add. It knows no fault's place: where it stops, the walk
 // of crate `row_reader` looks again.
+#![tactic(auto)]
+
 ghost use Rattle.std.specs.Prelude.{◌≤◌};
 ghost use Rattle.format.specs.Limits.{max_rows};
 ghost use Rattle.format.specs.Schemas.{Limited, cols_of};
