@@ -1,4 +1,6 @@
 // Decoding under a list that was read, however it came: the cleared sheet of a batch of rows.
+#![tactic(auto)]
+
 ghost use Rattle.format.specs.Promises.{Decoded};
 ghost use Rattle.list_reader.specs.Listing.{OfList, OfEach};
 ghost use Rattle.decoder.specs.Decoding.{SheetReady, SheetLeft};

@@ -2,6 +2,8 @@
 // stands where the row's next field starts; each column is written from the fields at the cursors, which then move past
 // them. Every part of a column is appended at a place of the sheet, and the place after it is returned. The ones of the
 // validity that was written give the null total.
+#![tactic(auto)]
+
 mod columns;
 
 pub use columns::write_sheet;

@@ -1,84 +1,123 @@
-use Prim.Native.Nat.{suc, ◌+◌, ◌-◌, ◌≤◌}
+-- `sheet_writer::columns::write_columns` meets its contract: the columns passed are written, their null slots counted, and the
+-- cursors stand at the next one's fields. Assumes nothing.
+use Prim.Native.Nat.{ℕ, suc, ◌+◌, ◌-◌, ◌<◌, ◌≤◌}
 use mathlib.Core.Path.{◌≡◌, ap, ◌∙◌}
-use mathlib.Core.List.{◌∷◌}
+use mathlib.Core.List.{List, ◌∷◌}
 use native.Mathlib.Omega.{arith}
-use lib.ListN.{length, get_or, drop}
+use lib.ListN.{length, get_or, take, drop}
+use Rattle.format.specs.declared.Column.{Column}
+use Rattle.format.specs.declared.Schema.{Schema}
 use Rattle.format.specs.Limits.{max_rows}
 use Rattle.format.specs.Lists.{Bytes}
 use Rattle.format.specs.Schemas.{cols_of, no_column}
-use Rattle.format.specs.Sheet.{packed as packedFor}
+use Rattle.format.specs.Sheet.{packed as packed_for}
 use Rattle.bits.specs.Ones.{ones_in}
+use Rattle.basics.specs.Wrote.{Wrote}
 use Rattle.basics.proofs.Bytes.{bytes_of}
-use Rattle.laws.proofs.InUse.{Held, in_use, next_in_use}
+use Rattle.laws.proofs.InUse.{Held, next_in_use}
 use Rattle.flag_packer.specs.declared.Flag.TheVariants.{Valid}
 use Rattle.cursors.specs.Cursors.{Readable}
 use Rattle.flag_packer.specs.Flags.{flags_at}
-use Rattle.sheet_writer.specs.Writing.{values_at}
+use Rattle.sheet_writer.specs.Writing.{Writable, values_at}
 use Rattle.sheet_writer.proofs.Parts.{flags_long, validity_nulls}
-use Rattle.sheet_writer.proofs.Stand.{column_to_come, stand_first, stand_here, stand_room, stand_more, stand_end}
+use Rattle.sheet_writer.proofs.Stand.{Standing, column_to_come, stand_here, stand_room, stand_more}
 use Rattle.cursors.proofs.Wrotes.{wrote_both, wrote_there, room_first, room_after}
 use Rattle.sheet_writer.proofs.columns.write_columns.Goals as goal
 
-pub loop-c-init : goal.loop-c-init
-loop-c-init c =
-    stand_first ((cols_of c.args.schema)) c.args.rows.now c.args.cursors.now c.args.sheet.now c.requires.fields
+-- before column c
+module _ (schema : Schema) (held : Held schema) {rows cursors₀ out₀ cursors out : List ℕ} {empty at c : ℕ} (w : Writable schema rows cursors₀ out₀)
+    (b : Bytes rows) (t : Standing (cols_of schema) rows cursors₀ out₀ cursors out empty at c) (l : c < schema.count) where
+  abbrev col : Column
+  col = get_or schema.columns c no_column
 
--- ---- in a turn: the column at the cursors
-pub offset_bounds-columns-c : goal.offset_bounds-columns-c
-offset_bounds-columns-c c = omega (arith, c.requires.limited.few)
+  abbrev flags : List ℕ
+  flags = flags_at Valid col rows cursors
 
-pub bounds-columns-c : goal.bounds-columns-c
-bounds-columns-c c = omega (arith, c.requires.limited.few)
+  next : drop c (cols_of schema) ≡ col ∷ drop (suc c) (cols_of schema)
+  next = next_in_use schema held w.limited.few c l
 
-pub pack-values-requires : goal.pack-values-requires
-pack-values-requires c =
-    record { readable = (let the_readable : Readable ((get_or c.args.schema.columns c.loop-c.c no_column)) (c.args.rows.now) (c.loop-c.cursors) = stand_here (c.loop-c.invariant) ((let the_row_bytes : Bytes (c.args.rows.now) = bytes_of (c.args.rows.now) (λ i. (c.shared_slice_known-1.given i).fits) in the_row_bytes)) ((get_or c.args.schema.columns c.loop-c.c no_column)) ((let the_next : drop c.loop-c.c ((cols_of c.args.schema)) ≡ ((get_or c.args.schema.columns c.loop-c.c no_column)) ∷ drop (suc c.loop-c.c) ((cols_of c.args.schema)) = next_in_use c.args.schema ((let the_held : Held c.args.schema = c.well_formed.0 in the_held)) c.requires.limited.few c.loop-c.c c.loop-c-test.true in the_next)) in the_readable); flagged = tt; cursors_in_bounds = omega (arith, (let the_validity_room : c.loop-c.at + length ((flags_at Valid ((get_or c.args.schema.columns c.loop-c.c no_column)) (c.args.rows.now) (c.loop-c.cursors))) ≤ length (c.loop-c.sheet) = room_first ((flags_at Valid ((get_or c.args.schema.columns c.loop-c.c no_column)) (c.args.rows.now) (c.loop-c.cursors))) (values_at ((get_or c.args.schema.columns c.loop-c.c no_column)) (c.args.rows.now) (c.loop-c.cursors)) c.loop-c.at (c.loop-c.sheet) ((let the_room : c.loop-c.at + length (column_to_come ((get_or c.args.schema.columns c.loop-c.c no_column)) (c.args.rows.now) (c.loop-c.cursors)) ≤ length (c.loop-c.sheet) = stand_room (c.loop-c.invariant) ((let the_row_bytes : Bytes (c.args.rows.now) = bytes_of (c.args.rows.now) (λ i. (c.shared_slice_known-1.given i).fits) in the_row_bytes)) ((get_or c.args.schema.columns c.loop-c.c no_column)) ((let the_next : drop c.loop-c.c ((cols_of c.args.schema)) ≡ ((get_or c.args.schema.columns c.loop-c.c no_column)) ∷ drop (suc c.loop-c.c) ((cols_of c.args.schema)) = next_in_use c.args.schema ((let the_held : Held c.args.schema = c.well_formed.0 in the_held)) c.requires.limited.few c.loop-c.c c.loop-c-test.true in the_next)) c.requires.room in the_room)) in the_validity_room), flags_long ((get_or c.args.schema.columns c.loop-c.c no_column)) (c.args.rows.now) (c.loop-c.cursors) Valid) }
+  few : length cursors ≤ max_rows
+  few = omega (arith, t.many, w.few)
 
-pub slice_bounds-count_ones-count : goal.slice_bounds-count_ones-count
-slice_bounds-count_ones-count c = omega (arith, (let the_place : c.pack-values.result ≡ c.loop-c.at + length ((flags_at Valid ((get_or c.args.schema.columns c.loop-c.c no_column)) (c.args.rows.now) (c.loop-c.cursors))) = c.pack-values.ensures.place in the_place))
+  readable : Readable col rows cursors
+  readable = stand_here t b col next
 
-pub slice_bounds-count_ones-start : goal.slice_bounds-count_ones-start
-slice_bounds-count_ones-start c = omega (arith, (let the_place : c.pack-values.result ≡ c.loop-c.at + length ((flags_at Valid ((get_or c.args.schema.columns c.loop-c.c no_column)) (c.args.rows.now) (c.loop-c.cursors))) = c.pack-values.ensures.place in the_place))
+  -- there is room for the column, and so for its validity
+  room : at + length (column_to_come col rows cursors) ≤ length out
+  room = stand_room t b col next w.room
+
+  flags_room : at + length flags ≤ length out
+  flags_room = room_first flags (values_at col rows cursors) at out room
+
+  -- the validity is written, and its ones counted
+  module _ {out' : List ℕ} {at' : ℕ} (p : Wrote flags at out out' at') where
+    there : take (at' - at) (drop at out') ≡ flags
+    there = wrote_there p flags_room
+
+    short : length (take (at' - at) (drop at out')) ≤ packed_for max_rows
+    short = rw there (omega (arith, flags_long col rows cursors Valid, few))
+
+    module _ (ones : ℕ) (e : ones ≡ ones_in (take (at' - at) (drop at out'))) where
+      ones_are : ones ≡ ones_in flags
+      ones_are = e ∙ ap ones_in there
+
+      -- no more than there are rows
+      some : ones ≤ length cursors₀
+      some = omega (arith, ones_are, validity_nulls col rows cursors, t.many)
+
+pub pack-values-requires-clause-readable : goal.pack-values-requires-clause-readable
+pack-values-requires-clause-readable c =
+    let bytes = bytes_of c.args.rows.now (λ i. (c.type_inv.rows i).fits) in
+    readable c.args.schema c.well_formed.0 c.requires bytes c.loop-c.invariant c.loop-c-test.true
+
+pub pack-values-requires-clause-cursors_in_bounds : goal.pack-values-requires-clause-cursors_in_bounds
+pack-values-requires-clause-cursors_in_bounds c =
+    let A = c.args in
+    let l = c.loop-c in
+    let bytes = bytes_of A.rows.now (λ i. (c.type_inv.rows i).fits) in
+    omega (
+    arith, flags_room A.schema c.well_formed.0 c.requires bytes l.invariant c.loop-c-test.true,
+    flags_long (get_or A.schema.columns l.c no_column) A.rows.now l.cursors Valid
+    )
 
 pub slice_bounds-count_ones-end : goal.slice_bounds-count_ones-end
 slice_bounds-count_ones-end c =
-    omega (arith, (let the_place : c.pack-values.result ≡ c.loop-c.at + length ((flags_at Valid ((get_or c.args.schema.columns c.loop-c.c no_column)) (c.args.rows.now) (c.loop-c.cursors))) = c.pack-values.ensures.place in the_place), (let the_validity_room : c.loop-c.at + length ((flags_at Valid ((get_or c.args.schema.columns c.loop-c.c no_column)) (c.args.rows.now) (c.loop-c.cursors))) ≤ length (c.loop-c.sheet) = room_first ((flags_at Valid ((get_or c.args.schema.columns c.loop-c.c no_column)) (c.args.rows.now) (c.loop-c.cursors))) (values_at ((get_or c.args.schema.columns c.loop-c.c no_column)) (c.args.rows.now) (c.loop-c.cursors)) c.loop-c.at (c.loop-c.sheet) ((let the_room : c.loop-c.at + length (column_to_come ((get_or c.args.schema.columns c.loop-c.c no_column)) (c.args.rows.now) (c.loop-c.cursors)) ≤ length (c.loop-c.sheet) = stand_room (c.loop-c.invariant) ((let the_row_bytes : Bytes (c.args.rows.now) = bytes_of (c.args.rows.now) (λ i. (c.shared_slice_known-1.given i).fits) in the_row_bytes)) ((get_or c.args.schema.columns c.loop-c.c no_column)) ((let the_next : drop c.loop-c.c ((cols_of c.args.schema)) ≡ ((get_or c.args.schema.columns c.loop-c.c no_column)) ∷ drop (suc c.loop-c.c) ((cols_of c.args.schema)) = next_in_use c.args.schema ((let the_held : Held c.args.schema = c.well_formed.0 in the_held)) c.requires.limited.few c.loop-c.c c.loop-c-test.true in the_next)) c.requires.room in the_room)) in the_validity_room), c.pack-values.auto)
+    let bytes = bytes_of c.args.rows.now (λ i. (c.type_inv.rows i).fits) in
+    omega (
+    arith, flags_room c.args.schema c.well_formed.0 c.requires bytes c.loop-c.invariant c.loop-c-test.true, c.pack-values.ensures.place,
+    c.pack-values.auto.sheet
+    )
 
 pub count_ones-requires : goal.count_ones-requires
 count_ones-requires c =
-    let there = wrote_there {a = (flags_at Valid ((get_or c.args.schema.columns c.loop-c.c no_column)) (c.args.rows.now) (c.loop-c.cursors))} c.pack-values.ensures ((let the_validity_room : c.loop-c.at + length ((flags_at Valid ((get_or c.args.schema.columns c.loop-c.c no_column)) (c.args.rows.now) (c.loop-c.cursors))) ≤ length (c.loop-c.sheet) = room_first ((flags_at Valid ((get_or c.args.schema.columns c.loop-c.c no_column)) (c.args.rows.now) (c.loop-c.cursors))) (values_at ((get_or c.args.schema.columns c.loop-c.c no_column)) (c.args.rows.now) (c.loop-c.cursors)) c.loop-c.at (c.loop-c.sheet) ((let the_room : c.loop-c.at + length (column_to_come ((get_or c.args.schema.columns c.loop-c.c no_column)) (c.args.rows.now) (c.loop-c.cursors)) ≤ length (c.loop-c.sheet) = stand_room (c.loop-c.invariant) ((let the_row_bytes : Bytes (c.args.rows.now) = bytes_of (c.args.rows.now) (λ i. (c.shared_slice_known-1.given i).fits) in the_row_bytes)) ((get_or c.args.schema.columns c.loop-c.c no_column)) ((let the_next : drop c.loop-c.c ((cols_of c.args.schema)) ≡ ((get_or c.args.schema.columns c.loop-c.c no_column)) ∷ drop (suc c.loop-c.c) ((cols_of c.args.schema)) = next_in_use c.args.schema ((let the_held : Held c.args.schema = c.well_formed.0 in the_held)) c.requires.limited.few c.loop-c.c c.loop-c-test.true in the_next)) c.requires.room in the_room)) in the_validity_room)) in
-    rw there ((let the_short : length ((flags_at Valid ((get_or c.args.schema.columns c.loop-c.c no_column)) (c.args.rows.now) (c.loop-c.cursors))) ≤ packedFor max_rows = omega (arith, flags_long ((get_or c.args.schema.columns c.loop-c.c no_column)) (c.args.rows.now) (c.loop-c.cursors) Valid, (let the_few : length (c.loop-c.cursors) ≤ max_rows = omega (arith, (c.loop-c.invariant).many, c.requires.few) in the_few)) in the_short))
+    let bytes = bytes_of c.args.rows.now (λ i. (c.type_inv.rows i).fits) in
+    short c.args.schema c.well_formed.0 c.requires bytes c.loop-c.invariant c.loop-c-test.true c.pack-values.ensures
 
 pub overflow_sub-nulls : goal.overflow_sub-nulls
 overflow_sub-nulls c =
-    (let the_some : c.count_ones.result ≤ length c.args.cursors.now = omega (
-      arith,
-      (let the_ones_are : c.count_ones.result ≡ ones_in ((flags_at Valid ((get_or c.args.schema.columns c.loop-c.c no_column)) (c.args.rows.now) (c.loop-c.cursors))) = let there = wrote_there {a = (flags_at Valid ((get_or c.args.schema.columns c.loop-c.c no_column)) (c.args.rows.now) (c.loop-c.cursors))} c.pack-values.ensures ((let the_validity_room : c.loop-c.at + length ((flags_at Valid ((get_or c.args.schema.columns c.loop-c.c no_column)) (c.args.rows.now) (c.loop-c.cursors))) ≤ length (c.loop-c.sheet) = room_first ((flags_at Valid ((get_or c.args.schema.columns c.loop-c.c no_column)) (c.args.rows.now) (c.loop-c.cursors))) (values_at ((get_or c.args.schema.columns c.loop-c.c no_column)) (c.args.rows.now) (c.loop-c.cursors)) c.loop-c.at (c.loop-c.sheet) ((let the_room : c.loop-c.at + length (column_to_come ((get_or c.args.schema.columns c.loop-c.c no_column)) (c.args.rows.now) (c.loop-c.cursors)) ≤ length (c.loop-c.sheet) = stand_room (c.loop-c.invariant) ((let the_row_bytes : Bytes (c.args.rows.now) = bytes_of (c.args.rows.now) (λ i. (c.shared_slice_known-1.given i).fits) in the_row_bytes)) ((get_or c.args.schema.columns c.loop-c.c no_column)) ((let the_next : drop c.loop-c.c ((cols_of c.args.schema)) ≡ ((get_or c.args.schema.columns c.loop-c.c no_column)) ∷ drop (suc c.loop-c.c) ((cols_of c.args.schema)) = next_in_use c.args.schema ((let the_held : Held c.args.schema = c.well_formed.0 in the_held)) c.requires.limited.few c.loop-c.c c.loop-c-test.true in the_next)) c.requires.room in the_room)) in the_validity_room)) in
-          c.count_ones.ensures.value ∙ ap ones_in there in the_ones_are),
-      validity_nulls ((get_or c.args.schema.columns c.loop-c.c no_column)) (c.args.rows.now) (c.loop-c.cursors),
-      (c.loop-c.invariant).many,
-    ) in the_some)
+    let bytes = bytes_of c.args.rows.now (λ i. (c.type_inv.rows i).fits) in
+    some c.args.schema c.well_formed.0 c.requires bytes c.loop-c.invariant c.loop-c-test.true c.pack-values.ensures _ c.count_ones.ensures.value
 
-pub overflow_add-nulls : goal.overflow_add-nulls
-overflow_add-nulls c =
-    omega (arith, (c.loop-c.invariant).few, c.loop-c-test.true, c.requires.limited.few, c.requires.few)
+pub write_values-at-requires-clause-readable : goal.write_values-at-requires-clause-readable
+write_values-at-requires-clause-readable c =
+    let bytes = bytes_of c.args.rows.now (λ i. (c.type_inv.rows i).fits) in
+    readable c.args.schema c.well_formed.0 c.requires bytes c.loop-c.invariant c.loop-c-test.true
 
-pub write_values-at-requires : goal.write_values-at-requires
-write_values-at-requires c =
-    record { cursors_len_bound = (let the_few : length (c.loop-c.cursors) ≤ max_rows = omega (arith, (c.loop-c.invariant).many, c.requires.few) in the_few); readable = (let the_readable : Readable ((get_or c.args.schema.columns c.loop-c.c no_column)) (c.args.rows.now) (c.loop-c.cursors) = stand_here (c.loop-c.invariant) ((let the_row_bytes : Bytes (c.args.rows.now) = bytes_of (c.args.rows.now) (λ i. (c.shared_slice_known-1.given i).fits) in the_row_bytes)) ((get_or c.args.schema.columns c.loop-c.c no_column)) ((let the_next : drop c.loop-c.c ((cols_of c.args.schema)) ≡ ((get_or c.args.schema.columns c.loop-c.c no_column)) ∷ drop (suc c.loop-c.c) ((cols_of c.args.schema)) = next_in_use c.args.schema ((let the_held : Held c.args.schema = c.well_formed.0 in the_held)) c.requires.limited.few c.loop-c.c c.loop-c-test.true in the_next)) in the_readable); cursors_in_bounds = room_after c.pack-values.ensures (values_at ((get_or c.args.schema.columns c.loop-c.c no_column)) (c.args.rows.now) (c.loop-c.cursors)) ((let the_room : c.loop-c.at + length (column_to_come ((get_or c.args.schema.columns c.loop-c.c no_column)) (c.args.rows.now) (c.loop-c.cursors)) ≤ length (c.loop-c.sheet) = stand_room (c.loop-c.invariant) ((let the_row_bytes : Bytes (c.args.rows.now) = bytes_of (c.args.rows.now) (λ i. (c.shared_slice_known-1.given i).fits) in the_row_bytes)) ((get_or c.args.schema.columns c.loop-c.c no_column)) ((let the_next : drop c.loop-c.c ((cols_of c.args.schema)) ≡ ((get_or c.args.schema.columns c.loop-c.c no_column)) ∷ drop (suc c.loop-c.c) ((cols_of c.args.schema)) = next_in_use c.args.schema ((let the_held : Held c.args.schema = c.well_formed.0 in the_held)) c.requires.limited.few c.loop-c.c c.loop-c-test.true in the_next)) c.requires.room in the_room)) }
+pub write_values-at-requires-clause-cursors_in_bounds : goal.write_values-at-requires-clause-cursors_in_bounds
+write_values-at-requires-clause-cursors_in_bounds c =
+    let A = c.args in
+    let l = c.loop-c in
+    let bytes = bytes_of A.rows.now (λ i. (c.type_inv.rows i).fits) in
+    room_after c.pack-values.ensures (values_at (get_or A.schema.columns l.c no_column) A.rows.now l.cursors)
+    (room A.schema c.well_formed.0 c.requires bytes l.invariant c.loop-c-test.true)
 
 pub loop-c-preserved : goal.loop-c-preserved
 loop-c-preserved c =
-    let column = wrote_both {a = (flags_at Valid ((get_or c.args.schema.columns c.loop-c.c no_column)) (c.args.rows.now) (c.loop-c.cursors))} c.pack-values.ensures c.write_values-at.ensures.wrote in
-    stand_more (c.loop-c.invariant) ((let the_row_bytes : Bytes (c.args.rows.now) = bytes_of (c.args.rows.now) (λ i. (c.shared_slice_known-1.given i).fits) in the_row_bytes)) ((get_or c.args.schema.columns c.loop-c.c no_column)) ((let the_next : drop c.loop-c.c ((cols_of c.args.schema)) ≡ ((get_or c.args.schema.columns c.loop-c.c no_column)) ∷ drop (suc c.loop-c.c) ((cols_of c.args.schema)) = next_in_use c.args.schema ((let the_held : Held c.args.schema = c.well_formed.0 in the_held)) c.requires.limited.few c.loop-c.c c.loop-c-test.true in the_next)) c.requires.few column c.write_values-at.ensures.cursors_after c.count_ones.result ((let the_ones_are : c.count_ones.result ≡ ones_in ((flags_at Valid ((get_or c.args.schema.columns c.loop-c.c no_column)) (c.args.rows.now) (c.loop-c.cursors))) = let there = wrote_there {a = (flags_at Valid ((get_or c.args.schema.columns c.loop-c.c no_column)) (c.args.rows.now) (c.loop-c.cursors))} c.pack-values.ensures ((let the_validity_room : c.loop-c.at + length ((flags_at Valid ((get_or c.args.schema.columns c.loop-c.c no_column)) (c.args.rows.now) (c.loop-c.cursors))) ≤ length (c.loop-c.sheet) = room_first ((flags_at Valid ((get_or c.args.schema.columns c.loop-c.c no_column)) (c.args.rows.now) (c.loop-c.cursors))) (values_at ((get_or c.args.schema.columns c.loop-c.c no_column)) (c.args.rows.now) (c.loop-c.cursors)) c.loop-c.at (c.loop-c.sheet) ((let the_room : c.loop-c.at + length (column_to_come ((get_or c.args.schema.columns c.loop-c.c no_column)) (c.args.rows.now) (c.loop-c.cursors)) ≤ length (c.loop-c.sheet) = stand_room (c.loop-c.invariant) ((let the_row_bytes : Bytes (c.args.rows.now) = bytes_of (c.args.rows.now) (λ i. (c.shared_slice_known-1.given i).fits) in the_row_bytes)) ((get_or c.args.schema.columns c.loop-c.c no_column)) ((let the_next : drop c.loop-c.c ((cols_of c.args.schema)) ≡ ((get_or c.args.schema.columns c.loop-c.c no_column)) ∷ drop (suc c.loop-c.c) ((cols_of c.args.schema)) = next_in_use c.args.schema ((let the_held : Held c.args.schema = c.well_formed.0 in the_held)) c.requires.limited.few c.loop-c.c c.loop-c-test.true in the_next)) c.requires.room in the_room)) in the_validity_room)) in
-    c.count_ones.ensures.value ∙ ap ones_in there in the_ones_are))
-
-pub shape_of-cursors : goal.shape_of-cursors
-shape_of-cursors c = c.loop-c.invariant.many
-
-pub shape_of-sheet : goal.shape_of-sheet
-shape_of-sheet c = c.loop-c.invariant.wrote.same
-
-pub returns : goal.returns
-returns c =
-    stand_end c.loop-c.invariant (omega (arith, (let the_full : length ((cols_of c.args.schema)) ≡ c.args.schema.count = in_use c.args.schema ((let the_held : Held c.args.schema = c.well_formed.0 in the_held)) c.requires.limited.few in the_full), c.loop-c-test.false))
+    let A = c.args in
+    let l = c.loop-c in
+    let bytes = bytes_of A.rows.now (λ i. (c.type_inv.rows i).fits) in
+    let col = get_or A.schema.columns l.c no_column in
+    let both = wrote_both {a = flags_at Valid col A.rows.now l.cursors} c.pack-values.ensures c.write_values-at.ensures.wrote in
+    let counted = ones_are A.schema c.well_formed.0 c.requires bytes l.invariant c.loop-c-test.true c.pack-values.ensures _ c.count_ones.ensures.value in
+    stand_more l.invariant bytes col (next_in_use A.schema c.well_formed.0 c.requires.limited.few l.c c.loop-c-test.true) c.requires.few both
+    c.write_values-at.ensures.cursors_after c.count_ones.result counted
