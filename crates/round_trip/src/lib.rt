@@ -2,6 +2,7 @@
 // entries on lent buffers, and what it ensures is the demand itself. Neither asks anything of its caller. The theorems behind them stand in
 // crate `demands`.
 #![tactic(auto)]
+
 ghost use Rattle.format.specs.Described.{spelled};
 ghost use Rattle.demands.specs.RoundTrip.{CameBack, CameAgain};
 
