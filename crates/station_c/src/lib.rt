@@ -1,6 +1,7 @@
 // The C entries: a slice is a pointer and a length, offsets and answers are lent as bytes, eight a number, low byte first, and
 // descriptions as four bytes a column. Thin over crate `station` and those below it; include/station.h says how to call them.
 #![tactic(auto)]
+
 ghost use Rattle.format.specs.Described.{spelled, coded};
 ghost use Rattle.format.specs.Promises.{LentListChecked, LentListRead, LentMeasured, LentEncoded, LentDecoded, LentJoined, LentLookedUp, LentSheetsCompared, LentPairsCompared, Compared};
 
