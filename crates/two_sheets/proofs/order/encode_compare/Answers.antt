@@ -17,7 +17,7 @@ first : (c : In_default) → Written (spelled c.args.list.now)
 first c = batch_written c.encode-first.ensures (bytes_of c.args.sheet.now (λ i. (c.type_inv.sheet i).fits)) _ _ c.in_default.is
 
 second : (c : In_default-second) → Written (spelled c.args.list.now)
-    (batch c.args.m c.args.other.now c.args.others.now c.args.ends.now c.encode-second.new.others c.encode-second.new.ends)
+    (batch c.args.m c.args.other.now c.args.others.now c.args.ends.now c.encode-second.new.rows c.encode-second.new.offsets)
 second c = batch_written c.encode-second.ensures (bytes_of c.args.other.now (λ i. (c.type_inv.other i).fits)) _ _ c.in_default-second.is
 
 pub returns-in-Refused : goal.returns-in-Refused
