@@ -76,16 +76,19 @@ pack-values-requires-clause-cursors_in_bounds c =
     let l = c.loop-c in
     let bytes = bytes_of A.rows.now (λ i. (c.type_inv.rows i).fits) in
     omega (
-    arith, flags_room A.schema c.well_formed.0 c.requires bytes l.invariant c.loop-c-test.true,
-    flags_long (get_or A.schema.columns l.c no_column) A.rows.now l.cursors Valid
+      arith,
+      flags_room A.schema c.well_formed.0 c.requires bytes l.invariant c.loop-c-test.true,
+      flags_long (get_or A.schema.columns l.c no_column) A.rows.now l.cursors Valid,
     )
 
 pub slice_bounds-count_ones-end : goal.slice_bounds-count_ones-end
 slice_bounds-count_ones-end c =
     let bytes = bytes_of c.args.rows.now (λ i. (c.type_inv.rows i).fits) in
     omega (
-    arith, flags_room c.args.schema c.well_formed.0 c.requires bytes c.loop-c.invariant c.loop-c-test.true, c.pack-values.ensures.place,
-    c.pack-values.auto.sheet
+      arith,
+      flags_room c.args.schema c.well_formed.0 c.requires bytes c.loop-c.invariant c.loop-c-test.true,
+      c.pack-values.ensures.place,
+      c.pack-values.auto.sheet,
     )
 
 pub count_ones-requires : goal.count_ones-requires

@@ -18,17 +18,6 @@ slice_bounds-decode-start c =
     let there = turn_there c.loop-r.invariant c.loop-r-test.true w.k w.says (λ i. (c.type_inv.rows i).fits) c.requires.readable in
     omega (arith, there)
 
-<<<<<<< HEAD
-pub decode-requires : goal.decode-requires
-decode-requires c =
-    record {
-      kind_value = c.requires.kind_value;
-      good = rw (part_to_end (c.args.rows.now) ((get_or c.loop-r.cursors c.loop-r.r 0))) ((let the_readable : Good (cursor_field (c.args.column) (c.args.rows.now) ((get_or c.loop-r.cursors c.loop-r.r 0))) = move_readable c.loop-r.invariant c.loop-r-test.true c.requires.readable in the_readable));
-      kind_in_bounds = let the_room : c.loop-r.place + value_bytes (c.args.column).kind ≤ length c.loop-r.sheet = rw ((let the_all_there : Whole (column_shape (c.args.column)) (c.args.column).options (drop ((get_or c.loop-r.cursors c.loop-r.r 0)) (c.args.rows.now)) = let kind = wide_bytes (c.args.column).kind c.requires.kind_value in
-          let bytes = bytes_of (c.args.rows.now) (λ i. (c.shared_slice_known-1.given i).fits) in
-          whole (column_shape (c.args.column)) kind.k (c.args.column).options (drop ((get_or c.loop-r.cursors c.loop-r.r 0)) (c.args.rows.now)) kind.says (bytes_drop ((get_or c.loop-r.cursors c.loop-r.r 0)) (c.args.rows.now) bytes) ((let the_readable : Good (cursor_field (c.args.column) (c.args.rows.now) ((get_or c.loop-r.cursors c.loop-r.r 0))) = move_readable c.loop-r.invariant c.loop-r-test.true c.requires.readable in the_readable)) in the_all_there)).slot_is at (move_room c.loop-r.invariant c.loop-r-test.true c.requires.cursors_in_bounds) in the_room;
-    }
-=======
 pub decode-requires-clause-good : goal.decode-requires-clause-good
 decode-requires-clause-good c =
     rw (part_to_end c.args.rows.now (get_or c.loop-r.cursors c.loop-r.r 0))
@@ -38,7 +27,6 @@ pub decode-requires-clause-kind_in_bounds : goal.decode-requires-clause-kind_in_
 decode-requires-clause-kind_in_bounds c =
     let w = wide_bytes c.args.column.kind c.requires.kind_value in
     turn_room c.loop-r.invariant c.loop-r-test.true w.k w.says (λ i. (c.type_inv.rows i).fits) c.requires.readable c.requires.cursors_in_bounds
->>>>>>> 46644869e0dcddd7361352af0beb36373063e240
 
 pub overflow_add-cursors : goal.overflow_add-cursors
 overflow_add-cursors c =
@@ -48,46 +36,6 @@ overflow_add-cursors c =
 
 pub overflow_add-cursors-in-loop-r : goal.overflow_add-cursors-in-loop-r
 overflow_add-cursors-in-loop-r c =
-<<<<<<< HEAD
-    omega (
-      arith,
-      (let the_within : ((get_or c.loop-r.cursors c.loop-r.r 0)) < length (c.args.rows.now) = inside (c.args.column) (c.args.rows.now) ((get_or c.loop-r.cursors c.loop-r.r 0)) ((let the_readable : Good (cursor_field (c.args.column) (c.args.rows.now) ((get_or c.loop-r.cursors c.loop-r.r 0))) = move_readable c.loop-r.invariant c.loop-r-test.true c.requires.readable in the_readable)) in the_within),
-      ((let the_all_there : Whole (column_shape (c.args.column)) (c.args.column).options (drop ((get_or c.loop-r.cursors c.loop-r.r 0)) (c.args.rows.now)) = let kind = wide_bytes (c.args.column).kind c.requires.kind_value in
-          let bytes = bytes_of (c.args.rows.now) (λ i. (c.shared_slice_known-1.given i).fits) in
-          whole (column_shape (c.args.column)) kind.k (c.args.column).options (drop ((get_or c.loop-r.cursors c.loop-r.r 0)) (c.args.rows.now)) kind.says (bytes_drop ((get_or c.loop-r.cursors c.loop-r.r 0)) (c.args.rows.now) bytes) ((let the_readable : Good (cursor_field (c.args.column) (c.args.rows.now) ((get_or c.loop-r.cursors c.loop-r.r 0))) = move_readable c.loop-r.invariant c.loop-r-test.true c.requires.readable in the_readable)) in the_all_there)).there,
-      c.width-w.ensures,
-      length-drop ((get_or c.loop-r.cursors c.loop-r.r 0)) (c.args.rows.now),
-      c.good,
-    )
-
-pub overflow_add-place : goal.overflow_add-place
-overflow_add-place c =
-    omega (
-      arith,
-      (let the_room : c.loop-r.place + value_bytes (c.args.column).kind ≤ length c.loop-r.sheet = rw ((let the_all_there : Whole (column_shape (c.args.column)) (c.args.column).options (drop ((get_or c.loop-r.cursors c.loop-r.r 0)) (c.args.rows.now)) = let kind = wide_bytes (c.args.column).kind c.requires.kind_value in
-          let bytes = bytes_of (c.args.rows.now) (λ i. (c.shared_slice_known-1.given i).fits) in
-          whole (column_shape (c.args.column)) kind.k (c.args.column).options (drop ((get_or c.loop-r.cursors c.loop-r.r 0)) (c.args.rows.now)) kind.says (bytes_drop ((get_or c.loop-r.cursors c.loop-r.r 0)) (c.args.rows.now) bytes) ((let the_readable : Good (cursor_field (c.args.column) (c.args.rows.now) ((get_or c.loop-r.cursors c.loop-r.r 0))) = move_readable c.loop-r.invariant c.loop-r-test.true c.requires.readable in the_readable)) in the_all_there)).slot_is at (move_room c.loop-r.invariant c.loop-r-test.true c.requires.cursors_in_bounds) in the_room),
-      c.width-w.ensures,
-      c.loop-r.invariant.wrote.1.same,
-      c.good,
-    )
-
-pub loop-r-preserved : goal.loop-r-preserved
-loop-r-preserved c =
-    let w = c.width-w in
-    let long = ((let the_all_there : Whole (column_shape (c.args.column)) (c.args.column).options (drop ((get_or c.loop-r.cursors c.loop-r.r 0)) (c.args.rows.now)) = let kind = wide_bytes (c.args.column).kind c.requires.kind_value in
-    let bytes = bytes_of (c.args.rows.now) (λ i. (c.shared_slice_known-1.given i).fits) in
-    whole (column_shape (c.args.column)) kind.k (c.args.column).options (drop ((get_or c.loop-r.cursors c.loop-r.r 0)) (c.args.rows.now)) kind.says (bytes_drop ((get_or c.loop-r.cursors c.loop-r.r 0)) (c.args.rows.now) bytes) ((let the_readable : Good (cursor_field (c.args.column) (c.args.rows.now) ((get_or c.loop-r.cursors c.loop-r.r 0))) = move_readable c.loop-r.invariant c.loop-r-test.true c.requires.readable in the_readable)) in the_all_there)).slot_is ∙ sym w.ensures in
-    let next : (get_or c.loop-r.cursors c.loop-r.r 0) + 1 + w.result ≡ next_at (c.args.column) (c.args.rows.now) ((get_or c.loop-r.cursors c.loop-r.r 0)) = omega (
-      arith,
-      w.ensures,
-      ((let the_all_there : Whole (column_shape (c.args.column)) (c.args.column).options (drop ((get_or c.loop-r.cursors c.loop-r.r 0)) (c.args.rows.now)) = let kind = wide_bytes (c.args.column).kind c.requires.kind_value in
-          let bytes = bytes_of (c.args.rows.now) (λ i. (c.shared_slice_known-1.given i).fits) in
-          whole (column_shape (c.args.column)) kind.k (c.args.column).options (drop ((get_or c.loop-r.cursors c.loop-r.r 0)) (c.args.rows.now)) kind.says (bytes_drop ((get_or c.loop-r.cursors c.loop-r.r 0)) (c.args.rows.now) bytes) ((let the_readable : Good (cursor_field (c.args.column) (c.args.rows.now) ((get_or c.loop-r.cursors c.loop-r.r 0))) = move_readable c.loop-r.invariant c.loop-r-test.true c.requires.readable in the_readable)) in the_all_there)).field_long,
-    ) in
-    rw (c.decode.ensures, part_to_end (c.args.rows.now) ((get_or c.loop-r.cursors c.loop-r.r 0)))
-    (move_more c.loop-r.invariant c.loop-r-test.true w.result ((get_or c.loop-r.cursors c.loop-r.r 0) + 1 + w.result) long next)
-=======
     let w = wide_bytes c.args.column.kind c.requires.kind_value in
     let there = turn_there c.loop-r.invariant c.loop-r-test.true w.k w.says (λ i. (c.type_inv.rows i).fits) c.requires.readable in
     omega (arith, there)
@@ -103,7 +51,6 @@ loop-r-preserved c =
     let w = wide_bytes c.args.column.kind c.requires.kind_value in
     rw (rw (part_to_end c.args.rows.now (get_or c.loop-r.cursors c.loop-r.r 0)) at c.decode.ensures)
     (turn_more c.loop-r.invariant c.loop-r-test.true w.k w.says (λ i. (c.type_inv.rows i).fits) c.requires.readable c.width-w.result c.width-w.ensures)
->>>>>>> 46644869e0dcddd7361352af0beb36373063e240
 
 pub returns-clause-wrote : goal.returns-clause-wrote
 returns-clause-wrote c =
