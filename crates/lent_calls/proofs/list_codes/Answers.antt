@@ -9,8 +9,9 @@ returns-in-Refuse c =
 -- ---- nothing is at fault
 pub put_codes-requires : goal.put_codes-requires
 put_codes-requires c =
-    let args = c.args in
-    record { count_le_max_columns = (roomy args.list.now args.codes.now _ c.read_list-listed.ensures _ (c.column_room-fault.ensures _ c.read_list-listed.ensures) c.in_default.is).0; count_in_bounds = (roomy args.list.now args.codes.now _ c.read_list-listed.ensures _ (c.column_room-fault.ensures _ c.read_list-listed.ensures) c.in_default.is).1 }
+    let there = roomy c.args.list.now c.args.codes.now _ c.read_list-listed.ensures _ (c.column_room-fault.ensures _ c.read_list-listed.ensures)
+    c.in_default.is in
+    record { count_le_max_columns = there.0; count_in_bounds = there.1 }
 
 pub returns : goal.returns
 returns c =
