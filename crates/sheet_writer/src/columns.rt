@@ -152,7 +152,8 @@ fn write_512(schema: Schema, n: usize, rows: &[u8], offsets: &[u64], sheet: &mut
     write_rows(schema, n, rows, offsets, &mut cursors, sheet)
 }
 
-// The same in an array of 2,048 cursors.
+// The same in an array of 2,048 cursors, which stays out of the caller's frame.
+#[inline(never)]
 fn write_2048(schema: Schema, n: usize, rows: &[u8], offsets: &[u64], sheet: &mut [u8]) -> Written
     requires n_bound { n ≤ 2048 }
     requires decodable { Decodable schema n rows.now offsets.now sheet.old }
@@ -163,7 +164,8 @@ fn write_2048(schema: Schema, n: usize, rows: &[u8], offsets: &[u64], sheet: &mu
     write_rows(schema, n, rows, offsets, &mut cursors, sheet)
 }
 
-// The same in an array of 4,096 cursors.
+// The same in an array of 4,096 cursors, likewise.
+#[inline(never)]
 fn write_4096(schema: Schema, n: usize, rows: &[u8], offsets: &[u64], sheet: &mut [u8]) -> Written
     requires n_le_max_rows { n ≤ max_rows }
     requires decodable { Decodable schema n rows.now offsets.now sheet.old }

@@ -1,5 +1,5 @@
-// Look-up with the smallest array of numbers that will do: each size has a function of its own, so that a call clears no more. Six tests stand
-// before the arrays of more than 513, so that the optimiser takes these calls for rare and leaves the arrays out of the caller's frame.
+// Look-up with the smallest array of numbers that will do: each size has a function of its own, so that a call clears no more. The functions of
+// more than 513 numbers are never inlined, so that their arrays stay out of the caller's frame.
 #![tactic(auto)]
 
 ghost use Rattle.std.specs.Prelude.{◌+◌, ◌*◌, ◌≤◌, length};
@@ -155,6 +155,7 @@ fn look_up_513(
 }
 
 // The same in an array of 2,049 numbers.
+#[inline(never)]
 fn look_up_2049(
     listed: Listed,
     k: u64,
@@ -175,6 +176,7 @@ fn look_up_2049(
 }
 
 // The same in an array of 4,097 numbers.
+#[inline(never)]
 fn look_up_4097(
     listed: Listed,
     k: u64,
