@@ -4,7 +4,7 @@
 ghost use Rattle.std.specs.Prelude.{◌≡◌};
 ghost use Rattle.format.specs.Numbers.{fault_number, refusal_numbers, numbers_of};
 
-use format::{Answer, Refusal, Returned, RowFault};
+use format::{Refusal, Returned, RowFault};
 
 // The number of a row's fault.
 fn fault_number(f: RowFault) -> u64
@@ -58,11 +58,11 @@ pub fn refusal_numbers(r: Refusal) -> Returned
 }
 
 // The four numbers of an answer.
-pub fn numbers(a: Answer) -> Returned
+pub fn numbers(a: Result<(u64, u64), Refusal>) -> Returned
     ensures { result ≡ numbers_of a }
 {
     match a {
-        Answer::Done(second, third) => Returned(0, second, third, 0),
-        Answer::Refused(r) => refusal_numbers(r),
+        Ok((second, third)) => Returned(0, second, third, 0),
+        Err(r) => refusal_numbers(r),
     }
 }

@@ -2,12 +2,12 @@
 -- start, comes out. Assumes nothing.
 use Prim.Native.Nat.{ℕ, suc, ◌+◌, ◌-◌, ◌<◌, ◌≤◌}
 use mathlib.Core.Path.{◌≡◌, refl, sym, ap, ap₂, ◌∙◌, subst}
-use mathlib.Core.List.{List, [], ◌∷◌, ◌++◌, map}
+use mathlib.Core.List.{List, [], ◌∷◌, ◌++◌}
 use native.Mathlib.Nat.{add-zero, add-suc, suc-add}
 use native.Mathlib.Numerals.{add-one}
 use native.Mathlib.Omega.{arith}
-use lib.ListN.{length, get_or, set, drop, replicate, length-append, drop_of_length-le}
-use lib.Seq.{sets, length-sets, drop-cons, sets-eq}
+use lib.ListN.{length, set, drop, length-append}
+use lib.Seq.{sets, length-sets, sets-eq}
 use Rattle.format.specs.Lists.{each, joined, over}
 
 -- one run of bytes after another
@@ -56,26 +56,8 @@ pub walk_piece : {whole rest out₀ : List ℕ} {at₀ : ℕ} {out : List ℕ} {
     → rest ≡ piece ++ rest' → length piece ≡ w → Walk whole rest' out₀ at₀ (sets out at piece) (at + w)
 walk_piece {at} w piece rest' t e l = walk_at (at + w) (walk_more t piece rest' e) (omega arith)
 
--- a byte more, where the place is counted from `at`
-pub walk_byte : {whole rest out₀ : List ℕ} {at₀ : ℕ} {out : List ℕ} (at i x : ℕ) (rest' : List ℕ) → Walk whole rest out₀ at₀ out (at + i)
-    → rest ≡ (x ∷ []) ++ rest' → Walk whole rest' out₀ at₀ (set out (at + i) x) (at + (i + 1))
-walk_byte at i x rest' t e = walk_at (at + (i + 1)) (walk_more t (x ∷ []) rest' e) (omega arith)
-
 pub walk_first : (whole rest out : List ℕ) (at : ℕ) → rest ≡ whole → Walk whole rest out at out (at + 0)
 walk_first whole rest out at e = record { long = omega (arith, ap length e); same = refl; says = ap₂ (sets out) (add-zero at) e }
-
--- ---- copying, byte by byte
-pub copy_step : (f : ℕ → ℕ) (l : List ℕ) (i : ℕ) → i < length l → map f (drop i l) ≡ (f (get_or l i 0) ∷ []) ++ map f (drop (i + 1) l)
-copy_step f l i h = rw (add-one i, drop-cons l i 0 h)
-
-pub copy_end : (f : ℕ → ℕ) (l : List ℕ) (i : ℕ) → length l ≤ i → map f (drop i l) ≡ []
-copy_end f l i h = ap (map f) (drop_of_length-le l {i = i} h)
-
-pub zeros_step : (m i : ℕ) → i < m → replicate {A = ℕ} (m - i) 0 ≡ (0 ∷ []) ++ replicate {A = ℕ} (m - (i + 1)) 0
-zeros_step m i h = ap (λ (k : ℕ). replicate {A = ℕ} k 0) {x = m - i} {y = suc (m - (i + 1))} (omega arith)
-
-pub zeros_end : (m i : ℕ) → m ≤ i → replicate {A = ℕ} (m - i) 0 ≡ []
-zeros_end m i h = ap (λ (k : ℕ). replicate {A = ℕ} k 0) {x = m - i} {y = 0} (omega arith)
 
 -- ---- a walk that appends a piece for each of n turns
 pub each_step : {A : Type 0} (f : ℕ → A) (n r : ℕ) → r < n → each r (n - r) f ≡ f r ∷ each (suc r) (n - suc r) f

@@ -1,14 +1,14 @@
 -- What the check of a batch answers where the offsets are refused, and where the walk over the rows was taken. Assumes nothing.
-use Prim.Native.Nat.{ℕ, ◌+◌, ◌≤◌}
+use Prim.Native.Nat.{ℕ, ◌+◌}
 use mathlib.Core.Path.{◌≡◌, ap, sym, ◌∙◌}
 use mathlib.Core.List.{List, map}
 use native.Mathlib.Omega.{arith}
 use lib.ListN.{length, length-map}
-use Rattle.format.specs.declared.Check.{Check}
-use Rattle.format.specs.declared.Check.TheVariants.{Pass, Refuse}
+use Rattle.format.specs.Check.{Check, both, verdict}
+use Rattle.std.specs.declared.result.Result.TheVariants.{Ok, Err}
+use Rattle.std.specs.declared.result.Result.{Result}
 use Rattle.format.specs.declared.Column.{Column}
 use Rattle.format.specs.declared.Refusal.{Refusal}
-use Rattle.format.specs.Check.{both}
 use Rattle.format.specs.Lists.{Bytes, sum}
 use Rattle.format.specs.Read.{row_slots, rows_fault}
 use Rattle.format.specs.Sheet.{layout}
@@ -20,7 +20,6 @@ use Rattle.basics.proofs.Lists.{length_each}
 use Rattle.laws.proofs.Room.{cleared_length}
 use Rattle.row_reader.specs.Walk.{Finds}
 use Rattle.batch_reader.specs.Batch.{Checks}
-use Rattle.row_reader.specs.declared.Checked.{Checked}
 use Rattle.laws.proofs.ReadRow.{rows_passed}
 
 module _ (n : ℕ) (cols : List Column) (bytes offsets : List ℕ) where
@@ -28,17 +27,28 @@ module _ (n : ℕ) (cols : List Column) (bytes offsets : List ℕ) where
   rows = cut_rows n bytes offsets
 
   -- the offsets are refused
-  pub refused : {x : Refusal} (room : ℕ) → offsets_fault n bytes offsets ≡ Refuse x → Checks n cols bytes offsets (record { check = Refuse x; bytes = room })
-  refused room e = record { check = sym (ap (λ (y : Check). both y (rows_fault 0 cols rows)) e); room = λ p. absurd (refuse_pass p) }
+  pub refused : {x : Refusal} → offsets_fault n bytes offsets ≡ Err x → Checks n cols bytes offsets (Err x)
+  refused e = record { check = sym (ap (λ (y : Check). both y (rows_fault 0 cols rows)) e); room = λ b p. absurd (refuse_pass (ap verdict p)) }
 
   -- the offsets pass, and the rows were walked over
-  pub walked : Bytes bytes → offsets_fault n bytes offsets ≡ Pass → (frames : ℕ) → frames ≡ sum (map (λ col. frame (layout col) n) cols)
-      → (w : Checked) → Finds cols rows w → Checks n cols bytes offsets (record { check = w.check; bytes = frames + w.bytes })
-  walked b e frames h w f = record {
-    check = f.check ∙ sym (ap (λ (y : Check). both y (rows_fault 0 cols rows)) e);
-    room = λ p.
-        let q : rows_fault 0 cols rows ≡ Pass = sym f.check ∙ p in
+  module _ (b : Bytes bytes) (e : offsets_fault n bytes offsets ≡ Ok tt) (w : Result ℕ Refusal) (f : Finds cols rows w) where
+    check : verdict w ≡ both (offsets_fault n bytes offsets) (rows_fault 0 cols rows)
+    check = f.check ∙ sym (ap (λ (y : Check). both y (rows_fault 0 cols rows)) e)
+
+    -- the rows are refused
+    pub bad_rows : {x : Refusal} → w ≡ Err x → Checks n cols bytes offsets (Err x)
+    bad_rows p = record { check = sym (ap verdict p) ∙ check; room = λ b p. absurd (refuse_pass (ap verdict p)) }
+
+    -- they are not
+    pub walked : (added : ℕ) → w ≡ Ok added → (frames : ℕ) → frames ≡ sum (map (λ col. frame (layout col) n) cols)
+        → Checks n cols bytes offsets (Ok (frames + added))
+    walked added p frames h =
+        let q : rows_fault 0 cols rows ≡ Ok tt = sym f.check ∙ ap verdict p in
         let count : length (map (row_slots cols) rows) ≡ n = length-map rows (row_slots cols) ∙ length_each 0 n (row_bytes bytes offsets) in
         let fit = (rows_passed 0 cols rows (cut_bytes n bytes offsets b) q).1 in
-        omega (arith, f.adds q, cleared_length n cols (map (row_slots cols) rows) count fit);
-  }
+        record {
+          check = sym (ap verdict p) ∙ check;
+          room = λ r s.
+              let same : frames + added ≡ r = cc in
+              omega (arith, same, f.adds added p, cleared_length n cols (map (row_slots cols) rows) count fit);
+        }

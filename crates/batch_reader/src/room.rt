@@ -31,15 +31,9 @@ pub fn frames(schema: Schema, n: usize) -> usize
     requires limited { Limited schema }
     ensures { (result ≡ sum (map (λ col. frame (layout col) n) (cols_of schema))) × (result ≤ max_columns * widest_frame) }
 {
-    let count = schema.count;
-    let columns = schema.columns;
     let mut bytes = 0;
-    let mut c = 0;
-    while c < count {
-        let column = columns[c];
-        let kind = column.kind;
-        bytes += frame_bytes(kind, n);
-        c += 1;
+    for column in &schema.columns[..schema.count] {
+        bytes += frame_bytes(column.kind, n);
     }
     bytes
 }

@@ -8,7 +8,7 @@ use lib.Dec.{eqb}
 use lib.ListN.{length, get_or, take, drop, length-append, get_or-eq_default, get_or-append}
 use lib.Seq.{take_at, drop-drop, get_or-take, get_or-drop}
 use borrow.Author.Tests.{le-ltb}
-use Rattle.format.specs.declared.Check.TheVariants.{Pass}
+use Rattle.std.specs.declared.result.Result.TheVariants.{Ok}
 use Rattle.format.specs.Sheet.{packed, bit, any_bit, spare_set, bits_fault}
 use Rattle.format.specs.Cleared.{byte_of, pack}
 use Rattle.bits.proofs.Flags.{flag_eq, byte_bit}
@@ -72,7 +72,7 @@ spare_pack n fs e =
     (λ j a b. bit_pack (packed n) fs j (omega (arith, length_pack (packed n) fs)) ∙ get_or-eq_default fs false (omega arith))
 
 -- what was packed, before t, passes
-pub bits_pass : (n c : ℕ) (fs : List Bool) (t : List ℕ) → length fs ≡ n → bits_fault n c (pack (packed n) fs ++ t) ≡ Pass
+pub bits_pass : (n c : ℕ) (fs : List Bool) (t : List ℕ) → length fs ≡ n → bits_fault n c (pack (packed n) fs ++ t) ≡ Ok tt
 bits_pass n c fs t e =
     rw (le-ltb (length (p ++ t)) (packed n) (omega (arith, length-append p t, l)))
     (rw (take_at p t (packed n) l) (rw (spare_pack n fs e)))

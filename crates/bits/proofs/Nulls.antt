@@ -9,7 +9,7 @@ use lib.Dec.{T, ltb}
 use lib.ListN.{length, get_or, take, drop}
 use lib.Seq.{drop-cons, drop-length, length-take-le}
 use borrow.Author.Tests.{ltb-false}
-use Rattle.format.specs.declared.Check.TheVariants.{Pass}
+use Rattle.std.specs.declared.result.Result.TheVariants.{Ok}
 use Rattle.format.specs.Lists.{Bytes, each}
 use Rattle.format.specs.Kinds.{Slot}
 use Rattle.format.specs.Sheet.{Layout, packed, bit, any_bit, spare_set, bits_fault, slot_if, value_at, slot_at, column_slots, nulls_in}
@@ -81,7 +81,7 @@ ones_from bs b a (suc d) e =
 
 -- ---- validity bytes of n rows in front of s
 -- what passes: the bytes are there, and no spare bit is set
-pub bits_passed : (n c : ℕ) (s : List ℕ) → bits_fault n c s ≡ Pass → (packed n ≤ length s) × (spare_set (take (packed n) s) n ≡ false)
+pub bits_passed : (n c : ℕ) (s : List ℕ) → bits_fault n c s ≡ Ok tt → (packed n ≤ length s) × (spare_set (take (packed n) s) n ≡ false)
 bits_passed n c s e =
     let cut = fail_if_pass (ltb (length s) (packed n)) _ _ e in
     (ltb-false (length s) (packed n) cut.0, (fail_if_pass (spare_set (take (packed n) s) n) _ _ cut.1).0)
@@ -114,7 +114,7 @@ nulls_set ly n s i (suc k) =
     omega (arith, nulls_set ly n s (suc i) k)
 
 -- the nulls of a column whose validity bytes pass, and their ones, are n together
-pub column_nulls : (ly : Layout) (n c : ℕ) (s : List ℕ) → Bytes s → bits_fault n c s ≡ Pass
+pub column_nulls : (ly : Layout) (n c : ℕ) (s : List ℕ) → Bytes s → bits_fault n c s ≡ Ok tt
     → nulls_in (column_slots ly n s) + ones_in (take (packed n) s) ≡ n
 column_nulls ly n c s b e =
     let p = bits_passed n c s e in

@@ -7,6 +7,8 @@ ghost use Rattle.format.specs.Limits.{max_rows};
 ghost use Rattle.format.specs.Sheet.{packed as packedFor, bit as bit_of, spare_set, first_clear};
 ghost use Rattle.bits.specs.Ones.{ones_in};
 
+use number::Word;
+
 // The bytes that the bits of n rows are packed in.
 pub fn packed(n: usize) -> usize
     requires { n ≤ max_rows }
@@ -39,10 +41,8 @@ pub fn count_ones(s: &[u8]) -> usize
     ensures upper_bound { result ≤ 8 * length s.now }
 {
     let mut n: usize = 0;
-    let mut i = 0;
-    while i < s.len() {
-        n += u8::count_ones(s[i]) as usize;
-        i += 1;
+    for byte in s {
+        n += byte.count_ones() as usize;
     }
     n
 }
@@ -66,14 +66,12 @@ fn set_words(s: &[u8], n: usize) -> usize
     ensures result_value { first_clear s.now result (n - result) ≡ first_clear s.now 0 n }
 {
     let words = n / 64;
-    let mut k: usize = 0;
-    while k < words {
-        if number::low64(s, 8 * k) != u64::MAX {
+    for k in 0..words {
+        if u64::low(s, 8 * k) != u64::MAX {
             return 64 * k;
         }
-        k += 1;
     }
-    64 * k
+    64 * words
 }
 
 // The first row of n whose bit is clear, or n: a word at a time, and then bit by bit in the word that has it or is the last.
@@ -81,12 +79,10 @@ pub fn first_clear(s: &[u8], n: usize) -> usize
     requires { packedFor n ≤ length s.now }
     ensures { result ≡ first_clear s.now 0 n }
 {
-    let mut row = set_words(s, n);
-    while row < n {
+    for row in set_words(s, n)..n {
         if !bit(s, row) {
             return row;
         }
-        row += 1;
     }
-    row
+    n
 }

@@ -1,13 +1,15 @@
 -- The marks of a block's bytes, and how many bytes of a value come before a block. Assumes nothing.
-use Prim.Native.Nat.{ℕ, zero, suc, ◌+◌, ◌-◌, ◌*◌, ◌/◌, ◌%◌, ◌^◌, ◌<◌, ◌≤◌}
-use mathlib.Core.Path.{◌≡◌, refl, sym, ap, ◌∙◌}
+use Prim.Native.Nat.{ℕ, zero, suc, ◌+◌, ◌-◌, ◌*◌, ◌/◌, ◌%◌, ◌^◌, ◌<◌, ◌≤◌, min}
+use mathlib.Core.Path.{◌≡◌, refl, ap, ◌∙◌}
 use mathlib.Core.Bool.{Bool, true, false, cond, not, false≢true, ◌||◌}
+use native.Mathlib.Nat.{mod-lt}
 use native.Mathlib.Numerals.{add-one}
 use native.Mathlib.Omega.{arith}
-use lib.Dec.{ltb, eqb}
+use lib.Count.{under, count_trailing_zeros}
+use lib.Dec.{ltb, eqb, lit<}
 use lib.Pow.{shl_exact, pow_mono}
 use mir.Val.{bool_byte}
-use borrow.Author.Tests.{ltb-true, ltb-false, leb-true, lt-ltb, le-ltb, eq-eqb, ne_eqb}
+use borrow.Author.Tests.{ltb-true, leb-true, lt-ltb, le-ltb, eq-eqb, ne_eqb}
 use Rattle.format.specs.declared.SortOptions.{SortOptions}
 use Rattle.format.specs.declared.RowFault.TheVariants.{EndByte, Padding, TooLong}
 use Rattle.format.specs.declared.Spot.TheVariants.{Block}
@@ -37,30 +39,18 @@ mark_fits byte marks seen h l = go (eqb byte 0)
     go true = omega (arith, most)
     go false = omega (arith, most)
 
--- ---- the lowest bit that is set: i bits are passed, and left is what stands above them
-pub record Lowest (marks left i : ℕ) : Type 0 where
-  pub most : i ≤ 32
-  pub says : i + lowest (32 - i) left ≡ lowest 32 marks
-
-pub lowest_start : (marks : ℕ) → Lowest marks marks 0
-lowest_start marks = record { most = omega arith; says = omega arith }
-
-module _ {marks left i : ℕ} (w : Lowest marks left i) (more : i < 32) where
-  one_more : lowest (32 - i) left ≡ cond (eqb (left % 2) 1) 0 (suc (lowest (32 - (i + 1)) (left / 2)))
-  one_more = ap (λ (n : ℕ). lowest n left) (let z : 32 - i ≡ suc (32 - (i + 1)) = omega arith in z)
-
-  pub lowest_found : left % 2 ≡ 1 → i ≡ lowest 32 marks
-  lowest_found e = let z = one_more ∙ sym (when _ (eq-eqb (left % 2) 1 e)) in omega (arith, w.says)
-
-  pub lowest_next : (left % 2 ≡ 1 → ⊥) → Lowest marks (left / 2) (i + 1)
-  lowest_next n =
-      let z = one_more ∙ sym (unless {z = suc (lowest (32 - (i + 1)) (left / 2))} _ (ne_eqb (left % 2) 1 n) refl) in
-      record { most = omega arith; says = omega (arith, w.says) }
-
-pub lowest_none : {marks left i : ℕ} → Lowest marks left i → 32 ≤ i → i ≡ lowest 32 marks
-lowest_none {marks} {left} {i} w h =
-    let z : lowest (32 - i) left ≡ 0 = ap (λ (n : ℕ). lowest n left) (let y : 32 - i ≡ 0 = omega arith in y) in
-    omega (arith, w.says)
+-- ---- the lowest of n bits that is set stands past the zeros below it, which k bits have
+pub zeros_below : (n k m : ℕ) → n ≤ k → min (count_trailing_zeros k m) n ≡ lowest n m
+unfolding count_trailing_zeros
+zeros_below zero k m h = omega arith
+zeros_below (suc n) zero m h = absurd (omega arith)
+zeros_below (suc n) (suc k) m h = go (m % 2) (mod-lt m (lit< tt)) (zeros_below n k (m / 2) (omega arith))
+  where
+    go : (d : ℕ) → d < 2 → min (count_trailing_zeros k (m / 2)) n ≡ lowest n (m / 2)
+        → min (under d (count_trailing_zeros k (m / 2))) (suc n) ≡ cond (eqb d 1) 0 (suc (lowest n (m / 2)))
+    go zero l below = omega arith
+    go (suc zero) l below = omega arith
+    go (suc (suc d)) l below = absurd (omega arith)
 
 -- ---- blocks
 

@@ -38,16 +38,7 @@ fn marked(marks: u64, seen: usize, byte: u8) -> u64
 fn lowest(marks: u64) -> u64
     ensures { (result ≡ lowestOf 32 marks) × (result ≤ 32) }
 {
-    let mut left = marks;
-    let mut i = 0;
-    while i < 32 {
-        if left % 2 == 1 {
-            return i;
-        }
-        left /= 2;
-        i += 1;
-    }
-    i
+    marks.trailing_zeros().min(32) as u64
 }
 
 // The end byte of block k, all of whose bytes are seen: 20, 21, 23.

@@ -10,7 +10,7 @@ ghost use Rattle.format.specs.Entries.{sign};
 ghost use Rattle.format.specs.Promises.{Compared};
 ghost use Rattle.byte_order.specs.Least.{Least};
 
-use number::{Coding, encode64, low64};
+use number::{Coding, Word, encode};
 
 const LESS: i32 = -1;
 
@@ -25,7 +25,7 @@ const WORD: usize = 8;
 pub fn least(n: usize, m: usize) -> usize
     ensures { Least n m result }
 {
-    if n < m { n } else { m }
+    n.min(m)
 }
 
 // The word at a place of s, high byte first.
@@ -33,7 +33,7 @@ fn word(s: &[u8], at: usize) -> u64
     requires { at + 8 ≤ length s.now }
     ensures { low_bytes 8 result ≡ reverse (take 8 (drop at s.now)) }
 {
-    encode64(Coding::Unsigned, low64(s, at))
+    encode(Coding::Unsigned, u64::low(s, at))
 }
 
 // −1 or 1, of two words that differ. Words that do not are the common case, and cost one test.
@@ -48,10 +48,8 @@ fn differ(x: u64, y: u64) -> i32
 fn compare_bytes(a: &[u8], b: &[u8]) -> i32
     ensures { Compared a.now b.now result }
 {
-    let n = a.len();
     let m = b.len();
-    let mut i = 0;
-    while i < n {
+    for i in 0..a.len() {
         if m <= i {
             return GREATER;
         }
@@ -63,9 +61,8 @@ fn compare_bytes(a: &[u8], b: &[u8]) -> i32
         if y < x {
             return GREATER;
         }
-        i = i + 1;
     }
-    if i < m {
+    if a.len() < m {
         return LESS;
     }
     EQUAL
@@ -82,14 +79,12 @@ pub fn compare(a: &[u8], b: &[u8]) -> i32
         return compare_bytes(a, b);
     }
     let last = k - WORD;
-    let mut i = 0;
-    while i < last {
+    for i in (0..last).step_by(WORD) {
         let x = word(a, i);
         let y = word(b, i);
         if x != y {
             return differ(x, y);
         }
-        i += WORD;
     }
     let x = word(a, last);
     let y = word(b, last);

@@ -6,62 +6,68 @@ use lib.ListN.{length}
 use borrow.Author.Tests.{lt-ltb, le-ltb}
 use Rattle.format.specs.declared.Refusal.{Refusal}
 use Rattle.format.specs.declared.Refusal.TheVariants.{ManyRows, ColumnRoom}
-use Rattle.format.specs.declared.Check.{Check}
-use Rattle.format.specs.declared.Check.TheVariants.{Pass, Refuse}
+use Rattle.format.specs.Check.{Check, both}
+use Rattle.std.specs.declared.result.Result.TheVariants.{Ok, Err}
 use Rattle.format.specs.declared.Schema.{Schema}
 use Rattle.format.specs.Limits.{max_rows}
-use Rattle.format.specs.Check.{both}
 use Rattle.format.specs.Columns.{spelled_columns}
 use Rattle.format.specs.Described.{ColumnList, spelled, list_fault}
-use Rattle.format.specs.Entries.{read_list_check}
-use Rattle.basics.proofs.Checks.{refuse_pass}
-use Rattle.list_reader.specs.declared.Listed.{Listed}
-use Rattle.list_reader.specs.Listing.{ListedAs}
-use Rattle.list_reader.proofs.Schemas.{sound}
-use Rattle.checks.specs.Begun.{Begun}
+use Rattle.format.specs.Entries.{row_count_fault, read_list_check}
+use Rattle.basics.proofs.Checks.{given_ok, given_err, enough, both_pass}
+use Rattle.list_reader.specs.Listing.{Listed, ListedAs, Sound}
+use Rattle.list_reader.proofs.Schemas.{list_refused, list_passed, sound}
+use Rattle.checks.specs.Begun.{Begun, ListedFor}
 
 -- checks one after the other, grouped either way
 pub both_grouped : (x y z : Check) → both x (both y z) ≡ both (both x y) z
-both_grouped Pass y z = refl
-both_grouped (Refuse r) y z = refl
+both_grouped (Ok tt) y z = refl
+both_grouped (Err r) y z = refl
 
 module _ (list : ColumnList) (n : ℕ) (r : Listed) (l : ListedAs list r) where
   -- the list is refused
-  pub bad_list : (x : Refusal) → r.check ≡ Refuse x → Begun list n r
-  bad_list x e =
-      let f : list_fault list ≡ Refuse x = sym l.check ∙ e in
-      record { check = rw f e; sound = λ p. absurd (refuse_pass (sym e ∙ p)); few = λ p. absurd (refuse_pass (sym e ∙ p)) }
+  pub bad_list : (x : Refusal) → r ≡ Err x → Begun list n (Err x)
+  bad_list x e = rw (list_refused list r x l e)
 
-  module _ (e : r.check ≡ Pass) where
-    passes : list_fault list ≡ Pass
-    passes = sym l.check ∙ e
-
+  module _ (schema : Schema) (e : r ≡ Ok schema) where
     -- there are too many rows
-    pub many_rows : (s : Schema) → max_rows < n → Begun list n (record { check = Refuse (ManyRows n); schema = s })
-    many_rows s h = record {
-      check = rw (passes, lt-ltb max_rows n h);
-      sound = λ p. absurd (refuse_pass p);
-      few = λ p. absurd (refuse_pass p);
-    }
+    pub many_rows : max_rows < n → Begun list n (Err (ManyRows n))
+    many_rows h = rw ((list_passed list r schema l e).0, lt-ltb max_rows n h)
 
     -- neither is refused
-    pub begun : n ≤ max_rows → Begun list n r
-    begun h = record { check = rw (passes, le-ltb max_rows n h) e; sound = λ _. sound list r l passes; few = λ _. h }
+    pub begun : n ≤ max_rows → Begun list n (Ok schema)
+    begun h = let p = list_passed list r schema l e in rw (p.0, le-ltb max_rows n h) (ap Ok p.1)
+
+-- ---- what a beginning says
+module _ (list : ColumnList) (n : ℕ) (r : Listed) (b : Begun list n r) where
+  pub begun_refused : (x : Refusal) → r ≡ Err x → both (list_fault list) (row_count_fault n) ≡ Err x
+  begun_refused x e = given_err (both (list_fault list) (row_count_fault n)) _ (sym e ∙ b)
+
+  pub begun_passed : (schema : Schema) → r ≡ Ok schema → both (list_fault list) (row_count_fault n) ≡ Ok tt
+  begun_passed schema e = (given_ok (both (list_fault list) (row_count_fault n)) _ (sym e ∙ b)).0
+
+  pub begun_sound : (schema : Schema) → r ≡ Ok schema → Sound list schema × (n ≤ max_rows)
+  begun_sound schema e =
+      let p = given_ok (both (list_fault list) (row_count_fault n)) _ (sym e ∙ b) in
+      let q = both_pass (list_fault list) (row_count_fault n) p.0 in
+      (sound list schema q.0 p.1, (enough max_rows n (ManyRows n) (Ok tt) q.1).0)
 
 -- ---- the list, then 29
 module _ (list : List ℕ) (room : ℕ) (r : Listed) (l : ListedAs (spelled list) r) where
-  pub bad_spelled : (x : Refusal) → r.check ≡ Refuse x → r.check ≡ read_list_check list room
+  pub bad_spelled : (x : Refusal) → r ≡ Err x → ListedFor list room (Err x)
   unfolding read_list_check
-  bad_spelled x e = rw (← l.check, e) refl
+  bad_spelled x e = rw (list_refused (spelled list) r x l e)
 
-  module _ (e : r.check ≡ Pass) where
-    counted : r.schema.count ≡ length (spelled_columns list)
-    counted = ap (λ (s : Schema). s.count) (l.schema (sym l.check ∙ e))
+  module _ (schema : Schema) (e : r ≡ Ok schema) where
+    counted : schema.count ≡ length (spelled_columns list)
+    counted = ap (λ (s : Schema). s.count) (list_passed (spelled list) r schema l e).1
 
-    pub short_columns : room < r.schema.count → Refuse (ColumnRoom r.schema.count) ≡ read_list_check list room
+    pub short_columns : room < schema.count → ListedFor list room (Err (ColumnRoom schema.count))
     unfolding read_list_check
-    short_columns h = rw (← l.check, e, ← counted, lt-ltb room r.schema.count h) refl
+    short_columns h = rw ((list_passed (spelled list) r schema l e).0, ← counted, lt-ltb room schema.count h) refl
 
-    pub enough_columns : r.schema.count ≤ room → Pass ≡ read_list_check list room
+    pub enough_columns : schema.count ≤ room → ListedFor list room (Ok schema)
     unfolding read_list_check
-    enough_columns h = rw (← l.check, e, ← counted, le-ltb room r.schema.count h) refl
+    enough_columns h =
+        let p = list_passed (spelled list) r schema l e in
+        let c : read_list_check list room ≡ Ok tt = rw (p.0, ← counted, le-ltb room schema.count h) refl in
+        rw c (ap Ok p.1)

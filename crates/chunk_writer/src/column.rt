@@ -30,11 +30,9 @@ fn write_fields(
     ensures { WroteEach (slot_field column n part.now) from to rows.old offsets.old
         rows.new offsets.new }
 {
-    let mut r = from;
-    while r < to {
+    for r in from..to {
         let at = offsets[r + 1] as usize;
         offsets[r + 1] = put_field(part, n, r, column, rows, at) as u64;
-        r += 1;
     }
 }
 

@@ -32,11 +32,9 @@ pub fn write_names(
 {
     let valid = bits::packed(n);
     let values = &part[valid..];
-    let mut r = from;
-    while r < to {
+    for r in from..to {
         let at = offsets[r + 1] as usize;
         let bit = has_value(full, part, r);
         offsets[r + 1] = put_name(bit, values, n, r, column.options, rows, at) as u64;
-        r += 1;
     }
 }

@@ -35,8 +35,7 @@ pub fn write_words(
 {
     let valid = bits::packed(n);
     let values = &part[valid..];
-    let mut r = from;
-    while r < to {
+    for r in from..to {
         let at = offsets[r + 1] as usize;
         let bit = has_value(full, part, r);
         offsets[r + 1] = put_slot(
@@ -50,6 +49,5 @@ pub fn write_words(
             rows,
             at,
         ) as u64;
-        r += 1;
     }
 }

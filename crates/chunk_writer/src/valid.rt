@@ -3,6 +3,8 @@ ghost use Rattle.std.specs.Prelude.{◌≡◌, true, ◌/◌, ◌<◌, ◌≤◌
 ghost use Rattle.format.specs.Sheet.{bit, packed};
 ghost use Rattle.chunk_writer.specs.Valid.{AllValid};
 
+use number::Word;
+
 // Whether all rows from `from` to before `to` have values, as far as one word tells: 64 rows that begin with a word of bits.
 pub fn all_valid(part: &[u8], from: usize, to: usize) -> bool
     requires { (from ≤ to) × (packed to ≤ length part.now) }
@@ -14,7 +16,7 @@ pub fn all_valid(part: &[u8], from: usize, to: usize) -> bool
     if to - from != 64 {
         return false;
     }
-    number::low64(part, from / 8) == u64::MAX
+    u64::low(part, from / 8) == u64::MAX
 }
 
 // Whether row r has one, where `full` says that all have.

@@ -1,5 +1,5 @@
 -- The loop of `read_codes`: what holds at its head, and what each way out of a turn gives. Assumes nothing.
-use Prim.Native.Nat.{ℕ, zero, suc, ◌+◌, ◌-◌, ◌/◌, ◌<◌, ◌≤◌}
+use Prim.Native.Nat.{ℕ, suc, ◌+◌, ◌-◌, ◌/◌, ◌<◌, ◌≤◌}
 use mathlib.Core.Path.{◌≡◌, refl, sym, ap, ap₂, ◌∙◌}
 use mathlib.Core.List.{List, [], ◌∷◌, ◌++◌, append-nil}
 use native.Mathlib.Numerals.{add-one}
@@ -9,14 +9,13 @@ use lib.Seq.{set_at, append_snoc}
 use Rattle.format.specs.declared.Column.{Column}
 use Rattle.format.specs.declared.Refusal.{Refusal}
 use Rattle.format.specs.declared.Refusal.TheVariants.{ListCut, ManyColumns}
-use Rattle.format.specs.declared.Check.TheVariants.{Pass, Refuse}
+use Rattle.std.specs.declared.result.Result.TheVariants.{Ok, Err}
 use Rattle.format.specs.Limits.{max_columns}
 use Rattle.format.specs.Lists.{each}
 use Rattle.format.specs.Schemas.{no_column}
 use Rattle.format.specs.Described.{code_at, column_of, held_fault, coded, columns}
 use Rattle.basics.proofs.Append.{each_step, each_none}
 use Rattle.basics.proofs.Lists.{map_each}
-use Rattle.list_reader.specs.declared.Listed.{Listed}
 use Rattle.list_reader.specs.Listing.{ListedAs}
 use Rattle.list_reader.proofs.Schemas.{refused, passed}
 use Rattle.list_reader.proofs.Judged.{Judged, judged-begin, judged_none, judged_full, judged_bad, judged_more, judged_end}
@@ -42,7 +41,7 @@ module _ (s : List ℕ) where
     says = ap (λ (m : ℕ). each 0 m (λ j. column_of (code_at s j))) {x = k - 0} {y = k} (omega arith);
   }
 
-  pub more : (array : List Column) (i : ℕ) (col : Column) → Turn array i → i < k → (i ≡ max_columns → ⊥) → held_fault i (code_at s i) ≡ Pass
+  pub more : (array : List Column) (i : ℕ) (col : Column) → Turn array i → i < k → (i ≡ max_columns → ⊥) → held_fault i (code_at s i) ≡ Ok tt
       → col ≡ column_of (code_at s i) → Turn (set array i col) (i + 1)
   more array i col t h left e is =
       let next = judged_more k (code_at s) i t.judged h left e in
@@ -58,21 +57,21 @@ module _ (s : List ℕ) where
             ∙ rw (is, add-one i, ← each_step (λ j. column_of (code_at s j)) k i h) t.says;
       }
 
-  pub empty : (r : Listed) → k ≡ 0 → r.check ≡ Refuse (ListCut 0) → ListedAs (coded s) r
-  empty r e a = refused (coded s) r (ListCut 0) a (judged_none k (code_at s) e)
+  pub empty : k ≡ 0 → ListedAs (coded s) (Err (ListCut 0))
+  empty e = refused (coded s) (ListCut 0) (judged_none k (code_at s) e)
 
-  module _ (array : List Column) (i : ℕ) (t : Turn array i) (r : Listed) where
-    pub full : i < k → i ≡ max_columns → r.check ≡ Refuse (ManyColumns i) → ListedAs (coded s) r
-    full h e a = refused (coded s) r (ManyColumns i) a (judged_full k (code_at s) i t.judged h e)
+  module _ (array : List Column) (i : ℕ) (t : Turn array i) where
+    pub full : i < k → i ≡ max_columns → ListedAs (coded s) (Err (ManyColumns i))
+    full h e = refused (coded s) (ManyColumns i) (judged_full k (code_at s) i t.judged h e)
 
-    pub bad : (x : Refusal) → i < k → (i ≡ max_columns → ⊥) → held_fault i (code_at s i) ≡ Refuse x → r.check ≡ Refuse x → ListedAs (coded s) r
-    bad x h left e a = refused (coded s) r x a (judged_bad k (code_at s) i t.judged x h left e)
+    pub bad : (x : Refusal) → i < k → (i ≡ max_columns → ⊥) → held_fault i (code_at s i) ≡ Err x → ListedAs (coded s) (Err x)
+    bad x h left e = refused (coded s) x (judged_bad k (code_at s) i t.judged x h left e)
 
-    pub good : k ≤ i → 0 < k → r.check ≡ Pass → r.schema.columns ≡ array → r.schema.count ≡ i → ListedAs (coded s) r
-    good h some a b c =
+    pub good : k ≤ i → 0 < k → (count : ℕ) → count ≡ i → ListedAs (coded s) (Ok (record { columns = array; count = count }))
+    good h some count c =
         let whole : t.read ≡ columns (coded s) =
         sym (append-nil t.read) ∙ ap (λ (l : List Column). t.read ++ l) (sym (each_none (λ j. column_of (code_at s j)) k i h)) ∙ t.says
         ∙ sym (map_each column_of 0 k (code_at s)) in
         let left : t.judged.room ≡ max_columns - length (columns (coded s)) = omega (arith, t.judged.counts, t.long, ap length whole) in
-        passed (coded s) r a (judged_end k (code_at s) i t.judged h some)
-        (b ∙ t.made ∙ ap₂ (λ (l : List Column) (m : ℕ). l ++ replicate m no_column) whole left) (c ∙ sym t.long ∙ ap length whole)
+        passed (coded s) array count (judged_end k (code_at s) i t.judged h some)
+        (t.made ∙ ap₂ (λ (l : List Column) (m : ℕ). l ++ replicate m no_column) whole left) (c ∙ sym t.long ∙ ap length whole)

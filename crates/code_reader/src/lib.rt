@@ -7,20 +7,18 @@ ghost use Rattle.list_reader.specs.Listing.{ListedAs};
 
 use column_facts::no_column;
 use descriptions::{check_numbers, kind_of, options_of};
-use format::{Check, Column, Refusal};
-use list_reader::{Listed, answered};
-use words::join16;
+use format::{Column, Refusal, Schema};
 
 // The width of the description at `at`.
 fn coded_width(codes: &[u8], at: usize) -> u16
     requires { at + 4 ≤ length codes.now }
     ensures { result ≡ get_or codes.now (at + 2) 0 + 256 * get_or codes.now (at + 3) 0 }
 {
-    join16(codes[at + 2], codes[at + 3])
+    u16::from_le_bytes([codes[at + 2], codes[at + 3]])
 }
 
 // The first fault of description i.
-fn check_code(codes: &[u8], i: usize) -> Check
+fn check_code(codes: &[u8], i: usize) -> Result<(), Refusal>
     requires { 4 * i + 4 ≤ length codes.now }
     ensures { result ≡ held_fault i (code_at codes.now i) }
 {
@@ -49,26 +47,21 @@ pub fn coded_column(codes: &[u8], i: usize) -> Column
 }
 
 // The descriptions, left to right: at each 5, then its own faults; a tail shorter than four bytes does not count.
-pub fn read_codes(codes: &[u8]) -> Listed
+pub fn read_codes(codes: &[u8]) -> Result<Schema, Refusal>
     ensures { ListedAs (coded codes.now) result }
 {
     let none = no_column();
     let mut columns = [none; format::MAX_COLUMNS];
-    let mut i: usize = 0;
     let count = codes.len() / 4;
     if count == 0 {
-        return answered(Check::Refuse(Refusal::ListCut(0)), columns, i);
+        return Err(Refusal::ListCut(0));
     }
-    while i < count {
+    for i in 0..count {
         if i == format::MAX_COLUMNS {
-            return answered(Check::Refuse(Refusal::ManyColumns(i)), columns, i);
+            return Err(Refusal::ManyColumns(i));
         }
-        let check = check_code(codes, i);
-        if let Check::Refuse(r) = check {
-            return answered(Check::Refuse(r), columns, i);
-        }
+        check_code(codes, i)?;
         columns[i] = coded_column(codes, i);
-        i += 1;
     }
-    answered(Check::Pass, columns, i)
+    Ok(Schema { columns, count })
 }

@@ -1,6 +1,6 @@
 -- Codes, written one after the other: the four bytes of one, and those of the columns in use. Assumes nothing.
 use Prim.Native.Nat.{ℕ, suc, ◌+◌, ◌*◌, ◌<◌, ◌≤◌}
-use mathlib.Core.Path.{◌≡◌, refl, sym, ap, ap₂, subst, ◌∙◌}
+use mathlib.Core.Path.{◌≡◌, refl, sym, ap, subst, ◌∙◌}
 use mathlib.Core.List.{List, [], ◌∷◌}
 use native.Mathlib.Omega.{arith}
 use lib.ListN.{length, get_or, set}
@@ -12,7 +12,7 @@ use Rattle.format.specs.Lists.{each, joined, over}
 use Rattle.format.specs.Schemas.{no_column, cols_of}
 use Rattle.format.specs.Described.{code, codes}
 use Rattle.basics.proofs.Append.{Turns, over_sets, turns_more, turns_end}
-use Rattle.basics.proofs.Lists.{Every, every_each, each_same, length_each, length_joined, map_is}
+use Rattle.basics.proofs.Lists.{every_each, each_same, length_each, length_joined, map_is}
 use Rattle.laws.proofs.InUse.{Held, in_use}
 
 -- four bytes, one after the other

@@ -33,9 +33,7 @@ pub fn put_codes(schema: Schema, out: &mut [u8])
 {
     let columns = schema.columns;
     let used = schema.count;
-    let mut i: usize = 0;
-    while i < used {
+    for i in 0..used {
         put_code(out, 4 * i, columns[i]);
-        i += 1;
     }
 }

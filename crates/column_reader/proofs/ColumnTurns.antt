@@ -1,21 +1,20 @@
 -- The loop of `judge`: what holds at its head, and what each way out of a turn gives. Assumes nothing.
 use Prim.Native.Nat.{ℕ, ◌+◌, ◌-◌, ◌<◌, ◌≤◌}
-use mathlib.Core.Path.{◌≡◌, refl, sym, ap, ap₂, subst, ◌∙◌}
+use mathlib.Core.Path.{◌≡◌, sym, ap, ◌∙◌}
 use mathlib.Core.List.{List, ◌++◌, append-nil}
 use native.Mathlib.Omega.{arith}
 use lib.ListN.{length, get_or, take, replicate, get_or-append, length-take, take-append-drop, drop_of_length-le}
-use lib.Seq.{get_or-take, length-take-le}
+use lib.Seq.{get_or-take}
 use Rattle.format.specs.declared.Column.{Column}
 use Rattle.format.specs.declared.Refusal.{Refusal}
 use Rattle.format.specs.declared.Refusal.TheVariants.{ListCut, ManyColumns}
-use Rattle.format.specs.declared.Check.{Check}
-use Rattle.format.specs.declared.Check.TheVariants.{Pass, Refuse}
+use Rattle.format.specs.Check.{Check}
+use Rattle.std.specs.declared.result.Result.TheVariants.{Ok, Err}
 use Rattle.format.specs.Limits.{max_columns}
 use Rattle.format.specs.Lists.{each}
 use Rattle.format.specs.Schemas.{no_column}
-use Rattle.format.specs.Described.{Description, held, held_fault, descriptions_fault, described, list_fault}
+use Rattle.format.specs.Described.{held, held_fault, descriptions_fault, described, list_fault}
 use Rattle.basics.proofs.Lists.{map_is}
-use Rattle.list_reader.specs.declared.Listed.{Listed}
 use Rattle.list_reader.specs.Listing.{ListedAs, array_of, OfArray}
 use Rattle.list_reader.proofs.Schemas.{refused, passed}
 use Rattle.list_reader.proofs.Judged.{Judged, judged-begin, judged_none, judged_full, judged_bad, judged_more, judged_end}
@@ -58,13 +57,13 @@ module _ (array : List Column) (count : ℕ) (cols : List Column) (made : array 
   faults x e = ap descriptions_fault (map_is held cols no_column) ∙ e
 
 -- ---- the ways on from the head of a turn
-pub none : (array : List Column) (count : ℕ) (r : Listed) → count ≡ 0 → r.check ≡ Refuse (ListCut 0) → OfArray array count (λ cols. ListedAs (described cols) r)
-none array count r e a cols made counts =
-    refused (described cols) r (ListCut 0) a
-    (faults array count cols made counts (Refuse (ListCut 0)) (judged_none (length cols) (λ j. held (get_or cols j no_column)) (sym counts ∙ e)))
+pub none : (array : List Column) (count : ℕ) → count ≡ 0 → OfArray array count (λ cols. ListedAs (described cols) (Err (ListCut 0)))
+none array count e cols made counts =
+    refused (described cols) (ListCut 0)
+    (faults array count cols made counts (Err (ListCut 0)) (judged_none (length cols) (λ j. held (get_or cols j no_column)) (sym counts ∙ e)))
 
 module _ (array : List Column) (count i : ℕ) (t : Turn array count i) where
-  pub more : i < count → (i ≡ max_columns → ⊥) → held_fault i (held (get_or array i no_column)) ≡ Pass → Turn array count (i + 1)
+  pub more : i < count → (i ≡ max_columns → ⊥) → held_fault i (held (get_or array i no_column)) ≡ Ok tt → Turn array count (i + 1)
   more h left e = record { few = within; most = omega arith; judged = next }
     where
       within : i + 1 ≤ max_columns
@@ -75,26 +74,24 @@ module _ (array : List Column) (count i : ℕ) (t : Turn array count i) where
           judged_more (length cols) (λ j. held (get_or cols j no_column)) i (t.judged cols made counts) (omega arith) left
           (ap (λ (col : Column). held_fault i (held col)) (sym (stands array count cols made counts i h (omega (arith, within)))) ∙ e)
 
-  module _ (r : Listed) where
-    pub full : i < count → i ≡ max_columns → r.check ≡ Refuse (ManyColumns i) → OfArray array count (λ cols. ListedAs (described cols) r)
-    full h e a cols made counts =
-        refused (described cols) r (ManyColumns i) a
-        (faults array count cols made counts _ (judged_full (length cols) (λ j. held (get_or cols j no_column)) i (t.judged cols made counts) (omega arith) e))
+  pub full : i < count → i ≡ max_columns → OfArray array count (λ cols. ListedAs (described cols) (Err (ManyColumns i)))
+  full h e cols made counts =
+      refused (described cols) (ManyColumns i)
+      (faults array count cols made counts _ (judged_full (length cols) (λ j. held (get_or cols j no_column)) i (t.judged cols made counts) (omega arith) e))
 
-    pub bad : (x : Refusal) → i < count → (i ≡ max_columns → ⊥) → held_fault i (held (get_or array i no_column)) ≡ Refuse x → r.check ≡ Refuse x
-        → OfArray array count (λ cols. ListedAs (described cols) r)
-    bad x h left e a cols made counts =
-        let judged = t.judged cols made counts in
-        refused (described cols) r x a
-        (faults array count cols made counts _
-        (judged_bad (length cols) (λ j. held (get_or cols j no_column)) i judged x (omega arith) left
-        (ap (λ (col : Column). held_fault i (held col)) (sym (stands array count cols made counts i h (omega (arith, t.few, left)))) ∙ e)))
+  pub bad : (x : Refusal) → i < count → (i ≡ max_columns → ⊥) → held_fault i (held (get_or array i no_column)) ≡ Err x
+      → OfArray array count (λ cols. ListedAs (described cols) (Err x))
+  bad x h left e cols made counts =
+      let judged = t.judged cols made counts in
+      refused (described cols) x
+      (faults array count cols made counts _
+      (judged_bad (length cols) (λ j. held (get_or cols j no_column)) i judged x (omega arith) left
+      (ap (λ (col : Column). held_fault i (held col)) (sym (stands array count cols made counts i h (omega (arith, t.few, left)))) ∙ e)))
 
-    pub good : count ≤ i → (count ≡ 0 → ⊥) → r.check ≡ Pass → r.schema.columns ≡ array → r.schema.count ≡ i
-        → OfArray array count (λ cols. ListedAs (described cols) r)
-    good h some a b c cols made counts =
-        let judged = t.judged cols made counts in
-        let few : length cols ≤ max_columns = omega (arith, t.few) in
-        passed (described cols) r a
-        (faults array count cols made counts Pass (judged_end (length cols) (λ j. held (get_or cols j no_column)) i judged (omega arith) (omega arith)))
-        (b ∙ made ∙ ap (λ (cs : List Column). cs ++ replicate (max_columns - length cols) no_column) (whole cols few)) (let e : r.schema.count ≡ length cols = omega (arith, t.most) in e)
+  pub good : count ≤ i → (count ≡ 0 → ⊥) → OfArray array count (λ cols. ListedAs (described cols) (Ok (record { columns = array; count = count })))
+  good h some cols made counts =
+      let judged = t.judged cols made counts in
+      let few : length cols ≤ max_columns = omega (arith, t.few, t.most) in
+      passed (described cols) array count
+      (faults array count cols made counts (Ok tt) (judged_end (length cols) (λ j. held (get_or cols j no_column)) i judged (omega arith) (omega arith)))
+      (made ∙ ap (λ (cs : List Column). cs ++ replicate (max_columns - length cols) no_column) (whole cols few)) counts

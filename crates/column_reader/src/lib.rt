@@ -9,8 +9,7 @@ ghost use Rattle.list_reader.specs.Listing.{ListedAs, OfArray, Used};
 
 use column_facts::no_column;
 use descriptions::{check_numbers, held_width, kind_number, options_number};
-use format::{Check, Column, Refusal};
-use list_reader::{Listed, answered};
+use format::{Column, Refusal, Schema};
 
 // How many of the lent columns are looked at: no more than a list may have.
 pub fn used_columns(lent: usize) -> usize
@@ -31,7 +30,7 @@ pub fn blank() -> [Column; format::MAX_COLUMNS]
 }
 
 // The first fault of description i.
-fn check_column(column: Column, i: usize) -> Check
+fn check_column(column: Column, i: usize) -> Result<(), Refusal>
     ensures { result ≡ held_fault i (held column) }
 {
     let kind = column.kind;
@@ -46,22 +45,17 @@ fn check_column(column: Column, i: usize) -> Check
 }
 
 // So many columns, of which the first 64 at most stand in the array, left to right: at each 5, then its own faults.
-pub fn judge(columns: [Column; format::MAX_COLUMNS], count: usize) -> Listed
+pub fn judge(columns: [Column; format::MAX_COLUMNS], count: usize) -> Result<Schema, Refusal>
     ensures { OfArray columns count (λ cols. ListedAs (described cols) result) }
 {
     if count == 0 {
-        return answered(Check::Refuse(Refusal::ListCut(0)), columns, count);
+        return Err(Refusal::ListCut(0));
     }
-    let mut i: usize = 0;
-    while i < count {
+    for i in 0..count {
         if i == format::MAX_COLUMNS {
-            return answered(Check::Refuse(Refusal::ManyColumns(i)), columns, i);
+            return Err(Refusal::ManyColumns(i));
         }
-        let check = check_column(columns[i], i);
-        if let Check::Refuse(r) = check {
-            return answered(Check::Refuse(r), columns, i);
-        }
-        i += 1;
+        check_column(columns[i], i)?;
     }
-    answered(Check::Pass, columns, i)
+    Ok(Schema { columns, count })
 }

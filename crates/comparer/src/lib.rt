@@ -39,22 +39,21 @@ pub fn write_orders(
 {
     let count = schema.count;
     let pairs = pair_count(numbers, bytes);
-    let mut k: usize = 0;
-    while k < pairs {
+    for k in 0..pairs {
         let i = row_at(numbers, bytes, 2 * k) as usize;
         let j = row_at(numbers, bytes, 2 * k + 1) as usize;
         let mut found = EQUAL;
-        let mut c: usize = 0;
-        while c < count {
+        for c in 0..count {
             let f = facts[c];
             let g = known[c];
             let base = f.base;
             let start = g.base;
             found = order_slots(f.column, n, &sheet[base..], i, m, &other[start..], j);
             // The first difference decides.
-            c = if found == EQUAL { c + 1 } else { count };
+            if found != EQUAL {
+                break;
+            }
         }
         answers[k] = found;
-        k += 1;
     }
 }

@@ -11,22 +11,19 @@ use Rattle.format.specs.declared.Schema.{Schema}
 use Rattle.format.specs.declared.RowFault.TheVariants.{Cut}
 use Rattle.format.specs.declared.Refusal.{Refusal}
 use Rattle.format.specs.declared.Refusal.TheVariants.{OffsetRoom, Row, BrokenState}
-use Rattle.format.specs.declared.Check.{Check}
-use Rattle.format.specs.declared.Check.TheVariants.{Pass, Refuse}
-use Rattle.format.specs.declared.Answer.{Answer}
-use Rattle.format.specs.declared.Answer.TheVariants.{Done, Refused}
+use Rattle.format.specs.Check.{Check, both, fail_if}
+use Rattle.std.specs.declared.result.Result.TheVariants.{Ok, Err}
+use Rattle.format.specs.Numbers.{Answer, numbers_of}
 use Rattle.format.specs.declared.Spot.TheVariants.{Start}
 use Rattle.format.specs.declared.Cutter.{Cutter}
-use Rattle.format.specs.Check.{both, fail_if}
 use Rattle.format.specs.Lists.{over}
-use Rattle.format.specs.Numbers.{numbers_of}
 use Rattle.format.specs.Described.{ColumnList, list_fault, columns}
 use Rattle.format.specs.Entries.{answer, written}
 use Rattle.format.specs.CutterRule.{keeps}
 use Rattle.format.specs.Cutter.{begun, refused, unless, fed, ends_in, started_with, start_answer, start_state, cut_fault, cut_answer, cut_state, cut_ends, finish_fault, finish_answer}
 use Rattle.format.specs.Promises.{Started, PieceCut, Finished}
-use Rattle.list_reader.specs.declared.Listed.{Listed}
-use Rattle.list_reader.specs.Listing.{ListedAs}
+use Rattle.list_reader.specs.Listing.{Listed, ListedAs}
+use Rattle.list_reader.proofs.Schemas.{list_refused, list_passed}
 use Rattle.cutter_step.specs.declared.Place.{Place}
 use Rattle.cutter.specs.declared.Left.{Left}
 use Rattle.cutter.specs.declared.Left.TheVariants.{Moved, Stopped}
@@ -39,23 +36,24 @@ use Rattle.cutter.specs.Calls.{kept_back, leaves, unless_refused, CutIn}
 -- ---- start
 
 module _ (list : ColumnList) (l : Listed) (is : ListedAs list l) (s : Cutter) where
-  pub start_refused : (r : Refusal) → l.check ≡ Refuse r → s ≡ refused r → Started list (Refused r) s
+  pub start_refused : (r : Refusal) → l ≡ Err r → s ≡ refused r → Started list (Err r) s
   unfolding start_answer start_state
   start_refused r e q =
-      let f : list_fault list ≡ Refuse r = sym is.check ∙ e in
+      let f = list_refused list l r is e in
       record {
         answers = sym (ap (λ (c : Check). numbers_of (answer c (length (columns list)) 0)) f);
         state = q ∙ sym (ap (λ (c : Check). started_with c (columns list)) f);
       }
 
-  pub start_begun : l.check ≡ Pass → s ≡ state_at l.schema (record { rows = 0; bytes = 0; row = 0; column = 0; spot = Start })
-      → Started list (Done l.schema.count 0) s
+  pub start_begun : (read : Schema) → l ≡ Ok read → s ≡ state_at read (record { rows = 0; bytes = 0; row = 0; column = 0; spot = Start })
+      → Started list (Ok (read.count, 0)) s
   unfolding start_answer start_state
-  start_begun e q =
-      let f : list_fault list ≡ Pass = sym is.check ∙ e in
-      let is-schema = is.schema f in
+  start_begun read e q =
+      let p = list_passed list l read is e in
+      let f = p.0 in
+      let is-schema = p.1 in
       record {
-        answers = ap (λ (schema : Schema). numbers_of (Done schema.count 0)) is-schema ∙ sym (ap (λ (c : Check). numbers_of (answer c (length (columns list)) 0)) f);
+        answers = ap (λ (schema : Schema). numbers_of (Ok (schema.count, 0))) is-schema ∙ sym (ap (λ (c : Check). numbers_of (answer c (length (columns list)) 0)) f);
         state =
             q
             ∙ ap (λ (schema : Schema). state_at schema (record { rows = 0; bytes = 0; row = 0; column = 0; spot = Start })) is-schema
@@ -65,29 +63,29 @@ module _ (list : ColumnList) (l : Listed) (is : ListedAs list l) (s : Cutter) wh
 -- ---- a call
 
 -- before the piece is read
-broken_fault : (s : Cutter) (size room : ℕ) → keeps s ≡ false → cut_fault s size room ≡ Refuse BrokenState
-broken_fault s size room e = ap (λ (t : Bool). fail_if (not t) BrokenState (both s.refusal (fail_if (ltb room size) (OffsetRoom size) Pass))) e
+broken_fault : (s : Cutter) (size room : ℕ) → keeps s ≡ false → cut_fault s size room ≡ Err BrokenState
+broken_fault s size room e = ap (λ (t : Bool). fail_if (not t) BrokenState (both s.refusal (fail_if (ltb room size) (OffsetRoom size) (Ok tt)))) e
 
 module _ (s : Cutter) (size room : ℕ) (k : keeps s ≡ true) where
-  kept_fault : cut_fault s size room ≡ both s.refusal (fail_if (ltb room size) (OffsetRoom size) Pass)
-  kept_fault = ap (λ (t : Bool). fail_if (not t) BrokenState (both s.refusal (fail_if (ltb room size) (OffsetRoom size) Pass))) k
+  kept_fault : cut_fault s size room ≡ both s.refusal (fail_if (ltb room size) (OffsetRoom size) (Ok tt))
+  kept_fault = ap (λ (t : Bool). fail_if (not t) BrokenState (both s.refusal (fail_if (ltb room size) (OffsetRoom size) (Ok tt)))) k
 
-  standing_fault : (r : Refusal) → s.refusal ≡ Refuse r → cut_fault s size room ≡ Refuse r
-  standing_fault r e = kept_fault ∙ ap (λ (c : Check). both c (fail_if (ltb room size) (OffsetRoom size) Pass)) e
+  standing_fault : (r : Refusal) → s.refusal ≡ Err r → cut_fault s size room ≡ Err r
+  standing_fault r e = kept_fault ∙ ap (λ (c : Check). both c (fail_if (ltb room size) (OffsetRoom size) (Ok tt))) e
 
-  module _ (e : s.refusal ≡ Pass) where
-    open_fault : cut_fault s size room ≡ fail_if (ltb room size) (OffsetRoom size) Pass
-    open_fault = kept_fault ∙ ap (λ (c : Check). both c (fail_if (ltb room size) (OffsetRoom size) Pass)) e
+  module _ (e : s.refusal ≡ Ok tt) where
+    open_fault : cut_fault s size room ≡ fail_if (ltb room size) (OffsetRoom size) (Ok tt)
+    open_fault = kept_fault ∙ ap (λ (c : Check). both c (fail_if (ltb room size) (OffsetRoom size) (Ok tt))) e
 
-    short_fault : room < size → cut_fault s size room ≡ Refuse (OffsetRoom size)
-    short_fault l = open_fault ∙ ap (λ (t : Bool). fail_if t (OffsetRoom size) Pass) (lt-ltb room size l)
+    short_fault : room < size → cut_fault s size room ≡ Err (OffsetRoom size)
+    short_fault l = open_fault ∙ ap (λ (t : Bool). fail_if t (OffsetRoom size) (Ok tt)) (lt-ltb room size l)
 
-    no_fault : size ≤ room → cut_fault s size room ≡ Pass
-    no_fault l = open_fault ∙ ap (λ (t : Bool). fail_if t (OffsetRoom size) Pass) (le-ltb room size l)
+    no_fault : size ≤ room → cut_fault s size room ≡ Ok tt
+    no_fault l = open_fault ∙ ap (λ (t : Bool). fail_if t (OffsetRoom size) (Ok tt)) (le-ltb room size l)
 
 module _ (s : Cutter) (piece ends : List ℕ) where
   -- refused before it is read: state and list stay
-  stays : (r : Refusal) (c : Counted) → cut_fault s (length piece) (length ends) ≡ Refuse r → c ≡ kept_back r → CutIn s piece ends c ends
+  stays : (r : Refusal) (c : Counted) → cut_fault s (length piece) (length ends) ≡ Err r → c ≡ kept_back r → CutIn s piece ends c ends
   unfolding cut_answer cut_state cut_ends
   stays r c e q = rw q (record {
     cut = record {
@@ -103,10 +101,10 @@ module _ (s : Cutter) (piece ends : List ℕ) where
   cut_broken c e q = stays BrokenState c (broken_fault s (length piece) (length ends) e) q
 
   module _ (k : keeps s ≡ true) where
-    pub cut_stands : (r : Refusal) (c : Counted) → s.refusal ≡ Refuse r → c ≡ kept_back r → CutIn s piece ends c ends
+    pub cut_stands : (r : Refusal) (c : Counted) → s.refusal ≡ Err r → c ≡ kept_back r → CutIn s piece ends c ends
     cut_stands r c e q = stays r c (standing_fault s (length piece) (length ends) k r e) q
 
-    module _ (e : s.refusal ≡ Pass) where
+    module _ (e : s.refusal ≡ Ok tt) where
       -- the state is its columns and its numbers
       pub cut_state_lem : state_at s.schema (place_of s) ≡ s
       cut_state_lem = ap
@@ -124,7 +122,7 @@ module _ (s : Cutter) (piece ends : List ℕ) where
         is : Walks s.schema (place_of s) piece ends w ends'
         is = subst (λ (p : Place). Walks s.schema p piece ends w ends') at walks
 
-        fault : cut_fault s (length piece) (length ends) ≡ Pass
+        fault : cut_fault s (length piece) (length ends) ≡ Ok tt
         fault = no_fault s (length piece) (length ends) k e enough
 
         after : fed s piece ≡ walked_to w.check s.schema w.place
@@ -154,11 +152,11 @@ module _ (s : Cutter) (piece ends : List ℕ) where
               list = listed ∙ ap (λ (x : Check). over (unless_refused x (ends_in s piece)) ends) (sym fault);
             }
 
-        pub cut_refused : (r : Refusal) → w.check ≡ Refuse r → CutIn s piece ends (record { answer = Refused r; left = Stopped r; ends = w.ends }) ends'
-        cut_refused r q = walked (Refuse r) (Refused r) (Stopped r) q refl refl
+        pub cut_refused : (r : Refusal) → w.check ≡ Err r → CutIn s piece ends (record { answer = Err r; left = Stopped r; ends = w.ends }) ends'
+        cut_refused r q = walked (Err r) (Err r) (Stopped r) q refl refl
 
-        pub cut_done : w.check ≡ Pass → CutIn s piece ends (record { answer = Done w.ends 0; left = Moved w.place; ends = w.ends }) ends'
-        cut_done q = walked Pass (Done w.ends 0) (Moved w.place) q refl refl
+        pub cut_done : w.check ≡ Ok tt → CutIn s piece ends (record { answer = Ok (w.ends, 0); left = Moved w.place; ends = w.ends }) ends'
+        cut_done q = walked (Ok tt) (Ok (w.ends, 0)) (Moved w.place) q refl refl
 
 -- what was counted, with the state after it
 pub cut_left : {s : Cutter} {piece ends : List ℕ} {r : Counted} {ends' : List ℕ} (last : Cutter) → CutIn s piece ends r ends' → last ≡ leaves s r.left
@@ -172,27 +170,27 @@ module _ (s : Cutter) where
   unfolding finish_answer
   finishes c a e p = record { answers = ap numbers_of p ∙ sym (ap (λ (x : Check). numbers_of (answer x s.rows 0)) e) }
 
-  pub finish_broken : keeps s ≡ false → Finished s (Refused BrokenState)
-  finish_broken e = finishes (Refuse BrokenState) (Refused BrokenState) (ap (λ (t : Bool). fail_if (not t) BrokenState (finish_fault s)) e) refl
+  pub finish_broken : keeps s ≡ false → Finished s (Err BrokenState)
+  finish_broken e = finishes (Err BrokenState) (Err BrokenState) (ap (λ (t : Bool). fail_if (not t) BrokenState (finish_fault s)) e) refl
 
   module _ (k : keeps s ≡ true) where
     kept_finish : fail_if (not (keeps s)) BrokenState (finish_fault s) ≡ finish_fault s
     kept_finish = ap (λ (t : Bool). fail_if (not t) BrokenState (finish_fault s)) k
 
-    pub finish_stands : (r : Refusal) → s.refusal ≡ Refuse r → Finished s (Refused r)
+    pub finish_stands : (r : Refusal) → s.refusal ≡ Err r → Finished s (Err r)
     finish_stands r e =
-        finishes (Refuse r) (Refused r) (kept_finish ∙ ap (λ (c : Check). both c (fail_if (ltb 0 s.row) (Row Cut s.rows s.column s.row) Pass)) e) refl
+        finishes (Err r) (Err r) (kept_finish ∙ ap (λ (c : Check). both c (fail_if (ltb 0 s.row) (Row Cut s.rows s.column s.row) (Ok tt))) e) refl
 
-    module _ (e : s.refusal ≡ Pass) where
-      at_end : finish_fault s ≡ fail_if (ltb 0 s.row) (Row Cut s.rows s.column s.row) Pass
-      at_end = ap (λ (c : Check). both c (fail_if (ltb 0 s.row) (Row Cut s.rows s.column s.row) Pass)) e
+    module _ (e : s.refusal ≡ Ok tt) where
+      at_end : finish_fault s ≡ fail_if (ltb 0 s.row) (Row Cut s.rows s.column s.row) (Ok tt)
+      at_end = ap (λ (c : Check). both c (fail_if (ltb 0 s.row) (Row Cut s.rows s.column s.row) (Ok tt))) e
 
-      pub finish_within : 0 < s.row → Finished s (Refused (Row Cut s.rows s.column s.row))
+      pub finish_within : 0 < s.row → Finished s (Err (Row Cut s.rows s.column s.row))
       finish_within l =
-          finishes (Refuse (Row Cut s.rows s.column s.row)) (Refused (Row Cut s.rows s.column s.row))
-          (kept_finish ∙ at_end ∙ ap (λ (t : Bool). fail_if t (Row Cut s.rows s.column s.row) Pass) (lt-ltb 0 s.row l)) refl
+          finishes (Err (Row Cut s.rows s.column s.row)) (Err (Row Cut s.rows s.column s.row))
+          (kept_finish ∙ at_end ∙ ap (λ (t : Bool). fail_if t (Row Cut s.rows s.column s.row) (Ok tt)) (lt-ltb 0 s.row l)) refl
 
-      pub finish_done : s.row ≤ 0 → Finished s (Done s.rows 0)
+      pub finish_done : s.row ≤ 0 → Finished s (Ok (s.rows, 0))
       finish_done l =
-          finishes Pass (Done s.rows 0)
-          (kept_finish ∙ at_end ∙ ap (λ (t : Bool). fail_if t (Row Cut s.rows s.column s.row) Pass) (le-ltb 0 s.row l)) refl
+          finishes (Ok tt) (Ok (s.rows, 0))
+          (kept_finish ∙ at_end ∙ ap (λ (t : Bool). fail_if t (Row Cut s.rows s.column s.row) (Ok tt)) (le-ltb 0 s.row l)) refl

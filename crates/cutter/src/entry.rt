@@ -14,8 +14,7 @@ use column_facts::no_column;
 use cutter_rule::keeps;
 use cutter_step::Place;
 use cutter_walk::walk::walk;
-use format::{Answer, Check, Column, Cutter, MAX_COLUMNS, Refusal, RowFault, Schema, Spot};
-use list_reader::Listed;
+use format::{Column, Cutter, MAX_COLUMNS, Refusal, RowFault, Schema, Spot};
 
 // No columns. The store changes nothing; that its place is not known beforehand keeps the array one thing in memory, where an array of constants
 // would be taken apart, and with it every copy of a state.
@@ -42,7 +41,7 @@ fn refused(refusal: Refusal) -> Cutter
     };
     Cutter {
         schema: schema,
-        refusal: Check::Refuse(refusal),
+        refusal: Err(refusal),
         rows: 0,
         bytes: 0,
         row: 0,
@@ -58,7 +57,7 @@ fn state_at(schema: Schema, place: Place) -> Cutter
     let spot = place.spot;
     Cutter {
         schema: schema,
-        refusal: Check::Pass,
+        refusal: Ok(()),
         rows: place.rows,
         bytes: place.bytes,
         row: place.row,
@@ -68,29 +67,27 @@ fn state_at(schema: Schema, place: Place) -> Cutter
 }
 
 // Before the first byte, under a list that was read; on a list fault the state is refused.
-pub fn start_listed(listed: Listed) -> Cutting
+pub fn start_listed(listed: Result<Schema, Refusal>) -> Cutting
     ensures { OfEach listed (λ list. Started list result.answer result.state) }
 {
-    let check = listed.check;
-    let schema = listed.schema;
-    if let Check::Refuse(r) = check {
-        let state = refused(r);
-        return Cutting {
-            state: state,
-            answer: Answer::Refused(r),
-        };
-    }
-    let place = Place {
-        rows: 0,
-        bytes: 0,
-        row: 0,
-        column: 0,
-        spot: Spot::Start,
-    };
-    let state = state_at(schema, place);
-    Cutting {
-        state: state,
-        answer: Answer::Done(schema.count as u64, 0),
+    match listed {
+        Ok(schema) => {
+            let place = Place {
+                rows: 0,
+                bytes: 0,
+                row: 0,
+                column: 0,
+                spot: Spot::Start,
+            };
+            Cutting {
+                state: state_at(schema, place),
+                answer: Ok((schema.count as u64, 0)),
+            }
+        }
+        Err(r) => Cutting {
+            state: refused(r),
+            answer: Err(r),
+        },
     }
 }
 
@@ -99,13 +96,13 @@ fn kept_back(refusal: Refusal) -> Counted
     ensures { result ≡ kept_back refusal }
 {
     Counted {
-        answer: Answer::Refused(refusal),
+        answer: Err(refusal),
         left: Left::Same,
         ends: 0,
     }
 }
 
-// A piece: 33, then the refusal that stands, then 14, then byte by byte.
+// A piece: 33, then the refusal that stands, then 14, then byte by byte. No `?` in it: beside a refusal it tells what is left of the state.
 pub fn cut_counted(state: Cutter, piece: &[u8], ends: &mut [u64]) -> Counted
     ensures { CutIn state piece.now ends.old result ends.new }
 {
@@ -113,7 +110,7 @@ pub fn cut_counted(state: Cutter, piece: &[u8], ends: &mut [u64]) -> Counted
         return kept_back(Refusal::BrokenState);
     }
     let refusal = state.refusal;
-    if let Check::Refuse(r) = refusal {
+    if let Err(r) = refusal {
         return kept_back(r);
     }
     if ends.len() < piece.len() {
@@ -123,16 +120,16 @@ pub fn cut_counted(state: Cutter, piece: &[u8], ends: &mut [u64]) -> Counted
     let walked = walk(schema, place_of(state), piece, ends);
     let check = walked.check;
     let found = walked.ends;
-    if let Check::Refuse(r) = check {
+    if let Err(r) = check {
         return Counted {
-            answer: Answer::Refused(r),
+            answer: Err(r),
             left: Left::Stopped(r),
             ends: found,
         };
     }
     let place = walked.place;
     Counted {
-        answer: Answer::Done(found as u64, 0),
+        answer: Ok((found as u64, 0)),
         left: Left::Moved(place),
         ends: found,
     }
@@ -165,21 +162,18 @@ pub fn cut(state: Cutter, piece: &[u8], ends: &mut [u64]) -> Cutting
 }
 
 // The end of the stream: what stands, or 16 within a row. The state stays as it is.
-pub fn finish(state: Cutter) -> Answer
+pub fn finish(state: Cutter) -> Result<(u64, u64), Refusal>
     ensures { Finished state result }
 {
     if !keeps(state) {
-        return Answer::Refused(Refusal::BrokenState);
+        return Err(Refusal::BrokenState);
     }
-    let refusal = state.refusal;
+    state.refusal?;
     let rows = state.rows;
     let row = state.row;
     let column = state.column;
-    if let Check::Refuse(r) = refusal {
-        return Answer::Refused(r);
-    }
     if 0 < row {
-        return Answer::Refused(Refusal::Row(RowFault::Cut, rows as usize, column, row as usize));
+        return Err(Refusal::Row(RowFault::Cut, rows as usize, column, row as usize));
     }
-    Answer::Done(rows, 0)
+    Ok((rows, 0))
 }

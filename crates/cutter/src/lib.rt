@@ -6,7 +6,7 @@ ghost use Rattle.std.specs.Prelude.{◌≡◌};
 ghost use Rattle.cutter_step.specs.Places.{place_of};
 
 use cutter_step::Place;
-use format::{Answer, Cutter, Refusal};
+use format::{Cutter, Refusal};
 
 mod entry;
 
@@ -16,10 +16,11 @@ pub use entry::{cut, cut_counted, finish, start_listed};
 #[derive(Clone, Copy)]
 pub struct Cutting {
     pub state: Cutter,
-    pub answer: Answer,
+    pub answer: Result<(u64, u64), Refusal>,
 }
 
-// What a call leaves of the state: all of it, its columns with other numbers, or a refusal.
+// What a call leaves of the state: all of it, its columns with other numbers, or a refusal. Three cases that are matched as such, where a Result
+// of an Option would be matched twice.
 #[derive(Clone, Copy)]
 pub enum Left {
     Same,
@@ -30,7 +31,7 @@ pub enum Left {
 // The same without the columns, which stay where they are, and how many ends are in the list.
 #[derive(Clone, Copy)]
 pub struct Counted {
-    pub answer: Answer,
+    pub answer: Result<(u64, u64), Refusal>,
     pub left: Left,
     pub ends: usize,
 }

@@ -1,5 +1,5 @@
 -- What a start, a call and the finish promise on lent bytes, from what their parts say. Assumes nothing.
-use Prim.Native.Nat.{ℕ, ◌+◌, ◌*◌, ◌/◌, ◌<◌, ◌≤◌}
+use Prim.Native.Nat.{ℕ, ◌/◌, ◌<◌, ◌≤◌}
 use mathlib.Core.Path.{◌≡◌, refl, sym, ap, ap₂, subst, ◌∙◌}
 use mathlib.Core.Bool.{Bool, true, false, cond, not, ◌&&◌}
 use mathlib.Core.List.{List, [], ◌++◌, append_assoc}
@@ -11,21 +11,18 @@ use borrow.Author.Tests.{lt-ltb, le-ltb, le-leb, lt-leb}
 use Rattle.format.specs.declared.Schema.{Schema}
 use Rattle.format.specs.declared.Refusal.{Refusal}
 use Rattle.format.specs.declared.Refusal.TheVariants.{OffsetRoom, BrokenState}
-use Rattle.format.specs.declared.Check.{Check}
-use Rattle.format.specs.declared.Check.TheVariants.{Pass, Refuse}
-use Rattle.format.specs.declared.Answer.{Answer}
-use Rattle.format.specs.declared.Answer.TheVariants.{Done, Refused}
+use Rattle.format.specs.Check.{Check, both, fail_if}
+use Rattle.std.specs.declared.result.Result.TheVariants.{Ok, Err}
+use Rattle.format.specs.Numbers.{Answer, numbers_of}
 use Rattle.format.specs.declared.Cutter.{Cutter}
 use Rattle.format.specs.Limits.{max_columns}
-use Rattle.format.specs.Check.{both, fail_if}
 use Rattle.format.specs.Lists.{Bytes, over}
-use Rattle.format.specs.Numbers.{numbers_of}
 use Rattle.format.specs.Described.{ColumnList}
 use Rattle.format.specs.Entries.{answer}
 use Rattle.format.specs.Lent.{eights, eight_bytes}
 use Rattle.format.specs.CutterRule.{keeps}
 use Rattle.format.specs.Cutter.{begun, refused, fed, ends_in, start_answer, start_state, cut_fault, cut_answer, cut_state, cut_ends, finish_fault, finish_answer}
-use Rattle.format.specs.CutterBytes.{numbers_size, state_bytes, state_size, state_of, same, no_room, lent_keeps, lent_state}
+use Rattle.format.specs.CutterBytes.{numbers_size, state_bytes, state_size, state_of, same, lent_keeps, lent_state}
 use Rattle.format.specs.Promises.{Started, Finished}
 use Rattle.basics.proofs.Lists.{length_each}
 use Rattle.lent_bytes.specs.Offsets.{eight_at}
@@ -46,7 +43,7 @@ use Rattle.state_bytes.proofs.Reading.{same_eq}
 
 -- ---- a start
 
-pub start_short : (list : ColumnList) (state : List ℕ) → length state < state_size → StartedLent list state (Refused BrokenState) state
+pub start_short : (list : ColumnList) (state : List ℕ) → length state < state_size → StartedLent list state (Err BrokenState) state
 start_short list state h = let e = lt-ltb (length state) state_size h in record { answers = rw e; states = rw e }
 
 pub start_few : (list : ColumnList) (s : Cutter) → s ≡ start_state list → s.schema.count ≤ max_columns
@@ -57,7 +54,7 @@ pub start_long : (list : ColumnList) (state : List ℕ) (r : Answer) (s : Cutter
 start_long list state r s p state' h started at put =
     let e = le-ltb (length state) state_size h in
     record {
-      answers = started.answers ∙ sym (ap (λ (t : Bool). numbers_of (cond t (Refused BrokenState) (start_answer list))) e);
+      answers = started.answers ∙ sym (ap (λ (t : Bool). numbers_of (cond t (Err BrokenState) (start_answer list))) e);
       states =
           put
           ∙ ap (λ (q : Place). over (state_bytes (state_with s.refusal q s.schema)) state) at
@@ -66,7 +63,7 @@ start_long list state r s p state' h started at put =
     }
 
 -- ---- a state in which no refusal stands, by its columns and its numbers
-pub open_keeps : (t : Cutter) (p : Place) → p ≡ place_of t → t.refusal ≡ Pass → keeps t ≡ true → keeps (state_at t.schema p) ≡ true
+pub open_keeps : (t : Cutter) (p : Place) → p ≡ place_of t → t.refusal ≡ Ok tt → keeps t ≡ true → keeps (state_at t.schema p) ≡ true
 open_keeps t p at e k =
     ap (λ (q : Place). keeps (state_at t.schema q)) at ∙ ap (λ (c : Check). keeps (state_with c (place_of t) t.schema)) (sym e) ∙ k
 
@@ -152,8 +149,8 @@ module _ (state : List ℕ) where
     numbers_room : length (eights ends) ≡ room
     numbers_room = length_each 0 room (eight_at ends)
 
-    stays : (t : Cutter) (r : Refusal) → lent_state state ≡ t → cut_fault t (length piece) room ≡ Refuse r
-        → state ≡ cond (lent_keeps state) (over (state_bytes t) state) state → PieceCutLent state piece ends (Refused r) state ends
+    stays : (t : Cutter) (r : Refusal) → lent_state state ≡ t → cut_fault t (length piece) room ≡ Err r
+        → state ≡ cond (lent_keeps state) (over (state_bytes t) state) state → PieceCutLent state piece ends (Err r) state ends
     stays t r is e same-state =
         let c = cut_refused t piece (eights ends) r (ap (cut_fault t (length piece)) numbers_room ∙ e) in
         record {
@@ -168,10 +165,10 @@ module _ (state : List ℕ) where
               ∙ ap (λ (z : List ℕ). over (eight_bytes z) ends) (sym (ap (λ (u : Cutter). cut_ends u piece (eights ends)) is ∙ c.2));
         }
 
-    pub cut_broken : lent_keeps state ≡ false → PieceCutLent state piece ends (Refused BrokenState) state ends
+    pub cut_broken : lent_keeps state ≡ false → PieceCutLent state piece ends (Err BrokenState) state ends
     cut_broken h =
         stays (begun []) BrokenState (broken_is h)
-        (ap (λ (t : Bool). fail_if (not t) BrokenState (fail_if (ltb room (length piece)) (OffsetRoom (length piece)) Pass)) none_kept)
+        (ap (λ (t : Bool). fail_if (not t) BrokenState (fail_if (ltb room (length piece)) (OffsetRoom (length piece)) (Ok tt))) none_kept)
         (sym (ap (λ (t : Bool). cond t (over (state_bytes (begun [])) state) state) h))
 
     -- ---- bytes that keep the rule
@@ -192,21 +189,21 @@ module _ (state : List ℕ) where
           ∙ ap₂ {C = List ℕ} (λ y n. y ++ drop n state) (sym is_x) (sym size_x)
           ∙ sym (ap (λ (t : Bool). cond t (over (state_bytes s) state) state) kept)
 
-      fault : cut_fault s (length piece) room ≡ both s.refusal (fail_if (ltb room (length piece)) (OffsetRoom (length piece)) Pass)
-      fault = ap (λ (t : Bool). fail_if (not t) BrokenState (both s.refusal (fail_if (ltb room (length piece)) (OffsetRoom (length piece)) Pass))) q.keeps
+      fault : cut_fault s (length piece) room ≡ both s.refusal (fail_if (ltb room (length piece)) (OffsetRoom (length piece)) (Ok tt))
+      fault = ap (λ (t : Bool). fail_if (not t) BrokenState (both s.refusal (fail_if (ltb room (length piece)) (OffsetRoom (length piece)) (Ok tt)))) q.keeps
 
-      pub cut_stands : (r : Refusal) → s.refusal ≡ Refuse r → PieceCutLent state piece ends (Refused r) state ends
+      pub cut_stands : (r : Refusal) → s.refusal ≡ Err r → PieceCutLent state piece ends (Err r) state ends
       cut_stands r e =
-          stays s r (kept_is kept) (fault ∙ ap (λ (c : Check). both c (fail_if (ltb room (length piece)) (OffsetRoom (length piece)) Pass)) e) again
+          stays s r (kept_is kept) (fault ∙ ap (λ (c : Check). both c (fail_if (ltb room (length piece)) (OffsetRoom (length piece)) (Ok tt))) e) again
 
-      module _ (e : s.refusal ≡ Pass) where
-        open_fault : cut_fault s (length piece) room ≡ fail_if (ltb room (length piece)) (OffsetRoom (length piece)) Pass
-        open_fault = fault ∙ ap (λ (c : Check). both c (fail_if (ltb room (length piece)) (OffsetRoom (length piece)) Pass)) e
+      module _ (e : s.refusal ≡ Ok tt) where
+        open_fault : cut_fault s (length piece) room ≡ fail_if (ltb room (length piece)) (OffsetRoom (length piece)) (Ok tt)
+        open_fault = fault ∙ ap (λ (c : Check). both c (fail_if (ltb room (length piece)) (OffsetRoom (length piece)) (Ok tt))) e
 
-        pub cut_short : room < length piece → PieceCutLent state piece ends (Refused (OffsetRoom (length piece))) state ends
+        pub cut_short : room < length piece → PieceCutLent state piece ends (Err (OffsetRoom (length piece))) state ends
         cut_short l =
             stays s (OffsetRoom (length piece)) (kept_is kept)
-            (open_fault ∙ ap (λ (t : Bool). fail_if t (OffsetRoom (length piece)) Pass) (lt-ltb room (length piece) l)) again
+            (open_fault ∙ ap (λ (t : Bool). fail_if t (OffsetRoom (length piece)) (Ok tt)) (lt-ltb room (length piece) l)) again
 
         -- the state is its columns and its numbers
         state_is : state_at s.schema (place_of s) ≡ s
@@ -233,10 +230,10 @@ module _ (state : List ℕ) where
               let next = walked_to c s.schema w.place in
               let after : fed s piece ≡ next =
               ap (λ (u : Cutter). fed u piece) (sym begins) ∙ walks.state ∙ ap (λ (d : Check). walked_to d s.schema w.place) q in
-              let passes : cut_fault s (length piece) (length (eights ends)) ≡ Pass =
+              let passes : cut_fault s (length piece) (length (eights ends)) ≡ Ok tt =
               ap (cut_fault s (length piece)) numbers_room
               ∙ open_fault
-              ∙ ap (λ (u : Bool). fail_if u (OffsetRoom (length piece)) Pass) (le-ltb room (length piece) enough) in
+              ∙ ap (λ (u : Bool). fail_if u (OffsetRoom (length piece)) (Ok tt)) (le-ltb room (length piece) enough) in
               let cut = cut_passed s piece (eights ends) next found passes after refl in
               let lent : lent_state state ≡ s = kept_is kept in
               record {
@@ -255,33 +252,33 @@ module _ (state : List ℕ) where
                     ∙ ap (λ (z : List ℕ). over (eight_bytes z) ends) (sym cut.2 ∙ ap (λ (u : Cutter). cut_ends u piece (eights ends)) (sym lent));
               }
 
-          pub cut_refuses : (r : Refusal) → w.check ≡ Refuse r → state' ≡ over (state_bytes (refused r)) state
-              → PieceCutLent state piece ends (Refused r) state' ends'
-          cut_refuses r q put = left (Refuse r) q put
+          pub cut_refuses : (r : Refusal) → w.check ≡ Err r → state' ≡ over (state_bytes (refused r)) state
+              → PieceCutLent state piece ends (Err r) state' ends'
+          cut_refuses r q put = left (Err r) q put
 
           -- the columns stay where they are
-          pub cut_done : w.check ≡ Pass → state' ≡ over (eight_bytes (place_numbers Pass w.place t.schema.count)) state
-              → PieceCutLent state piece ends (Done w.ends 0) state' ends'
+          pub cut_done : w.check ≡ Ok tt → state' ≡ over (eight_bytes (place_numbers (Ok tt) w.place t.schema.count)) state
+              → PieceCutLent state piece ends (Ok (w.ends, 0)) state' ends'
           cut_done q put =
-              left Pass q (put ∙ ap (λ (u : Cutter). over (eight_bytes (place_numbers Pass w.place u.schema.count)) state) is ∙ sym columns_stay)
+              left (Ok tt) q (put ∙ ap (λ (u : Cutter). over (eight_bytes (place_numbers (Ok tt) w.place u.schema.count)) state) is ∙ sym columns_stay)
             where
               old : List ℕ
               old = eight_bytes (place_numbers s.refusal (place_of s) s.schema.count)
 
               new : List ℕ
-              new = eight_bytes (place_numbers Pass w.place s.schema.count)
+              new = eight_bytes (place_numbers (Ok tt) w.place s.schema.count)
 
               old_parts : state_bytes s ≡ old ++ column_bytes s.schema
               old_parts = state_parts s.refusal (place_of s) s.schema
 
               new_parts : state_bytes (state_at s.schema w.place) ≡ new ++ column_bytes s.schema
-              new_parts = state_parts Pass w.place s.schema
+              new_parts = state_parts (Ok tt) w.place s.schema
 
               old_size : length old ≡ numbers_size
               old_size = length_numbers s.refusal (place_of s) s.schema.count
 
               new_size : length new ≡ numbers_size
-              new_size = length_numbers Pass w.place s.schema.count
+              new_size = length_numbers (Ok tt) w.place s.schema.count
 
               whole_size : length (new ++ column_bytes s.schema) ≡ state_size
               whole_size =
@@ -305,11 +302,11 @@ module _ (state : List ℕ) where
 
   -- ---- the finish
 
-  broken_finish : (t : Cutter) → keeps t ≡ false → finish_answer t ≡ Refused BrokenState
+  broken_finish : (t : Cutter) → keeps t ≡ false → finish_answer t ≡ Err BrokenState
   unfolding finish_answer
   broken_finish t e = ap (λ (u : Bool). answer (fail_if (not u) BrokenState (finish_fault t)) t.rows 0) e
 
-  pub finish_broken : lent_keeps state ≡ false → FinishedLent state (Refused BrokenState)
+  pub finish_broken : lent_keeps state ≡ false → FinishedLent state (Err BrokenState)
   finish_broken h = record { answers = sym (ap (λ (t : Cutter). numbers_of (finish_answer t)) (broken_is h) ∙ ap numbers_of (broken_finish (begun []) none_kept)) }
 
   pub finish_read : state_size ≤ length state → same (state_bytes s) x ≡ true → (r : Answer) → Finished s r → FinishedLent state r

@@ -1,17 +1,17 @@
 -- A piece walked in parts: what the loop holds, and what each way out of a turn gives. Assumes nothing.
 use Prim.Native.Nat.{ℕ, ◌+◌, ◌-◌, ◌*◌, ◌/◌, ◌<◌, ◌≤◌}
-use mathlib.Core.Path.{◌≡◌, refl, sym, ap, ap₂, subst, ◌∙◌}
+use mathlib.Core.Path.{◌≡◌, refl, sym, ap, subst, ◌∙◌}
 use mathlib.Core.Bool.{true}
 use mathlib.Core.Logic.{⊎_elim}
-use mathlib.Core.List.{List, [], ◌∷◌, ◌++◌, append-nil, append_assoc}
+use mathlib.Core.List.{List, ◌++◌, append-nil}
 use native.Mathlib.Omega.{arith}
 use lib.ListN.{length, take, drop, length-append, length-drop, take-append-drop}
 use lib.Seq.{sets, length-sets, take-add, take_at, take_all, take-take, length-take-le}
 use borrow.Rule.Slice.PartMut.{mid_of, put_mid}
 use Rattle.format.specs.declared.Schema.{Schema}
 use Rattle.format.specs.declared.Refusal.{Refusal}
-use Rattle.format.specs.declared.Check.{Check}
-use Rattle.format.specs.declared.Check.TheVariants.{Pass, Refuse}
+use Rattle.format.specs.Check.{Check}
+use Rattle.std.specs.declared.result.Result.TheVariants.{Ok, Err}
 use Rattle.format.specs.declared.Cutter.{Cutter}
 use Rattle.format.specs.Lists.{Bytes, over}
 use Rattle.format.specs.Lent.{eight_bytes}
@@ -34,8 +34,8 @@ use Rattle.state_bytes.proofs.Writing.{then_sets, part_put}
 
 -- the bytes that a walk took, of so many: where it is refused, all
 abbrev pub took : Check → ℕ → ℕ → ℕ
-took Pass read all = read
-took (Refuse r) read all = all
+took (Ok tt) read all = read
+took (Err r) read all = all
 
 module _ (schema : Schema) (p : Place) (piece ends₀ : List ℕ) where
   abbrev s : Cutter
@@ -86,11 +86,11 @@ module _ (schema : Schema) (p : Place) (piece ends₀ : List ℕ) where
     taken_within = go w.check on
       where
         go : (c : Check) → WalkedOn c schema at rest numbers w numbers' → took c w.read (length piece - i) ≤ length piece - i
-        go Pass x = omega (arith, x.within, length_rest)
-        go (Refuse r) x = omega arith
+        go (Ok tt) x = omega (arith, x.within, length_rest)
+        go (Err r) x = omega arith
 
     -- what is left is no less after it
-    taken_some : 1 ≤ length numbers → i < length piece → w.check ≡ Pass → (w.check ≡ Pass → w.read < length rest → length numbers ≤ w.ends)
+    taken_some : 1 ≤ length numbers → i < length piece → w.check ≡ Ok tt → (w.check ≡ Ok tt → w.read < length rest → length numbers ≤ w.ends)
         → 1 ≤ w.read
     taken_some least more e full =
         let x : Walking schema at rest numbers w.place w.ends w.read numbers' = subst
@@ -104,13 +104,13 @@ module _ (schema : Schema) (p : Place) (piece ends₀ : List ℕ) where
       where
         go : (c : Check) → w.check ≡ c → WalkedOn c schema at rest numbers w numbers' → Walks schema at
             (take (took c w.read (length piece - i)) rest) numbers w numbers'
-        go Pass e x = record {
+        go (Ok tt) e x = record {
           state = x.state ∙ sym (ap (λ (c : Check). walked_to c schema w.place) e);
           many = sym (ap length x.rows ∙ x.many);
           list = x.list ∙ ap (λ (f : List ℕ). over f numbers) (sym x.rows);
           long = x.long;
         }
-        go (Refuse r) e x = subst (λ (l : List ℕ). Walks schema at l numbers w numbers') (sym (take_all (length piece - i) rest (omega (arith, length_rest)))) x
+        go (Err r) e x = subst (λ (l : List ℕ). Walks schema at l numbers w numbers') (sym (take_all (length piece - i) rest (omega (arith, length_rest)))) x
 
   -- ---- k bytes more
   module _ (i k n : ℕ) (at : Place) (ends numbers numbers' : List ℕ) (w : Walked) (high : i + k ≤ length piece)
@@ -177,8 +177,8 @@ module _ (schema : Schema) (p : Place) (piece ends₀ : List ℕ) where
   -- ---- a turn of the loop, from byte i on
   pub record Turn (i n : ℕ) (at : Place) (ends numbers : List ℕ) (w : Walked) (numbers' : List ℕ) : Type 0 where
     pub within : i + took w.check w.read (length piece - i) ≤ length piece
-    pub some : 1 ≤ length numbers → i < length piece → w.check ≡ Pass
-        → (w.check ≡ Pass → w.read < length (take (length piece - i) (drop i piece)) → length numbers ≤ w.ends) → 1 ≤ w.read
+    pub some : 1 ≤ length numbers → i < length piece → w.check ≡ Ok tt
+        → (w.check ≡ Ok tt → w.read < length (take (length piece - i) (drop i piece)) → length numbers ≤ w.ends) → 1 ≤ w.read
     pub room : 8 * n + 8 * w.ends ≤ length ends
     pub fit : w.ends ≤ length numbers'
     pub stored : (q : List ℕ) → q ≡ over (eight_bytes (take w.ends numbers')) (mid_of (8 * n) (length ends - 8 * n) ends)
@@ -201,7 +201,7 @@ module _ (schema : Schema) (p : Place) (piece ends₀ : List ℕ) where
 
   -- all bytes
   pub walks_whole : (to n : ℕ) (ends : List ℕ) (at : Place) → Stored to (state_at schema at) n ends → length piece ≤ to
-      → WalksLent schema p piece ends₀ (record { check = Pass; place = at; ends = n; read = to }) ends
+      → WalksLent schema p piece ends₀ (record { check = Ok tt; place = at; ends = n; read = to }) ends
   walks_whole to n ends at st h =
       let e = take_all to piece h in
       record {
@@ -212,7 +212,7 @@ module _ (schema : Schema) (p : Place) (piece ends₀ : List ℕ) where
 
   -- a refusal: the bytes after it change nothing
   pub walks_refused : (to n read : ℕ) (ends : List ℕ) (at : Place) (r : Refusal) (t : Cutter) → Stored to t n ends → t ≡ refused r
-      → WalksLent schema p piece ends₀ (record { check = Refuse r; place = at; ends = n; read = read }) ends
+      → WalksLent schema p piece ends₀ (record { check = Err r; place = at; ends = n; read = read }) ends
   walks_refused to n read ends at r t st e =
       let split = sym (take-append-drop to piece) in
       let after = st.state ∙ e in

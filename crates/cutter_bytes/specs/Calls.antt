@@ -1,11 +1,9 @@
 -- The cutter's calls on a lent state and on ends as bytes: what they answer, and what they leave.
-use Rattle.std.specs.Prelude.{ℕ, ◌/◌, ◌≡◌, cond, List, length}
+use Rattle.std.specs.Prelude.{ℕ, ◌/◌, ◌≡◌, cond, List, length, Err}
 use Rattle.format.specs.declared.Refusal.TheVariants.{BrokenState}
 use Rattle.format.specs.declared.Schema.{Schema}
-use Rattle.format.specs.declared.Answer.{Answer}
-use Rattle.format.specs.declared.Answer.TheVariants.{Refused}
+use Rattle.format.specs.Numbers.{Answer, numbers_of}
 use Rattle.format.specs.Lists.{over}
-use Rattle.format.specs.Numbers.{numbers_of}
 use Rattle.format.specs.Described.{ColumnList}
 use Rattle.format.specs.Lent.{eights, eight_bytes}
 use Rattle.format.specs.Cutter.{ends_in, fed, start_answer, start_state, cut_answer, cut_state, cut_ends, finish_answer}
@@ -23,7 +21,7 @@ pub record WalksLent (schema : Schema) (p : Place) (piece ends : List ℕ) (r : 
 
 -- a start
 pub record StartedLent (list : ColumnList) (state : List ℕ) (r : Answer) (state' : List ℕ) : Type 0 where
-  pub answers : numbers_of r ≡ numbers_of (cond (no_room state) (Refused BrokenState) (start_answer list))
+  pub answers : numbers_of r ≡ numbers_of (cond (no_room state) (Err BrokenState) (start_answer list))
   pub states : state' ≡ cond (no_room state) state (over (state_bytes (start_state list)) state)
 
 -- a call

@@ -7,7 +7,7 @@ ghost use Rattle.cutter_bytes.specs.Calls.{WalksLent};
 use cutter_step::Place;
 use cutter_walk::Walked;
 use cutter_walk::walk::walk;
-use format::{Check, Schema};
+use format::Schema;
 use lent_bytes::write_offsets;
 
 // Each part is walked, and the ends found in it are stored after those before; a refusal ends it.
@@ -26,6 +26,7 @@ fn walk_parts(
     let mut at = place;
     let mut n = 0;
     let mut i = 0;
+    // A `while`: a turn goes on by as many bytes as its walk has read.
     while i < piece.len() {
         let rest = &piece[i..];
         let walked = walk(schema, at, rest, numbers);
@@ -35,9 +36,10 @@ fn walk_parts(
         n += k;
         at = walked.place;
         let check = walked.check;
-        if let Check::Refuse(r) = check {
+        // No `?`: the ends before the refusal count.
+        if let Err(r) = check {
             return Walked {
-                check: Check::Refuse(r),
+                check: Err(r),
                 place: at,
                 ends: n,
                 read: i,
@@ -46,41 +48,32 @@ fn walk_parts(
         i += walked.read;
     }
     Walked {
-        check: Check::Pass,
+        check: Ok(()),
         place: at,
         ends: n,
         read: i,
     }
 }
 
-// Parts of 8 rows: an array that costs a call of one byte little.
-fn walk_few(schema: Schema, place: Place, piece: &[u8], ends: &mut [u8]) -> Walked
+// Parts of N rows.
+fn walk_in<const N: usize>(schema: Schema, place: Place, piece: &[u8], ends: &mut [u8]) -> Walked
+    requires size { (1 ≤ N) × (N ≤ 256) }
     requires place_value { keeps (state_at schema place) ≡ true }
     requires piece_in_bounds { length piece.now ≤ length ends.old / 8 }
     ensures { WalksLent schema place piece.now ends.old result ends.new }
 {
-    let mut numbers = [0u64; 8];
+    let mut numbers = [0u64; N];
     walk_parts(schema, place, piece, ends, &mut numbers)
 }
 
-// Parts of 256 rows.
-fn walk_many(schema: Schema, place: Place, piece: &[u8], ends: &mut [u8]) -> Walked
-    requires place_value { keeps (state_at schema place) ≡ true }
-    requires piece_in_bounds { length piece.now ≤ length ends.old / 8 }
-    ensures { WalksLent schema place piece.now ends.old result ends.new }
-{
-    let mut numbers = [0u64; 256];
-    walk_parts(schema, place, piece, ends, &mut numbers)
-}
-
-// A whole piece.
+// A whole piece: an array of 8 costs a call of one byte little. These are not `local_numbers`, whose frames take 832 bytes more of the stack.
 pub fn walk_sized(schema: Schema, place: Place, piece: &[u8], ends: &mut [u8]) -> Walked
     requires place_value { keeps (state_at schema place) ≡ true }
     requires piece_in_bounds { length piece.now ≤ length ends.old / 8 }
     ensures { WalksLent schema place piece.now ends.old result ends.new }
 {
     if piece.len() <= 8 {
-        return walk_few(schema, place, piece, ends);
+        return walk_in::<8>(schema, place, piece, ends);
     }
-    walk_many(schema, place, piece, ends)
+    walk_in::<256>(schema, place, piece, ends)
 }

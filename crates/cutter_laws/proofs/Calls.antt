@@ -8,12 +8,10 @@ use lib.ListN.{length}
 use borrow.Author.Tests.{le-ltb}
 use Rattle.format.specs.declared.Refusal.{Refusal}
 use Rattle.format.specs.declared.Refusal.TheVariants.{BrokenState}
-use Rattle.format.specs.declared.Answer.TheVariants.{Refused}
-use Rattle.format.specs.declared.Check.{Check}
-use Rattle.format.specs.declared.Check.TheVariants.{Pass, Refuse}
+use Rattle.std.specs.declared.result.Result.TheVariants.{Err, Ok}
+use Rattle.format.specs.Check.{Check, both, fail_if}
 use Rattle.format.specs.declared.Cutter.{Cutter}
 use Rattle.format.specs.Limits.{max_total}
-use Rattle.format.specs.Check.{both, fail_if}
 use Rattle.format.specs.Lists.{Bytes, over}
 use Rattle.format.specs.Described.{ColumnList, list_fault, columns}
 use Rattle.format.specs.Entries.{answer, written}
@@ -33,9 +31,9 @@ module _ (s : Cutter) (h : keeps s ≡ true) where
   stands : (size room : ℕ) → size ≤ room → cut_fault s size room ≡ s.refusal
   stands size room l = rw (h, le-ltb room size l) (go s.refusal)
     where
-      go : (c : Check) → both c Pass ≡ c
-      go Pass = refl
-      go (Refuse r) = refl
+      go : (c : Check) → both c (Ok tt) ≡ c
+      go (Ok tt) = refl
+      go (Err r) = refl
 
   -- a call on a state that keeps the rule, with a list that is long enough: the state of its bytes
   pub call_fed : (piece : List ℕ) (room : ℕ) → length piece ≤ room → cut_state s piece room ≡ fed s piece
@@ -43,8 +41,8 @@ module _ (s : Cutter) (h : keeps s ≡ true) where
   call_fed piece room l = ap (λ (c : Check). unless c s (fed s piece)) (stands (length piece) room l) ∙ go s.refusal refl
     where
       go : (c : Check) → s.refusal ≡ c → unless c s (fed s piece) ≡ fed s piece
-      go Pass e = refl
-      go (Refuse r) e = sym (fed_refused s r e piece)
+      go (Ok tt) e = refl
+      go (Err r) e = sym (fed_refused s r e piece)
 
   -- its list: the ends that its bytes complete, before what was there
   pub call_ends : (piece ends : List ℕ) → length piece ≤ length ends → cut_ends s piece ends ≡ over (ends_in s piece) ends
@@ -52,8 +50,8 @@ module _ (s : Cutter) (h : keeps s ≡ true) where
   call_ends piece ends l = ap (λ (c : Check). written c (ends_in s piece) ends) (stands (length piece) (length ends) l) ∙ go s.refusal refl
     where
       go : (c : Check) → s.refusal ≡ c → written c (ends_in s piece) ends ≡ over (ends_in s piece) ends
-      go Pass e = refl
-      go (Refuse r) e = sym (ap (λ (z : List ℕ). over z ends) (ends_refused s r e piece))
+      go (Ok tt) e = refl
+      go (Err r) e = sym (ap (λ (z : List ℕ). over z ends) (ends_refused s r e piece))
 
   -- the finish: what stands, or 16 within a row
   pub finish_kept : finish_answer s ≡ answer (finish_fault s) s.rows 0
@@ -62,12 +60,12 @@ module _ (s : Cutter) (h : keeps s ≡ true) where
 
 -- what a call comes to: refused before the piece is read, nothing changes; and else what its bytes leave
 module _ (s : Cutter) (piece ends : List ℕ) where
-  pub cut_refused : (r : Refusal) → cut_fault s (length piece) (length ends) ≡ Refuse r
-      → (cut_answer s piece (length ends) ≡ Refused r) × (cut_state s piece (length ends) ≡ s) × (cut_ends s piece ends ≡ ends)
+  pub cut_refused : (r : Refusal) → cut_fault s (length piece) (length ends) ≡ Err r
+      → (cut_answer s piece (length ends) ≡ Err r) × (cut_state s piece (length ends) ≡ s) × (cut_ends s piece ends ≡ ends)
   unfolding cut_answer cut_state cut_ends
   cut_refused r e = (rw e, rw e, rw e)
 
-  pub cut_passed : (s' : Cutter) (found : List ℕ) → cut_fault s (length piece) (length ends) ≡ Pass → fed s piece ≡ s' → ends_in s piece ≡ found
+  pub cut_passed : (s' : Cutter) (found : List ℕ) → cut_fault s (length piece) (length ends) ≡ Ok tt → fed s piece ≡ s' → ends_in s piece ≡ found
       → (cut_answer s piece (length ends) ≡ answer s'.refusal (length found) 0)
       × (cut_state s piece (length ends) ≡ s')
       × (cut_ends s piece ends ≡ over found ends)
@@ -85,8 +83,8 @@ unfolding cut_state
 cut_keeps s piece room bs h = go (cut_fault s (length piece) room)
   where
     go : (c : Check) → Kept (unless c s (fed s piece))
-    go Pass = fed_keeps s piece bs h
-    go (Refuse r) = h
+    go (Ok tt) = fed_keeps s piece bs h
+    go (Err r) = h
 
 -- ---- a run of calls leaves the state of one call with all the bytes, and writes its ends
 calls_fed : (s : Cutter) (cs : List Lending) → Kept s → (calls s cs ≡ fed s (stream cs)) × (calls_ends s cs ≡ ends_in s (stream cs))
@@ -119,7 +117,7 @@ pub record PipeCut (list : ColumnList) (cs : List Lending) : Type 0 where
   pub finish : finish_answer (calls (start_state list) cs)
       ≡ answer (finish_fault (fed (begun (columns list)) (stream cs))) (fed (begun (columns list)) (stream cs)).rows 0
 
-pub pipe_cut : (list : ColumnList) (cs : List Lending) → list_fault list ≡ Pass → length (stream cs) ≤ max_total → PipeCut list cs
+pub pipe_cut : (list : ColumnList) (cs : List Lending) → list_fault list ≡ Ok tt → length (stream cs) ≤ max_total → PipeCut list cs
 unfolding start_state
 pipe_cut list cs e l = record {
   ends = c.1 ∙ ap (λ (t : Cutter). ends_in t (stream cs)) begins;

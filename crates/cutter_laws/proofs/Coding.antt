@@ -14,8 +14,8 @@ use Rattle.format.specs.declared.Column.{Column}
 use Rattle.format.specs.declared.RowFault.TheVariants.{Cut, Lead, NullRest, BoolByte, EndByte, Padding, Extra, TooLong, Unfolded}
 use Rattle.format.specs.declared.Refusal.{Refusal}
 use Rattle.format.specs.declared.Refusal.TheVariants.{ListCut, UnknownKind, OptionBits, Width, ManyColumns, ManyRows, ColumnCut, SpareBit, Ends, LongSlot, BytesAfter, ManyBytes, RowRoom, OffsetRoom, Offsets, Row, SheetRoom, Input, OutOfOrder, Missing, ColumnRoom, KeyColumns, SheetRow, BrokenState}
-use Rattle.format.specs.declared.Check.{Check}
-use Rattle.format.specs.declared.Check.TheVariants.{Refuse}
+use Rattle.format.specs.Check.{Check}
+use Rattle.std.specs.declared.result.Result.TheVariants.{Err}
 use Rattle.format.specs.declared.Returned.{Returned}
 use Rattle.format.specs.Limits.{max_columns, max_total}
 use Rattle.format.specs.Lists.{each, low, low_bytes}
@@ -147,7 +147,7 @@ row_small n r c place l h =
     let b = ltb-true c max_columns p.1 in
     (omega arith, (omega arith, (omega arith, (omega arith, tt))))
 
-pub refusal_written : (r : Refusal) → numbers_kept (refusal_numbers r) ≡ true → Written (Refuse r)
+pub refusal_written : (r : Refusal) → numbers_kept (refusal_numbers r) ≡ true → Written (Err r)
 refusal_written (ListCut p) h = record { back = refl; small = list_small 1 p (omega arith) h }
 refusal_written (UnknownKind p) h = record { back = refl; small = list_small 2 p (omega arith) h }
 refusal_written (OptionBits p) h = record { back = refl; small = list_small 3 p (omega arith) h }

@@ -8,8 +8,8 @@ use native.Mathlib.Omega.{arith}
 use borrow.Author.Tests.{le-ltb}
 use Rattle.format.specs.declared.Refusal.{Refusal}
 use Rattle.format.specs.declared.Refusal.TheVariants.{ManyBytes}
-use Rattle.format.specs.declared.Check.{Check}
-use Rattle.format.specs.declared.Check.TheVariants.{Pass, Refuse}
+use Rattle.format.specs.Check.{Check}
+use Rattle.std.specs.declared.result.Result.TheVariants.{Ok, Err}
 use Rattle.format.specs.declared.Cutter.{Cutter}
 use Rattle.format.specs.Limits.{max_total}
 use Rattle.format.specs.Lists.{joined}
@@ -54,7 +54,7 @@ any_cutting s ps qs e = (
 
 -- ---- a refusal stays, and no row ends after it
 
-module _ (s : Cutter) (r : Refusal) (e : s.refusal ≡ Refuse r) where
+module _ (s : Cutter) (r : Refusal) (e : s.refusal ≡ Err r) where
   pub step_refused : (b : ℕ) → step s b ≡ s
   step_refused b = ap (λ (c : Check). unless c s (taken s b)) e
 
@@ -70,7 +70,7 @@ module _ (s : Cutter) (r : Refusal) (e : s.refusal ≡ Refuse r) where
       (ap (λ (t : Cutter). ends_in t p) (step_refused b) ∙ ends_refused p)
 
 -- ---- the 16,777,217th byte is refused 12, whatever it is
-pub step_full : (s : Cutter) (b : ℕ) → s.refusal ≡ Pass → s.bytes ≡ max_total → step s b ≡ refused (ManyBytes (suc max_total) s.rows)
+pub step_full : (s : Cutter) (b : ℕ) → s.refusal ≡ Ok tt → s.bytes ≡ max_total → step s b ≡ refused (ManyBytes (suc max_total) s.rows)
 step_full s b e f =
     ap (λ (c : Check). unless c s (taken s b)) e
     ∙ ap (λ (t : Bool). cond t (moved s (move_in s b)) (refused (ManyBytes (suc max_total) s.rows))) (le-ltb s.bytes max_total (omega (arith, f)))

@@ -14,8 +14,8 @@ use Rattle.format.specs.declared.SortOptions.{SortOptions}
 use Rattle.format.specs.declared.RowFault.{RowFault}
 use Rattle.format.specs.declared.RowFault.TheVariants.{Cut}
 use Rattle.format.specs.declared.Refusal.TheVariants.{Row, ManyBytes}
-use Rattle.format.specs.declared.Check.{Check}
-use Rattle.format.specs.declared.Check.TheVariants.{Pass}
+use Rattle.format.specs.Check.{Check}
+use Rattle.std.specs.declared.result.Result.TheVariants.{Ok}
 use Rattle.format.specs.declared.Spot.{Spot}
 use Rattle.format.specs.declared.Spot.TheVariants.{Start}
 use Rattle.format.specs.declared.Cutter.{Cutter}
@@ -77,7 +77,7 @@ After s xs (ended bs) = Ended s xs bs
 After s xs (broken f place) = (fed s xs ≡ refused (Row f s.rows s.column place)) × (ends_in s xs ≡ [])
 
 -- a byte that the stream may hold
-pub step_room : (s : Cutter) (b : ℕ) → s.refusal ≡ Pass → s.bytes < max_total → step s b ≡ moved s (move_in s b)
+pub step_room : (s : Cutter) (b : ℕ) → s.refusal ≡ Ok tt → s.bytes < max_total → step s b ≡ moved s (move_in s b)
 step_room s b e l =
     ap (λ (c : Check). unless c s (taken s b)) e
     ∙ ap (λ (t : Bool). cond t (moved s (move_in s b)) (refused (ManyBytes (suc max_total) s.rows))) (lt-ltb s.bytes max_total l)
@@ -107,7 +107,7 @@ module _ (s : Cutter) (b : ℕ) (bs : List ℕ) where
 abbrev walk_in : Cutter → List ℕ → Walk
 walk_in s xs = walk (column_shape (column_in s)) (column_in s).options s.spot s.row xs
 
-walk_fed : (xs : List ℕ) (s : Cutter) → s.refusal ≡ Pass → s.bytes + length xs ≤ max_total → After s xs (walk_in s xs)
+walk_fed : (xs : List ℕ) (s : Cutter) → s.refusal ≡ Ok tt → s.bytes + length xs ≤ max_total → After s xs (walk_in s xs)
 walk_fed [] s e l = (sym (further_none s), refl)
 walk_fed (b ∷ bs) s e l = go (move_in s b) (step_room s b e (omega arith)) (λ spot. walk_fed bs (further s 1 s.column spot) e (omega arith))
   where
@@ -139,7 +139,7 @@ walk_fed (b ∷ bs) s e l = go (move_in s b) (step_room s b e (omega arith)) (λ
 
 -- before a field's first byte, with no refusal standing
 pub record Ready (s : Cutter) : Type 0 where
-  pub standing : s.refusal ≡ Pass
+  pub standing : s.refusal ≡ Ok tt
   pub start : s.spot ≡ Start
 
 -- what is read of the field that begins here

@@ -15,7 +15,7 @@ use Rattle.format.specs.declared.RowFault.TheVariants.{Cut}
 use Rattle.format.specs.declared.FieldRead.TheVariants.{Null, Value, Fault}
 use Rattle.format.specs.declared.Refusal.{Refusal}
 use Rattle.format.specs.declared.Refusal.TheVariants.{Row, ManyBytes}
-use Rattle.format.specs.declared.Check.TheVariants.{Pass, Refuse}
+use Rattle.std.specs.declared.result.Result.TheVariants.{Ok, Err}
 use Rattle.format.specs.declared.Spot.{Spot}
 use Rattle.format.specs.declared.Spot.TheVariants.{Start}
 use Rattle.format.specs.declared.Cutter.{Cutter}
@@ -37,7 +37,7 @@ new_end_lem s n = go (ltb (suc s.column) s.schema.count)
     go false = rw (lt-ltb s.rows (suc s.rows) (omega arith))
 
 -- after a field that is whole the next begins
-pub ended_ready : (s : Cutter) (n : ℕ) → s.refusal ≡ Pass → Ready (field_ended s n)
+pub ended_ready : (s : Cutter) (n : ℕ) → s.refusal ≡ Ok tt → Ready (field_ended s n)
 ended_ready s n e = go (ltb (suc s.column) s.schema.count)
   where
     go : (t : Bool) → Ready (cond t (further s n (suc s.column) Start) (row_ended s n))
@@ -85,7 +85,7 @@ module _ {s₀ : Cutter} {piece : List ℕ} {i : ℕ} {s : Cutter} {found : List
   upto_end l = let e = take_all i piece l in (ap (fed s₀) (sym e) ∙ u.state, ap (ends_in s₀) (sym e) ∙ u.ends)
 
   -- a refusal stands: the rest makes no difference
-  pub upto_refused : (r : Refusal) → s.refusal ≡ Refuse r → (fed s₀ piece ≡ s) × (ends_in s₀ piece ≡ found)
+  pub upto_refused : (r : Refusal) → s.refusal ≡ Err r → (fed s₀ piece ≡ s) × (ends_in s₀ piece ≡ found)
   upto_refused r e = (
     ap (fed s₀) split ∙ fed_append s₀ (take i piece) rest ∙ ap (λ (t : Cutter). fed t rest) u.state ∙ fed_refused s r e rest,
     ap (ends_in s₀) split ∙ ends_append s₀ (take i piece) rest ∙ ap₂ {C = List ℕ} (λ (x : List ℕ) (t : Cutter). x ++ ends_in t rest) u.ends u.state
@@ -114,7 +114,7 @@ module _ {s₀ : Cutter} {piece : List ℕ} {i : ℕ} {s : Cutter} {found : List
       (w.0, w.1 ∙ ap (λ (x : List ℕ). found ++ x) (no_end s (refused q) (omega arith)) ∙ append-nil found)
 
   -- ---- a byte, by what it does to the field
-  module _ (l : i < length piece) (e : s.refusal ≡ Pass) where
+  module _ (l : i < length piece) (e : s.refusal ≡ Ok tt) where
     abbrev b : ℕ
     b = get_or piece i 0
 

@@ -16,12 +16,11 @@ use Rattle.format.specs.declared.RowFault.{RowFault}
 use Rattle.format.specs.declared.RowFault.TheVariants.{Cut}
 use Rattle.format.specs.declared.Refusal.{Refusal}
 use Rattle.format.specs.declared.Refusal.TheVariants.{Row}
-use Rattle.format.specs.declared.Check.{Check}
-use Rattle.format.specs.declared.Check.TheVariants.{Pass, Refuse}
+use Rattle.format.specs.Check.{Check, both, fail_if}
+use Rattle.std.specs.declared.result.Result.TheVariants.{Ok, Err}
 use Rattle.format.specs.declared.Spot.TheVariants.{Start}
 use Rattle.format.specs.declared.Cutter.{Cutter}
 use Rattle.format.specs.Limits.{max_total}
-use Rattle.format.specs.Check.{both, fail_if}
 use Rattle.format.specs.Lists.{Bytes}
 use Rattle.format.specs.Kinds.{Slot, column_shape}
 use Rattle.format.specs.Schemas.{no_column, cols_of}
@@ -59,8 +58,8 @@ pub record Reads (s : Cutter) (cols : List Column) (xs : List ℕ) : Type 0 wher
 -- it does not, and decode refuses it as a finish does: for the fault that stands, or 16
 pub record Refuses (s : Cutter) (cols : List Column) (xs : List ℕ) : Type 0 where
   pub reason : Refusal
-  pub says : judged s cols xs ≡ Refuse reason
-  pub finish : finish_fault (fed s xs) ≡ Refuse reason
+  pub says : judged s cols xs ≡ Err reason
+  pub finish : finish_fault (fed s xs) ≡ Err reason
   pub ends : ends_in s xs ≡ []
 
 module _ (s : Cutter) (col : Column) (cols : List Column) (a : Before s (col ∷ cols)) where
@@ -95,10 +94,10 @@ module _ (s : Cutter) (col : Column) (cols : List Column) (a : Before s (col ∷
     says =
         judged_here xs
         ∙ ap (λ (p : Parsed Slot). field_check s.rows (s.row + length xs) s.column p (row_fault s.rows (s.row + length xs) (suc s.column) cols)) e
-        ∙ ap (λ (n : ℕ). Refuse (Row Cut s.rows s.column n)) (sub-zero (s.row + length xs));
+        ∙ ap (λ (n : ℕ). Err (Row Cut s.rows s.column n)) (sub-zero (s.row + length xs));
     finish =
         ap finish_fault h.state
-        ∙ ap₂ (λ (c : Check) (t : Bool). both c (fail_if t (Row Cut s.rows s.column (s.row + length xs)) Pass)) a.ready.standing
+        ∙ ap₂ (λ (c : Check) (t : Bool). both c (fail_if t (Row Cut s.rows s.column (s.row + length xs)) (Ok tt))) a.ready.standing
         (lt-ltb 0 (s.row + length xs) pos);
     ends = h.ends;
   }

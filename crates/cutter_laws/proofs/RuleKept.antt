@@ -12,8 +12,8 @@ use lib.Seq.{length-take-le, take_all, get_or-take}
 use borrow.Author.Tests.{ltb-true, ltb-false, leb-true, lt-ltb, le-leb}
 use Rattle.format.specs.declared.Column.{Column}
 use Rattle.format.specs.declared.Refusal.TheVariants.{ManyBytes}
-use Rattle.format.specs.declared.Check.{Check}
-use Rattle.format.specs.declared.Check.TheVariants.{Pass, Refuse}
+use Rattle.format.specs.Check.{Check}
+use Rattle.std.specs.declared.result.Result.TheVariants.{Ok, Err}
 use Rattle.format.specs.declared.Spot.{Spot}
 use Rattle.format.specs.declared.Spot.TheVariants.{Start}
 use Rattle.format.specs.declared.Cutter.{Cutter}
@@ -178,11 +178,11 @@ module _ (s : Cutter) (w : Whole s) (t : Stands s) where
   }
 
   -- a state that goes on from s, which no refusal stands in
-  going : s.refusal ≡ Pass → (u : Cutter) → u.refusal ≡ s.refusal → Stands u → keeps u ≡ true
+  going : s.refusal ≡ Ok tt → (u : Cutter) → u.refusal ≡ s.refusal → Stands u → keeps u ≡ true
   unfolding keeps
   going e u same v = ap (λ (c : Check). keeps_with c u) (same ∙ e) ∙ of_stands u v
 
-  moved_keeps : s.refusal ≡ Pass → s.bytes < max_total → (m : Move) → Okay sh (column_in s).options.fold s.row (field_seen s.spot) m → Kept (moved s m)
+  moved_keeps : s.refusal ≡ Ok tt → s.bytes < max_total → (m : Move) → Okay sh (column_in s).options.fold s.row (field_seen s.spot) m → Kept (moved s m)
   unfolding keeps
   moved_keeps e room (on spot) h = (w, going e (further s 1 s.column spot) refl (on_stands spot room h.0 (rw add-one h.1)))
   moved_keeps e room whole h = go (ltb (suc s.column) s.schema.count) refl
@@ -195,7 +195,7 @@ module _ (s : Cutter) (w : Whole s) (t : Stands s) where
     fault_kept_lem (fault_number f) s.rows s.column place h.0 (omega (arith, h.1, rows_most, t.bytes_low, room)) (omega (arith, t.column, t.count)),
   )
 
-  taken_keeps : (b : ℕ) → b < 256 → s.refusal ≡ Pass → Kept (taken s b)
+  taken_keeps : (b : ℕ) → b < 256 → s.refusal ≡ Ok tt → Kept (taken s b)
   unfolding keeps
   taken_keeps b byte e = go (ltb s.bytes max_total) refl
     where
@@ -211,10 +211,10 @@ unfolding keeps
 step_keeps s b byte (w, h) = go s.refusal refl
   where
     go : (c : Check) → s.refusal ≡ c → Kept (unless s.refusal s (taken s b))
-    go Pass e =
+    go (Ok tt) e =
         let t = stands_of s (sym (ap (λ (c : Check). keeps_with c s) e) ∙ h) in
         subst (λ (c : Check). Kept (unless c s (taken s b))) (sym e) (taken_keeps s w t b byte e)
-    go (Refuse r) e = subst (λ (c : Check). Kept (unless c s (taken s b))) (sym e) (w, h)
+    go (Err r) e = subst (λ (c : Check). Kept (unless c s (taken s b))) (sym e) (w, h)
 
 -- and from a piece
 pub fed_keeps : (s : Cutter) (p : List ℕ) → Bytes p → Kept s → Kept (fed s p)

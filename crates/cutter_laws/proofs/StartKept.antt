@@ -12,10 +12,9 @@ use borrow.Author.Tests.{ltb-true, eqb-true, eqb-false, lt-ltb, le-leb}
 use Rattle.format.specs.declared.Column.{Column}
 use Rattle.format.specs.declared.Refusal.{Refusal}
 use Rattle.format.specs.declared.Refusal.TheVariants.{ListCut, UnknownKind, OptionBits, Width, ManyColumns}
-use Rattle.format.specs.declared.Check.{Check}
-use Rattle.format.specs.declared.Check.TheVariants.{Pass, Refuse}
+use Rattle.format.specs.Check.{Check, both, fail_if}
+use Rattle.std.specs.declared.result.Result.TheVariants.{Ok, Err}
 use Rattle.format.specs.Limits.{max_columns, max_width}
-use Rattle.format.specs.Check.{both, fail_if}
 use Rattle.format.specs.Kinds.{last_kind, shape, column_shape, value_bytes}
 use Rattle.format.specs.Columns.{kind_of, most_options, most_width, numbers_fault, description_bytes, width_at, column_at, description_fault, list_fault_from, columns_from, spelled_fault, spelled_columns}
 use Rattle.format.specs.Described.{Description, held, column_of, descriptions_in, held_fault, descriptions_fault_from, descriptions_fault, ColumnList, spelled, described, coded, list_fault, columns}
@@ -57,20 +56,20 @@ fold_bit b o w l = go (ltb 9 b && ltb b 13) refl l
         or_true (not (eqb (o / 8 % 2) 1)) (float_kind b w (ltb-true 9 b p.0) (ltb-true b 13 p.1))
     go false q h = rw (div-eq_of_lt {n = o} {m = 8} (omega arith)) refl
 
-description_folds : (s : List ℕ) (at : ℕ) → description_fault s at ≡ Pass → Folds (column_at s at)
+description_folds : (s : List ℕ) (at : ℕ) → description_fault s at ≡ Ok tt → Folds (column_at s at)
 description_folds s at e =
     let f = fine at (get_or s at 0) (ltb (length s - at) (description_bytes (get_or s at 0))) (get_or s (at + 1) 0) (width_at s at) e in
     fold_bit (get_or s at 0) (get_or s (at + 1) 0) (width_at s at) f.options
 
-folds_from : (room : ℕ) (s : List ℕ) (at : ℕ) → list_fault_from room s at ≡ Pass → Every Folds (columns_from room s at)
+folds_from : (room : ℕ) (s : List ℕ) (at : ℕ) → list_fault_from room s at ≡ Ok tt → Every Folds (columns_from room s at)
 folds_from zero s at e = tt
 folds_from (suc room) s at e = go (folds_from room s next) (ltb at (length s)) e
   where
     next : ℕ
     next = at + description_bytes (get_or s at 0)
 
-    go : (list_fault_from room s next ≡ Pass → Every Folds (columns_from room s next)) → (t : Bool)
-        → cond t (both (description_fault s at) (list_fault_from room s next)) Pass ≡ Pass
+    go : (list_fault_from room s next ≡ Ok tt → Every Folds (columns_from room s next)) → (t : Bool)
+        → cond t (both (description_fault s at) (list_fault_from room s next)) (Ok tt) ≡ Ok tt
         → Every Folds (cond t (column_at s at ∷ columns_from room s next) [])
     go rest true e = let p = both_pass (description_fault s at) _ e in (description_folds s at p.0, rest p.1)
     go rest false e = tt
@@ -79,7 +78,7 @@ descriptions_fold : (ds : List Description) → AllFine ds → Every Folds (map 
 descriptions_fold [] h = tt
 descriptions_fold (d ∷ ds) h = (fold_bit d.kind d.options d.width h.0.options, descriptions_fold ds h.1)
 
-columns_fold : (list : ColumnList) → list_fault list ≡ Pass → Every Folds (columns list)
+columns_fold : (list : ColumnList) → list_fault list ≡ Ok tt → Every Folds (columns list)
 unfolding spelled_fault spelled_columns
 columns_fold (spelled s) e = folds_from max_columns s 0 (fail_if_pass (eqb (length s) 0) _ _ e).1
 columns_fold (described cols) e = subst (Every Folds) (columns_again cols) (descriptions_fold (map held cols) (all_fine (map held cols) e))
@@ -106,16 +105,16 @@ begun_keeps cols some few kept = (
 
 -- a check that refuses for nothing but what a state may hold
 abbrev allows : Check → Bool
-allows Pass = true
-allows (Refuse r) = numbers_kept (refusal_numbers r)
+allows (Ok tt) = true
+allows (Err r) = numbers_kept (refusal_numbers r)
 
 allows_fail : (b : Bool) (r : Refusal) (x : Check) → numbers_kept (refusal_numbers r) ≡ true → allows x ≡ true → allows (fail_if b r x) ≡ true
 allows_fail true r x p q = p
 allows_fail false r x p q = q
 
 allows_both : (x y : Check) → allows x ≡ true → allows y ≡ true → allows (both x y) ≡ true
-allows_both Pass y p q = q
-allows_both (Refuse r) y p q = p
+allows_both (Ok tt) y p q = q
+allows_both (Err r) y p q = p
 
 -- a place that a column may have
 module _ (place : ℕ) (l : place ≤ 4 * max_columns) where
@@ -150,7 +149,7 @@ list_allows_from (suc room) s at l =
     go (ltb at (length s)) (list_allows_from room s (at + description_bytes (get_or s at 0)) (omega (arith, (bytes_least (get_or s at 0)).1)))
   where
     go : (t : Bool) → allows (list_fault_from room s (at + description_bytes (get_or s at 0))) ≡ true
-        → allows (cond t (both (description_fault s at) (list_fault_from room s (at + description_bytes (get_or s at 0)))) Pass) ≡ true
+        → allows (cond t (both (description_fault s at) (list_fault_from room s (at + description_bytes (get_or s at 0)))) (Ok tt)) ≡ true
     go true ih =
         allows_both (description_fault s at) _
         (numbers_allow at (get_or s at 0) (ltb (length s - at) (description_bytes (get_or s at 0))) (get_or s (at + 1) 0) (width_at s at) (omega arith)) ih
@@ -176,10 +175,10 @@ list_allows (coded s) = descriptions_allow (descriptions_in s)
 -- ---- a start
 
 -- from what the list check says: columns such as a list may have, or a list fault
-started_keeps : (c : Check) (cols : List Column) → (c ≡ Pass → Kept (begun cols)) → allows c ≡ true → Kept (started_with c cols)
+started_keeps : (c : Check) (cols : List Column) → (c ≡ Ok tt → Kept (begun cols)) → allows c ≡ true → Kept (started_with c cols)
 unfolding keeps
-started_keeps Pass cols p a = p refl
-started_keeps (Refuse r) cols p a = (refl, a)
+started_keeps (Ok tt) cols p a = p refl
+started_keeps (Err r) cols p a = (refl, a)
 
 pub start_keeps : (list : ColumnList) → Kept (start_state list)
 unfolding start_state

@@ -14,8 +14,8 @@ use Rattle.format.specs.declared.Kind.TheVariants.{Bool as KindBool, I8, I16, I3
 use Rattle.format.specs.declared.Column.{Column}
 use Rattle.format.specs.declared.Schema.{Schema}
 use Rattle.format.specs.declared.Refusal.{Refusal}
-use Rattle.format.specs.declared.Check.{Check}
-use Rattle.format.specs.declared.Check.TheVariants.{Pass, Refuse}
+use Rattle.format.specs.Check.{Check}
+use Rattle.std.specs.declared.result.Result.TheVariants.{Ok, Err}
 use Rattle.format.specs.declared.Spot.{Spot}
 use Rattle.format.specs.declared.Spot.TheVariants.{Start, Nulls, Value, Block}
 use Rattle.format.specs.declared.Cutter.{Cutter}
@@ -140,7 +140,7 @@ small_state s a b c d =
     last = spot_numbers s.spot ++ s.schema.count ∷ []
 
 -- no refusal stands
-standing_held : (s : Cutter) → Whole s → s.refusal ≡ Pass → Stands s → Held s
+standing_held : (s : Cutter) → Whole s → s.refusal ≡ Ok tt → Stands s → Held s
 standing_held s w e t = record {
   few = t.count;
   narrow = two_bytes (cols_of s.schema) narrow;
@@ -182,7 +182,7 @@ at_start_lem (Nulls seen known) h = absurd (false≢true h)
 at_start_lem (Value seen spelt) h = absurd (false≢true h)
 at_start_lem (Block k seen marks) h = absurd (false≢true h)
 
-refused_held : (s : Cutter) (r : Refusal) → s.refusal ≡ Refuse r → (emptied s && numbers_kept (refusal_numbers r)) ≡ true → Held s
+refused_held : (s : Cutter) (r : Refusal) → s.refusal ≡ Err r → (emptied s && numbers_kept (refusal_numbers r)) ≡ true → Held s
 refused_held s r e h = record {
   few = omega (arith, empty);
   narrow = subst (λ (n : ℕ). TwoBytes (take n s.schema.columns)) {x = 0} {y = s.schema.count} (omega (arith, empty)) tt;
@@ -213,8 +213,8 @@ unfolding keeps
 held s w h = go s.refusal refl
   where
     go : (c : Check) → s.refusal ≡ c → Held s
-    go Pass e = standing_held s w e (stands_of s (sym (ap (λ (c : Check). keeps_with c s) e) ∙ h))
-    go (Refuse r) e = refused_held s r e (sym (ap (λ (c : Check). keeps_with c s) e) ∙ h)
+    go (Ok tt) e = standing_held s w e (stands_of s (sym (ap (λ (c : Check). keeps_with c s) e) ∙ h))
+    go (Err r) e = refused_held s r e (sym (ap (λ (c : Check). keeps_with c s) e) ∙ h)
 
 -- ---- read back
 

@@ -13,7 +13,7 @@ use Rattle.format.specs.declared.Column.{Column}
 use Rattle.format.specs.declared.SortOptions.{SortOptions}
 use Rattle.format.specs.declared.RowFault.TheVariants.{Cut, Extra}
 use Rattle.format.specs.declared.Refusal.TheVariants.{Row}
-use Rattle.format.specs.declared.Check.TheVariants.{Pass, Refuse}
+use Rattle.std.specs.declared.result.Result.TheVariants.{Ok, Err}
 use Rattle.format.specs.declared.Cutter.{Cutter}
 use Rattle.format.specs.Limits.{max_total}
 use Rattle.format.specs.Check.{fail_if}
@@ -51,14 +51,14 @@ module _ (cols : List Column) (some : 0 < length cols) where
 
   -- ---- a row that ended is one that decode accepts
   row_accepted : (r n : ℕ) (x : List ℕ) → Bytes x → n + length x ≤ max_total → ends_in (at_row cols r n) x ≡ (n + length x) ∷ []
-      → row_fault r (length x) 0 cols x ≡ Pass
+      → row_fault r (length x) 0 cols x ≡ Ok tt
   row_accepted r n [] bs l e = absurd (let z : ◌≡◌ {A = ℕ} 0 1 = cc in omega arith)
   row_accepted r n (b ∷ y) bs l e = go (row_fed r n (b ∷ y) bs l (omega arith))
     where
       x : List ℕ
       x = b ∷ y
 
-      go : RowFed (at_row cols r n) cols x → row_fault r (length x) 0 cols x ≡ Pass
+      go : RowFed (at_row cols r n) cols x → row_fault r (length x) 0 cols x ≡ Ok tt
       go (inl g) =
           ap (λ (len : ℕ). row_fault r len 0 cols x) (sym (zero-add (length x))) ∙ g.says ∙ nothing g.rest none_left
         where
@@ -75,7 +75,7 @@ module _ (cols : List Column) (some : 0 < length cols) where
               let same : n + length d.part ≡ n + length x = ap (λ (z : List ℕ). get_or z 0 0) found in
               omega (arith, ap length d.splits, length-append d.part g.rest)
 
-          nothing : (rest : List ℕ) → length rest ≡ 0 → row_fault r (0 + length x) (0 + length cols) [] rest ≡ Pass
+          nothing : (rest : List ℕ) → length rest ≡ 0 → row_fault r (0 + length x) (0 + length cols) [] rest ≡ Ok tt
           nothing [] q = refl
           nothing (c ∷ rest) q = absurd (omega arith)
       go (inr g) = absurd (let z : ◌≡◌ {A = ℕ} 0 1 = ap length (sym g.ends ∙ e) in omega arith)
@@ -91,7 +91,7 @@ module _ (cols : List Column) (some : 0 < length cols) where
     pub rows : List (List ℕ)
     pub left : List ℕ
     pub splits : xs ≡ joined rows ++ left
-    pub accepted : rows_fault r cols rows ≡ Pass
+    pub accepted : rows_fault r cols rows ≡ Ok tt
     pub ends : ends_in (at_row cols r n) xs ≡ drop 1 (ends_from n rows)
     pub judged : Judged (r + length rows) (n + length (joined rows)) left (fed (at_row cols r n) xs)
 
@@ -209,18 +209,18 @@ module _ (cols : List Column) (some : 0 < length cols) where
           ∙ drop_at (joined c.rows) c.left (length (joined c.rows)) refl
 
       go : Judged (0 + length c.rows) (0 + length (joined c.rows)) c.left (fed (begun cols) xs)
-          → ((length (openRow cols xs) ≡ 0) × (finish_fault (fed (begun cols) xs) ≡ Pass))
+          → ((length (openRow cols xs) ≡ 0) × (finish_fault (fed (begun cols) xs) ≡ Ok tt))
           ⊎ (row_fault (length ends) (length (openRow cols xs)) 0 cols (openRow cols xs) ≡ finish_fault (fed (begun cols) xs))
       go (inl g) = inl (ap length (opens ∙ g.0), ap finish_fault g.1)
       go (inr g) = inr (
           ap₂ (λ (k : ℕ) (z : List ℕ). row_fault k (length z) 0 cols z) (many ∙ sym (zero-add (length c.rows))) opens ∙ g)
 
   -- ---- rows that decode accepts are cut where they end
-  row_whole : (r n : ℕ) (x : List ℕ) → Bytes x → n + length x ≤ max_total → 0 < length x → row_fault r (length x) 0 cols x ≡ Pass
+  row_whole : (r n : ℕ) (x : List ℕ) → Bytes x → n + length x ≤ max_total → 0 < length x → row_fault r (length x) 0 cols x ≡ Ok tt
       → (fed (at_row cols r n) x ≡ at_row cols (suc r) (n + length x)) × (ends_in (at_row cols r n) x ≡ (n + length x) ∷ [])
   row_whole r n x bs l pos e = go (row_fed r n x bs l pos)
     where
-      passes : row_fault r (0 + length x) 0 cols x ≡ Pass
+      passes : row_fault r (0 + length x) 0 cols x ≡ Ok tt
       passes = ap (λ (len : ℕ). row_fault r len 0 cols x) (zero-add (length x)) ∙ e
 
       go : RowFed (at_row cols r n) cols x → (fed (at_row cols r n) x ≡ at_row cols (suc r) (n + length x)) × (ends_in (at_row cols r n) x ≡ (n + length x) ∷ [])
@@ -234,7 +234,7 @@ module _ (cols : List Column) (some : 0 < length cols) where
             subst (λ (z : List ℕ). ends_in (at_row cols r n) z ≡ (n + length z) ∷ []) part g.done.ends,
           )
         where
-          none_left : (rest : List ℕ) → row_fault r (0 + length x) (0 + length cols) [] rest ≡ Pass → rest ≡ []
+          none_left : (rest : List ℕ) → row_fault r (0 + length x) (0 + length cols) [] rest ≡ Ok tt → rest ≡ []
           none_left [] q = refl
           none_left (b ∷ rest) q = absurd (refuse_pass q)
 
@@ -243,16 +243,16 @@ module _ (cols : List Column) (some : 0 < length cols) where
   empty_field (fixed k) o = refl
   empty_field variable o = refl
 
-  row_some : (r : ℕ) (x : List ℕ) → row_fault r (length x) 0 cols x ≡ Pass → 0 < length x
+  row_some : (r : ℕ) (x : List ℕ) → row_fault r (length x) 0 cols x ≡ Ok tt → 0 < length x
   row_some r (b ∷ x) e = omega arith
   row_some r [] e = go cols some e
     where
-      go : (cs : List Column) → 0 < length cs → row_fault r 0 0 cs [] ≡ Pass → 0 < 0
+      go : (cs : List Column) → 0 < length cs → row_fault r 0 0 cs [] ≡ Ok tt → 0 < 0
       go [] p e = p
       go (col ∷ cs) p e =
           absurd (refuse_pass (sym (ap (λ (z : Parsed Slot). field_check r 0 0 z (row_fault r 0 1 cs)) (empty_field (column_shape col) col.options)) ∙ e))
 
-  rows_from : (r n : ℕ) (rows : List (List ℕ)) → Every Bytes rows → rows_fault r cols rows ≡ Pass → n + length (joined rows) ≤ max_total
+  rows_from : (r n : ℕ) (rows : List (List ℕ)) → Every Bytes rows → rows_fault r cols rows ≡ Ok tt → n + length (joined rows) ≤ max_total
       → (fed (at_row cols r n) (joined rows) ≡ at_row cols (r + length rows) (n + length (joined rows)))
       × (ends_in (at_row cols r n) (joined rows) ≡ drop 1 (ends_from n rows))
   rows_from r n [] bs e l = (ap₂ (at_row cols) (sym (add-zero r)) (sym (add-zero n)), refl)
@@ -269,7 +269,7 @@ module _ (cols : List Column) (some : 0 < length cols) where
             ∙ sym (ends_head (n + length x) rows),
       )
 
-  pub rows_cut : (rows : List (List ℕ)) → Every Bytes rows → rows_fault 0 cols rows ≡ Pass → length (joined rows) ≤ max_total
+  pub rows_cut : (rows : List (List ℕ)) → Every Bytes rows → rows_fault 0 cols rows ≡ Ok tt → length (joined rows) ≤ max_total
       → (fed (begun cols) (joined rows) ≡ at_row cols (length rows) (length (joined rows))) × (ends_in (begun cols) (joined rows) ≡ drop 1 (ends_from 0 rows))
   rows_cut rows bs e l =
       let h = rows_from 0 0 rows bs e (omega arith) in
@@ -298,8 +298,8 @@ module _ (cols : List Column) (some : 0 < length cols) where
 
           extra : (rest : List ℕ) → length x ≡ length part + length rest
               → row_fault r (0 + length x) (0 + length cols) [] rest
-              ≡ fail_if (ltb (0 + length part) (length x)) (Row Extra r (length cols) (0 + length part)) Pass
+              ≡ fail_if (ltb (0 + length part) (length x)) (Row Extra r (length cols) (0 + length part)) (Ok tt)
           extra [] q = rw (le-ltb (0 + length part) (length x) (omega arith))
           extra (b ∷ rest) q =
               rw (lt-ltb (0 + length part) (length x) (omega arith))
-              (ap₂ (λ (c place : ℕ). Refuse (Row Extra r c place)) (zero-add (length cols)) (omega arith))
+              (ap₂ (λ (c place : ℕ). Err (Row Extra r c place)) (zero-add (length cols)) (omega arith))

@@ -12,8 +12,8 @@ use borrow.Author.Tests.{ltb-true}
 use Rattle.format.specs.declared.Column.{Column}
 use Rattle.format.specs.declared.Refusal.{Refusal}
 use Rattle.format.specs.declared.Refusal.TheVariants.{ManyBytes, Row}
-use Rattle.format.specs.declared.Check.{Check}
-use Rattle.format.specs.declared.Check.TheVariants.{Pass, Refuse}
+use Rattle.format.specs.Check.{Check}
+use Rattle.std.specs.declared.result.Result.TheVariants.{Ok, Err}
 use Rattle.format.specs.declared.Spot.TheVariants.{Start}
 use Rattle.format.specs.declared.Cutter.{Cutter}
 use Rattle.format.specs.Limits.{max_columns, max_total}
@@ -28,12 +28,12 @@ use Rattle.cutter_laws.proofs.FieldFed.{no_end, step_room}
 -- ---- how a byte changes a state, where none refused it
 
 -- a refusal leaves no way back
-fed_pass : (s : Cutter) (xs : List ℕ) → (fed s xs).refusal ≡ Pass → s.refusal ≡ Pass
+fed_pass : (s : Cutter) (xs : List ℕ) → (fed s xs).refusal ≡ Ok tt → s.refusal ≡ Ok tt
 fed_pass s xs h = go s.refusal refl
   where
-    go : (c : Check) → s.refusal ≡ c → s.refusal ≡ Pass
-    go Pass e = e
-    go (Refuse r) e = absurd (refuse_pass (sym (ap (λ (t : Cutter). t.refusal) (fed_refused s r e xs) ∙ e) ∙ h))
+    go : (c : Check) → s.refusal ≡ c → s.refusal ≡ Ok tt
+    go (Ok tt) e = e
+    go (Err r) e = absurd (refuse_pass (sym (ap (λ (t : Cutter). t.refusal) (fed_refused s r e xs) ∙ e) ∙ h))
 
 ended_bytes : (s : Cutter) (n : ℕ) → (field_ended s n).bytes ≡ s.bytes + n
 ended_bytes s n = go (ltb (suc s.column) s.schema.count)
@@ -42,12 +42,12 @@ ended_bytes s n = go (ltb (suc s.column) s.schema.count)
     go true = refl
     go false = refl
 
-moved_bytes : (s : Cutter) (m : Move) → (moved s m).refusal ≡ Pass → (moved s m).bytes ≡ s.bytes + 1
+moved_bytes : (s : Cutter) (m : Move) → (moved s m).refusal ≡ Ok tt → (moved s m).bytes ≡ s.bytes + 1
 moved_bytes s (on spot) h = refl
 moved_bytes s whole h = ended_bytes s 1
 moved_bytes s (bad f place) h = absurd (refuse_pass h)
 
-step_bytes : (s : Cutter) (b : ℕ) → s.refusal ≡ Pass → (step s b).refusal ≡ Pass → (step s b).bytes ≡ s.bytes + 1
+step_bytes : (s : Cutter) (b : ℕ) → s.refusal ≡ Ok tt → (step s b).refusal ≡ Ok tt → (step s b).bytes ≡ s.bytes + 1
 step_bytes s b e h = go (ltb s.bytes max_total) refl
   where
     go : (t : Bool) → ltb s.bytes max_total ≡ t → (step s b).bytes ≡ s.bytes + 1
@@ -59,7 +59,7 @@ step_bytes s b e h = go (ltb s.bytes max_total) refl
         ∙ ap (λ (t : Bool). (cond t (moved s (move_in s b)) (refused (ManyBytes (suc max_total) s.rows))).refusal) q) ∙ h))
 
 -- all bytes were counted
-fed_bytes : (s : Cutter) (xs : List ℕ) → (fed s xs).refusal ≡ Pass → (fed s xs).bytes ≡ s.bytes + length xs
+fed_bytes : (s : Cutter) (xs : List ℕ) → (fed s xs).refusal ≡ Ok tt → (fed s xs).bytes ≡ s.bytes + length xs
 fed_bytes s [] h = sym (add-zero s.bytes)
 fed_bytes s (b ∷ xs) h =
     let p = fed_pass (step s b) xs h in
@@ -75,9 +75,9 @@ module _ (s : Cutter) (xs ys : List ℕ) (full : s.bytes + length xs ≡ max_tot
   many = ManyBytes (suc max_total) t.rows
 
   rest : (c : Check) → t.refusal ≡ c → (zs : List ℕ) → 0 < length zs → (fed t zs ≡ unless c t (refused many)) × (ends_in t zs ≡ [])
-  rest (Refuse r) e zs l = (fed_refused t r e zs, ends_refused t r e zs)
-  rest Pass e [] l = absurd (omega arith)
-  rest Pass e (b ∷ zs) l =
+  rest (Err r) e zs l = (fed_refused t r e zs, ends_refused t r e zs)
+  rest (Ok tt) e [] l = absurd (omega arith)
+  rest (Ok tt) e (b ∷ zs) l =
       let q : step t b ≡ refused many = step_full t b e (fed_bytes s xs e ∙ full) in (
         ap (λ (u : Cutter). fed u zs) q ∙ fed_refused (refused many) many refl zs,
         ap (λ (u : Cutter). new_end t u ++ ends_in u zs) q
@@ -111,9 +111,9 @@ step_listed : (s : Cutter) (b : ℕ) → Listed s → Listed (step s b)
 step_listed s b h = go s.refusal (ltb s.bytes max_total)
   where
     go : (c : Check) (t : Bool) → Listed (unless c s (cond t (moved s (move_in s b)) (refused (ManyBytes (suc max_total) s.rows))))
-    go Pass true = moved_listed s (move_in s b) h
-    go Pass false = refused_listed (ManyBytes (suc max_total) s.rows)
-    go (Refuse r) t = h
+    go (Ok tt) true = moved_listed s (move_in s b) h
+    go (Ok tt) false = refused_listed (ManyBytes (suc max_total) s.rows)
+    go (Err r) t = h
 
 fed_listed : (s : Cutter) (xs : List ℕ) → Listed s → Listed (fed s xs)
 fed_listed s [] h = h
@@ -124,13 +124,13 @@ unfolding cut_state
 cut_listed s piece room h = go (cut_fault s (length piece) room)
   where
     go : (c : Check) → Listed (unless c s (fed s piece))
-    go Pass = fed_listed s piece h
-    go (Refuse r) = h
+    go (Ok tt) = fed_listed s piece h
+    go (Err r) = h
 
 pub start_listed : (list : ColumnList) → Listed (start_state list)
 unfolding start_state
 start_listed list = go (list_fault list) refl
   where
     go : (c : Check) → list_fault list ≡ c → Listed (started_with c (columns list))
-    go Pass e = record { cols = columns list; few = (columns_few list e).1; schema = refl }
-    go (Refuse r) e = refused_listed r
+    go (Ok tt) e = record { cols = columns list; few = (columns_few list e).1; schema = refl }
+    go (Err r) e = refused_listed r

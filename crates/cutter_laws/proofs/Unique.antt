@@ -3,7 +3,7 @@
 use Prim.Native.Nat.{ℕ}
 use mathlib.Core.Path.{◌≡◌}
 use mathlib.Core.List.{List}
-use Rattle.format.specs.declared.Answer.{Answer}
+use Rattle.format.specs.Numbers.{Answer}
 use Rattle.format.specs.declared.Cutter.{Cutter}
 use Rattle.format.specs.Described.{ColumnList}
 use Rattle.format.specs.Promises.{Started, PieceCut, Finished, LentStarted, LentPieceCut, LentFinished}

@@ -9,14 +9,14 @@ use lib.Dec.{ltb, leb, eqb}
 use lib.ListN.{length, get_or, take}
 use lib.Seq.{get_or-take}
 use lib.Pow.{pow-add, pow_pos}
-use borrow.Author.Tests.{ltb-true, ltb-false, leb-true, leb-false, eqb-true, eqb-false, lt-ltb, le-ltb, le-leb, lt-leb, eq-eqb, ne_eqb}
+use borrow.Author.Tests.{ltb-true, ltb-false, leb-true, lt-ltb, le-ltb, le-leb, lt-leb, eq-eqb, ne_eqb}
 use Rattle.format.specs.declared.Kind.{Kind}
 use Rattle.format.specs.declared.Kind.TheVariants.{Variable}
 use Rattle.format.specs.declared.Column.{Column}
 use Rattle.format.specs.declared.Schema.{Schema}
 use Rattle.format.specs.declared.Refusal.{Refusal}
-use Rattle.format.specs.declared.Check.{Check}
-use Rattle.format.specs.declared.Check.TheVariants.{Pass, Refuse}
+use Rattle.format.specs.Check.{Check}
+use Rattle.std.specs.declared.result.Result.TheVariants.{Ok, Err}
 use Rattle.format.specs.declared.Cutter.{Cutter}
 use Rattle.format.specs.declared.Returned.{Returned}
 use Rattle.format.specs.declared.Spot.{Spot}
@@ -352,11 +352,11 @@ part_most false n = omega arith
 -- ---- the rule
 
 module _ (s : Cutter) (t : Bool) where
-  pub rule_stands : s.refusal ≡ Pass → t ≡ standing_kept (standing_at s.schema s.rows s.bytes s.row s.column s.spot) → t ≡ keeps s
+  pub rule_stands : s.refusal ≡ Ok tt → t ≡ standing_kept (standing_at s.schema s.rows s.bytes s.row s.column s.spot) → t ≡ keeps s
   unfolding keeps
   rule_stands e p = p ∙ sym (ap (λ (c : Check). keeps_with c s) e)
 
-  pub rule_refused : (r : Refusal) → s.refusal ≡ Refuse r → t ≡ (emptied s && numbers_kept (refusal_numbers r)) → t ≡ keeps s
+  pub rule_refused : (r : Refusal) → s.refusal ≡ Err r → t ≡ (emptied s && numbers_kept (refusal_numbers r)) → t ≡ keeps s
   unfolding keeps
   rule_refused r e p = p ∙ sym (ap (λ (c : Check). keeps_with c s) e)
 

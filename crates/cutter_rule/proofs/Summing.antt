@@ -1,6 +1,6 @@
 -- One pass over the columns: their sums so far, of those before the one that is being read and of all. Assumes nothing.
 use Prim.Native.Nat.{ℕ, zero, suc, ◌+◌, ◌*◌, ◌<◌, ◌≤◌}
-use mathlib.Core.Path.{◌≡◌, refl, sym, ap, subst, ◌∙◌}
+use mathlib.Core.Path.{◌≡◌, refl, sym, ap, ◌∙◌}
 use mathlib.Core.Bool.{Bool, true, false, cond, ◌&&◌, false≢true}
 use mathlib.Core.List.{List, [], ◌∷◌, ◌++◌}
 use native.Mathlib.Numerals.{add-one}
@@ -14,7 +14,6 @@ use Rattle.format.specs.Limits.{max_columns}
 use Rattle.format.specs.Kinds.{Shape, column_shape}
 use Rattle.format.specs.Schemas.{no_column}
 use Rattle.format.specs.CutterRule.{column_kept, columns_kept, fewest, most, over_all}
-use Rattle.cutter_rule.specs.declared.Sums.{Sums}
 use Rattle.cutter_rule.specs.Sums.{Summed}
 
 -- ---- over columns, one after the other

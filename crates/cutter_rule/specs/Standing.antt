@@ -1,7 +1,6 @@
 -- A state in which no refusal stands, by its numbers.
-use Rattle.std.specs.Prelude.{ℕ, ◌≤◌, Bool, true, false}
+use Rattle.std.specs.Prelude.{ℕ, ◌≤◌, Bool, true, false, Ok}
 use Rattle.format.specs.declared.Schema.{Schema}
-use Rattle.format.specs.declared.Check.TheVariants.{Pass}
 use Rattle.format.specs.declared.Spot.{Spot}
 use Rattle.format.specs.declared.Spot.TheVariants.{Start, Nulls, Value, Block}
 use Rattle.format.specs.declared.Cutter.{Cutter}
@@ -11,7 +10,7 @@ use Rattle.format.specs.CutterRule.{before}
 
 abbrev pub standing_at : Schema → ℕ → ℕ → ℕ → ℕ → Spot → Cutter
 standing_at schema rows bytes row c spot =
-    record { schema = schema; refusal = Pass; rows = rows; bytes = bytes; row = row; column = c; spot = spot }
+    record { schema = schema; refusal = Ok tt; rows = rows; bytes = bytes; row = row; column = c; spot = spot }
 
 abbrev pub is_variable : Shape → Bool
 is_variable (fixed k) = false

@@ -14,9 +14,7 @@ use answers::refusal_numbers;
 use block_moves::bytes_before;
 use blocks::block_size;
 use column_facts::width;
-use format::{
-    Check, Column, Cutter, Kind, MAX_COLUMNS, MAX_TOTAL, MAX_WIDTH, Refusal, Schema, Spot,
-};
+use format::{Column, Cutter, Kind, MAX_COLUMNS, MAX_TOTAL, MAX_WIDTH, Refusal, Schema, Spot};
 
 // The longest field: that of 65,535 variable bytes.
 const MAX_FIELD: u64 = 67588;
@@ -100,8 +98,7 @@ fn sum_columns(schema: Schema, column: usize) -> Sums
     let mut high: u64 = 0;
     let mut few: u64 = 0;
     let mut many: u64 = 0;
-    let mut c = 0;
-    while c < count {
+    for c in 0..count {
         let next = columns[c];
         if !column_kept(next) {
             return Sums {
@@ -119,7 +116,6 @@ fn sum_columns(schema: Schema, column: usize) -> Sums
         high += part(c < column, longest);
         few += least;
         many += longest;
-        c += 1;
     }
     Sums {
         kept: true,
@@ -351,8 +347,8 @@ pub fn keeps(state: Cutter) -> bool
     let column = state.column;
     let spot = state.spot;
     match refusal {
-        Check::Pass => stands(schema, rows, bytes, row, column, spot),
-        Check::Refuse(r) => {
+        Ok(()) => stands(schema, rows, bytes, row, column, spot),
+        Err(r) => {
             if !emptied(count, rows, bytes, row, column, spot) {
                 return false;
             }

@@ -1,8 +1,7 @@
 -- A cutter's state as the walk over a piece holds it: the columns, which stay, and the numbers.
-use Rattle.std.specs.Prelude.{ℕ, ◌+◌, ◌≤◌, ◌<◌, ◌≡◌, cond, List, [], ◌∷◌, ltb, length, take, drop}
+use Rattle.std.specs.Prelude.{ℕ, ◌+◌, ◌≤◌, ◌<◌, ◌≡◌, cond, List, [], ◌∷◌, ltb, length, take, drop, Ok}
 use Rattle.format.specs.declared.Column.{Column}
 use Rattle.format.specs.declared.Schema.{Schema}
-use Rattle.format.specs.declared.Check.TheVariants.{Pass}
 use Rattle.format.specs.declared.Spot.{Spot}
 use Rattle.format.specs.declared.Spot.TheVariants.{Start}
 use Rattle.format.specs.declared.Cutter.{Cutter}
@@ -16,7 +15,7 @@ use Rattle.cutter_step.specs.declared.Stepped.TheVariants.{Going, Ended, Stopped
 
 -- the state with these columns, which no refusal stands in
 abbrev pub state_at : Schema → Place → Cutter
-state_at schema p = record { schema = schema; refusal = Pass; rows = p.rows; bytes = p.bytes; row = p.row; column = p.column; spot = p.spot }
+state_at schema p = record { schema = schema; refusal = Ok tt; rows = p.rows; bytes = p.bytes; row = p.row; column = p.column; spot = p.spot }
 
 -- the numbers of a state
 abbrev pub place_of : Cutter → Place

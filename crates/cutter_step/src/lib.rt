@@ -15,7 +15,8 @@ pub struct Place {
     pub spot: Spot,
 }
 
-// What a byte does: the row goes on, or it ended; or the stream is refused.
+// What a byte does: the row goes on, or it ended; or the stream is refused. Three cases that are matched as such, where a Result with a flag
+// would be matched twice.
 #[derive(Clone, Copy)]
 pub enum Stepped {
     Going(Place),

@@ -2,9 +2,9 @@
 use Prim.Native.Nat.{ℕ, ◌+◌, ◌-◌, ◌<◌, ◌≤◌}
 use mathlib.Core.Path.{◌≡◌, refl, sym, ap, subst, ◌∙◌}
 use mathlib.Core.Bool.{Bool, true, false, cond, true≢false}
-use mathlib.Core.Logic.{◌⊎◌, inl, inr}
+use mathlib.Core.Logic.{inl, inr}
 use mathlib.Core.Option.{none, some}
-use mathlib.Core.List.{List, [], ◌∷◌}
+use mathlib.Core.List.{List}
 use native.Mathlib.Nat.{pos_of_ne-zero}
 use native.Mathlib.Omega.{arith}
 use lib.Dec.{leb}
@@ -18,8 +18,8 @@ use Rattle.format.specs.declared.RowFault.TheVariants.{Cut, Lead, NullRest, Bool
 use Rattle.format.specs.declared.FieldRead.{FieldRead}
 use Rattle.format.specs.declared.FieldRead.TheVariants.{Null, Value, Fault}
 use Rattle.format.specs.declared.Refusal.TheVariants.{Row}
-use Rattle.format.specs.declared.Check.{Check}
-use Rattle.format.specs.declared.Check.TheVariants.{Pass, Refuse}
+use Rattle.format.specs.Check.{Check}
+use Rattle.std.specs.declared.result.Result.TheVariants.{Ok, Err}
 use Rattle.format.specs.declared.Spot.{Spot}
 use Rattle.format.specs.declared.Spot.TheVariants.{Start}
 use Rattle.format.specs.Limits.{max_columns, max_total}
@@ -32,8 +32,8 @@ use Rattle.format.specs.Cutter.{fed, new_end, ends_in, refused, field_ended}
 use Rattle.basics.proofs.Bytes.{bytes_take, bytes_drop}
 use Rattle.laws.proofs.FaultPlace.{fault_inside}
 use Rattle.cutter_laws.proofs.RuleMoves.{and_true}
-use Rattle.cutter_laws.proofs.RuleKept.{Stands, stands_of}
-use Rattle.cutter_laws.proofs.FieldFed.{Ended as Whole, Broken, FieldFed, field_in, field_fed}
+use Rattle.cutter_laws.proofs.RuleKept.{stands_of}
+use Rattle.cutter_laws.proofs.FieldFed.{Ended as Whole, Broken, FieldFed, field_fed}
 use Rattle.cutter_step.specs.declared.Place.{Place}
 use Rattle.cutter_step.specs.declared.Stepped.TheVariants.{Stopped}
 use Rattle.cutter_walk.specs.declared.Walked.{Walked}
@@ -192,7 +192,7 @@ module _ {schema : Schema} {at₀ : Place} {piece : List ℕ} {i₀ n₀ : ℕ} 
   fields_standing = standing schema here w.turning.kept
 
   -- it may end here
-  pub fields_leave : (r : Walked) → r ≡ placed Pass rows bytes row c n i → Goes schema at₀ piece i₀ n₀ ends₀ r ends
+  pub fields_leave : (r : Walked) → r ≡ placed (Ok tt) rows bytes row c n i → Goes schema at₀ piece i₀ n₀ ends₀ r ends
   fields_leave r e = turn_leaves w.turning r e
 
   module _ (all : Bytes piece) (more : i < end) (a : FieldRead) (is : Read column schema.count here piece i (end - i) a) where
@@ -243,7 +243,7 @@ module _ {schema : Schema} {at₀ : Place} {piece : List ℕ} {i₀ n₀ : ℕ} 
         go (Fault f l) h z e = rw e (pick (is_cut f) refl)
           where
             pick : (t : Bool) → is_cut f ≡ t
-                → Goes schema at₀ piece i₀ n₀ ends₀ (placed (cond t Pass (Refuse (Row f rows c (row + (end - i) - l)))) rows bytes row c n i) ends
+                → Goes schema at₀ piece i₀ n₀ ends₀ (placed (cond t (Ok tt) (Err (Row f rows c (row + (end - i) - l)))) rows bytes row c n i) ends
             pick true u = turn_leaves w.turning _ refl
             pick false u =
                 turn_stops w.turning all _ (fault_advances column schema.count here piece i (end - i) inside all w.room refl f l h u (omega arith))
@@ -273,5 +273,5 @@ fields_begin schema p piece i n ends m held kept e few within most room = record
 }
 
 -- a fault that shows is refused
-pub shown_uncut : (f : RowFault) (l r c whole : ℕ) → is_cut f ≡ false → Refuse (Row f r c (whole - l)) ≡ fault_shown (Fault f l) r c whole
+pub shown_uncut : (f : RowFault) (l r c whole : ℕ) → is_cut f ≡ false → Err (Row f r c (whole - l)) ≡ fault_shown (Fault f l) r c whole
 shown_uncut f l r c whole e = rw e

@@ -12,8 +12,8 @@ use lib.Seq.{drop-cons, set_at}
 use Rattle.format.specs.declared.Column.{Column}
 use Rattle.format.specs.declared.Schema.{Schema}
 use Rattle.format.specs.declared.Refusal.{Refusal}
-use Rattle.format.specs.declared.Check.{Check}
-use Rattle.format.specs.declared.Check.TheVariants.{Pass, Refuse}
+use Rattle.format.specs.Check.{Check}
+use Rattle.std.specs.declared.result.Result.TheVariants.{Ok, Err}
 use Rattle.format.specs.declared.Cutter.{Cutter}
 use Rattle.format.specs.Limits.{max_columns}
 use Rattle.format.specs.Lists.{Bytes, over}
@@ -23,7 +23,7 @@ use Rattle.format.specs.Cutter.{fed, new_end, ends_in}
 use Rattle.basics.proofs.Compare.{choose}
 use Rattle.basics.proofs.Bytes.{bytes_take, bytes_drop}
 use Rattle.cutter_laws.specs.Calls.{Kept}
-use Rattle.cutter_laws.proofs.RuleKept.{Stands, stands_of, rows_most, fed_keeps}
+use Rattle.cutter_laws.proofs.RuleKept.{stands_of, rows_most, fed_keeps}
 use Rattle.cutter_laws.proofs.Piece.{Upto, upto_more, upto_end, upto_refused}
 use Rattle.cutter_step.specs.declared.Place.{Place}
 use Rattle.cutter_step.specs.declared.Stepped.{Stepped}
@@ -117,7 +117,7 @@ module _ {schema : Schema} {p : Place} {piece ends₀ : List ℕ} {at : Place} {
         long = length-set ends n q.bytes ∙ w.long;
       }
 
-  walk_stops : (x : Refusal) (k : ℕ) (t : Place) → r.turn ≡ Stopped x → Walks schema p piece ends₀ (record { check = Refuse x; place = t; ends = n; read = k }) ends
+  walk_stops : (x : Refusal) (k : ℕ) (t : Place) → r.turn ≡ Stopped x → Walks schema p piece ends₀ (record { check = Err x; place = t; ends = n; read = k }) ends
   walk_stops x k t e =
       let s = upto_refused (more (Stopped x) e) x refl in
       let all : ends_in (state_at schema p) piece ≡ w.found = s.1 ∙ append-nil w.found in
@@ -166,7 +166,7 @@ standing schema at k =
 module _ {schema : Schema} {at₀ : Place} {piece : List ℕ} {i₀ n₀ : ℕ} {ends₀ : List ℕ} {at : Place} {n i : ℕ} {ends : List ℕ}
     (t : Turning schema at₀ piece i₀ n₀ ends₀ at n i ends) where
   -- it may end here
-  pub turn_leaves : (r : Walked) → r ≡ record { check = Pass; place = at; ends = n; read = i } → Goes schema at₀ piece i₀ n₀ ends₀ r ends
+  pub turn_leaves : (r : Walked) → r ≡ record { check = Ok tt; place = at; ends = n; read = i } → Goes schema at₀ piece i₀ n₀ ends₀ r ends
   turn_leaves r e p list w = rw e (t.goes p list w)
 
   module _ (bytes : Bytes piece) (r : Advance) (a : Advances (get_or schema.columns at.column no_column) schema.count at piece i r) where
@@ -195,7 +195,7 @@ module _ {schema : Schema} {at₀ : Place} {piece : List ℕ} {i₀ n₀ : ℕ} 
       goes = λ p list w. walk_ends (t.goes p list w) r a q e l;
     })
 
-    pub turn_stops : (x : Refusal) (k : ℕ) (place : Place) → r.turn ≡ Stopped x → Goes schema at₀ piece i₀ n₀ ends₀ (record { check = Refuse x; place = place; ends = n; read = k }) ends
+    pub turn_stops : (x : Refusal) (k : ℕ) (place : Place) → r.turn ≡ Stopped x → Goes schema at₀ piece i₀ n₀ ends₀ (record { check = Err x; place = place; ends = n; read = k }) ends
     turn_stops x k place e p list w = walk_stops (t.goes p list w) r a x k place e
 
 -- ---- the whole of it
@@ -210,19 +210,19 @@ walking_kept {schema} {p} {piece} {ends₀} {at} {n} {i} {ends} bytes held kept 
 pub first_part : (schema : Schema) (p : Place) (piece ends : List ℕ) (r : Walked) (ends' : List ℕ) → Goes schema p piece 0 0 ends r ends' → WalkedOn r.check schema p piece ends r ends'
 first_part schema p piece ends r ends' g = g p ends (walk_begins schema p piece ends)
 
-pub part_passed : (c : Check) (schema : Schema) (p : Place) (piece ends : List ℕ) (r : Walked) (ends' : List ℕ) → c ≡ Pass → WalkedOn c schema p piece ends r ends'
+pub part_passed : (c : Check) (schema : Schema) (p : Place) (piece ends : List ℕ) (r : Walked) (ends' : List ℕ) → c ≡ Ok tt → WalkedOn c schema p piece ends r ends'
     → Walking schema p piece ends r.place r.ends r.read ends'
 part_passed c schema p piece ends r ends' e w = subst (λ (y : Check). WalkedOn y schema p piece ends r ends') e w
 
 -- the list is as long as it was
 pub walked_long : (c : Check) (schema : Schema) (p : Place) (piece ends : List ℕ) (r : Walked) (ends' : List ℕ) → WalkedOn c schema p piece ends r
     ends' → length ends' ≡ length ends
-walked_long Pass schema p piece ends r ends' w = w.long
-walked_long (Refuse x) schema p piece ends r ends' w = w.long
+walked_long (Ok tt) schema p piece ends r ends' w = w.long
+walked_long (Err x) schema p piece ends r ends' w = w.long
 
 -- at the end of the piece
 walk_done : {schema : Schema} {p : Place} {piece ends : List ℕ} {r : Walked} {ends' : List ℕ} → Walking schema p piece ends r.place r.ends r.read ends'
-    → r.check ≡ Pass → length piece ≤ r.read → Walks schema p piece ends r ends'
+    → r.check ≡ Ok tt → length piece ≤ r.read → Walks schema p piece ends r ends'
 walk_done {schema} {p} {piece} {ends} {r} {ends'} w e l =
     let s = upto_end {s₀ = state_at schema p} {piece = piece} (record { state = w.state; ends = w.rows }) l in
     record {
@@ -234,9 +234,9 @@ walk_done {schema} {p} {piece} {ends} {r} {ends'} w e l =
 
 -- a list with room for an end of every byte: the walk goes to the end of the piece
 pub whole_walk : (schema : Schema) (p : Place) (piece ends : List ℕ) (r : Walked) (ends' : List ℕ) → length piece ≤ length ends
-    → WalkedOn r.check schema p piece ends r ends' → (r.check ≡ Pass → r.read < length piece → length ends ≤ r.ends) → Walks schema p piece ends r ends'
+    → WalkedOn r.check schema p piece ends r ends' → (r.check ≡ Ok tt → r.read < length piece → length ends ≤ r.ends) → Walks schema p piece ends r ends'
 whole_walk schema p piece ends r ends' room w h = go r.check refl w
   where
     go : (c : Check) → r.check ≡ c → WalkedOn c schema p piece ends r ends' → Walks schema p piece ends r ends'
-    go Pass e w = walk_done w e (⊎_elim (λ l. omega (arith, h e l, w.few)) (λ l. l) (choose r.read (length piece)))
-    go (Refuse x) e w = w
+    go (Ok tt) e w = walk_done w e (⊎_elim (λ l. omega (arith, h e l, w.few)) (λ l. l) (choose r.read (length piece)))
+    go (Err x) e w = w

@@ -1,13 +1,12 @@
 -- What the walks over a piece promise of each other.
-use Rattle.std.specs.Prelude.{ℕ, ◌-◌, ◌≤◌, ◌≡◌, Bool, true, false, cond, ◌⊎◌, List, length, take}
+use Rattle.std.specs.Prelude.{ℕ, ◌-◌, ◌≤◌, ◌≡◌, Bool, true, false, cond, ◌⊎◌, List, length, take, Ok, Err}
 use Rattle.format.specs.declared.RowFault.{RowFault}
 use Rattle.format.specs.declared.RowFault.TheVariants.{Cut, Lead, NullRest, BoolByte, EndByte, Padding, Extra, TooLong, Unfolded}
 use Rattle.format.specs.declared.FieldRead.{FieldRead}
 use Rattle.format.specs.declared.FieldRead.TheVariants.{Null, Value, Fault}
 use Rattle.format.specs.declared.Refusal.TheVariants.{Row}
 use Rattle.format.specs.declared.Schema.{Schema}
-use Rattle.format.specs.declared.Check.{Check}
-use Rattle.format.specs.declared.Check.TheVariants.{Pass, Refuse}
+use Rattle.format.specs.Check.{Check}
 use Rattle.format.specs.declared.Spot.{Spot}
 use Rattle.format.specs.declared.Spot.TheVariants.{Start}
 use Rattle.format.specs.declared.Cutter.{Cutter}
@@ -44,9 +43,9 @@ is_cut Unfolded = false
 
 -- the fault that shows, in the first `whole` bytes of a row; a field that is cut off has none yet
 abbrev pub fault_shown : FieldRead → ℕ → ℕ → ℕ → Check
-fault_shown (Null len) r c whole = Pass
-fault_shown (Value len value) r c whole = Pass
-fault_shown (Fault f left) r c whole = cond (is_cut f) Pass (Refuse (Row f r c (whole - left)))
+fault_shown (Null len) r c whole = Ok tt
+fault_shown (Value len value) r c whole = Ok tt
+fault_shown (Fault f left) r c whole = cond (is_cut f) (Ok tt) (Err (Row f r c (whole - left)))
 
 -- ---- a walk
 
@@ -81,8 +80,8 @@ pub record Walking (schema : Schema) (p : Place) (piece ends₀ : List ℕ) (at 
 
 -- the state after a walk
 abbrev pub walked_to : Check → Schema → Place → Cutter
-walked_to Pass schema p = state_at schema p
-walked_to (Refuse r) schema p = refused r
+walked_to (Ok tt) schema p = state_at schema p
+walked_to (Err r) schema p = refused r
 
 -- of the whole piece: the state after it, how many rows end in it, and the lent list at exit
 pub record Walks (schema : Schema) (p : Place) (piece ends : List ℕ) (r : Walked) (ends' : List ℕ) : Type 0 where
@@ -93,8 +92,8 @@ pub record Walks (schema : Schema) (p : Place) (piece ends : List ℕ) (r : Walk
 
 -- a part of the walk from p on: it goes on, or the whole piece is refused
 abbrev pub WalkedOn : Check → Schema → Place → List ℕ → List ℕ → Walked → List ℕ → Type 0
-WalkedOn Pass schema p piece ends₀ r ends' = Walking schema p piece ends₀ r.place r.ends r.read ends'
-WalkedOn (Refuse x) schema p piece ends₀ r ends' = Walks schema p piece ends₀ r ends'
+WalkedOn (Ok tt) schema p piece ends₀ r ends' = Walking schema p piece ends₀ r.place r.ends r.read ends'
+WalkedOn (Err x) schema p piece ends₀ r ends' = Walks schema p piece ends₀ r ends'
 
 -- wherever the walk began
 abbrev pub Goes : Schema → Place → List ℕ → ℕ → ℕ → List ℕ → Walked → List ℕ → Type 0

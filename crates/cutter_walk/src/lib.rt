@@ -2,7 +2,7 @@
 #![tactic(auto)]
 
 use cutter_step::Place;
-use format::Check;
+use format::Refusal;
 
 pub mod walk;
 
@@ -10,7 +10,7 @@ pub mod walk;
 // bytes it read.
 #[derive(Clone, Copy)]
 pub struct Walked {
-    pub check: Check,
+    pub check: Result<(), Refusal>,
     pub place: Place,
     pub ends: usize,
     pub read: usize,

@@ -1,7 +1,6 @@
 // The walk over a piece: bytes to the end of the field that is being read, then whole fields, then the bytes of a field that the piece's end
 // cuts.
-ghost use Rattle.std.specs.Prelude.{◌≡◌, true, ◌+◌, ◌<◌, ◌≤◌, length};
-ghost use Rattle.format.specs.declared.Check.TheVariants.{Pass};
+ghost use Rattle.std.specs.Prelude.{◌≡◌, true, ◌+◌, ◌<◌, ◌≤◌, length, Ok};
 ghost use Rattle.format.specs.declared.Spot.TheVariants.{Start};
 ghost use Rattle.format.specs.Limits.{max_total};
 ghost use Rattle.format.specs.CutterRule.{keeps};
@@ -15,7 +14,7 @@ use crate::Walked;
 use cutter_step::step::step;
 use cutter_step::{Place, Stepped};
 use field_reader::read_field;
-use format::{Check, Column, FieldRead, MAX_TOTAL, Refusal, RowFault, Schema, Spot};
+use format::{Column, FieldRead, MAX_TOTAL, Refusal, RowFault, Schema, Spot};
 use plain_fields::{plain_lengths, plain_there};
 
 // Whether a walk that goes to the end of a field stands there.
@@ -45,17 +44,16 @@ fn by_bytes(
     requires found_le_from { found ≤ from }
     requires from_in_bounds { from ≤ length piece.now }
     ensures goes { Goes schema place piece.now from found ends.old result ends.new }
-    ensures halts { result.check ≡ Pass → result.read < length piece.now → Halts field (length ends.old) result }
+    ensures halts { result.check ≡ Ok tt → result.read < length piece.now → Halts field (length ends.old) result }
 {
     let count = schema.count;
     let columns = schema.columns;
     let mut at = place;
     let mut n = found;
-    let mut i = from;
-    while i < piece.len() {
+    for i in from..piece.len() {
         if ends.len() <= n {
             return Walked {
-                check: Check::Pass,
+                check: Ok(()),
                 place: at,
                 ends: n,
                 read: i,
@@ -64,7 +62,7 @@ fn by_bytes(
         let spot = at.spot;
         if stops_at(field, spot) {
             return Walked {
-                check: Check::Pass,
+                check: Ok(()),
                 place: at,
                 ends: n,
                 read: i,
@@ -85,20 +83,19 @@ fn by_bytes(
             }
             Stepped::Stopped(r) => {
                 return Walked {
-                    check: Check::Refuse(r),
+                    check: Err(r),
                     place: at,
                     ends: n,
                     read: i,
                 };
             }
         }
-        i += 1;
     }
     Walked {
-        check: Check::Pass,
+        check: Ok(()),
         place: at,
         ends: n,
-        read: i,
+        read: piece.len(),
     }
 }
 
@@ -123,19 +120,19 @@ fn is_cut(fault: RowFault) -> bool
 }
 
 // The fault that shows in so many bytes of a field, which begins at a place of its row; one that is cut off has none yet.
-fn fault_shown(read: FieldRead, rows: u64, c: usize, row: u64, size: usize) -> Check
+fn fault_shown(read: FieldRead, rows: u64, c: usize, row: u64, size: usize) -> Result<(), Refusal>
     requires { (left_read read ≤ size) × (row + size ≤ max_total) }
     ensures { result ≡ fault_shown read rows c (row + size) }
 {
     match read {
-        FieldRead::Null(_) => Check::Pass,
-        FieldRead::Value(_, _) => Check::Pass,
+        FieldRead::Null(_) => Ok(()),
+        FieldRead::Value(_, _) => Ok(()),
         FieldRead::Fault(fault, left) => {
             if is_cut(fault) {
-                return Check::Pass;
+                return Ok(());
             }
             let at = row as usize + size - left;
-            Check::Refuse(Refusal::Row(fault, rows as usize, c, at))
+            Err(Refusal::Row(fault, rows as usize, c, at))
         }
     }
 }
@@ -153,7 +150,15 @@ fn open_bytes(left: usize, bytes: u64) -> usize
 }
 
 // Where a walk over fields stands.
-fn walked(check: Check, rows: u64, bytes: u64, row: u64, c: usize, n: usize, i: usize) -> Walked
+fn walked(
+    check: Result<(), Refusal>,
+    rows: u64,
+    bytes: u64,
+    row: u64,
+    c: usize,
+    n: usize,
+    i: usize,
+) -> Walked
     ensures { result ≡ placed check rows bytes row c n i }
 {
     let place = Place {
@@ -208,9 +213,10 @@ fn by_fields(
     let lengths = plain_lengths(schema);
     let mut n = found;
     let mut i = from;
+    // A `while`: a turn goes on by the field that it has read.
     while i < end {
         if ends.len() <= n {
-            return walked(Check::Pass, rows, bytes, row, c, n, i);
+            return walked(Ok(()), rows, bytes, row, c, n, i);
         }
         let column = columns[c];
         let plain = lengths[c];
@@ -234,18 +240,19 @@ fn by_fields(
             c = 0;
         }
     }
-    walked(Check::Pass, rows, bytes, row, c, n, i)
+    walked(Ok(()), rows, bytes, row, c, n, i)
 }
 
-// The end of each row that the piece completes goes to the list; where the list is full the walk stands within the piece.
+// The end of each row that the piece completes goes to the list; where the list is full the walk stands within the piece. No `?` in it: the ends
+// before a refusal count.
 pub fn walk(schema: Schema, place: Place, piece: &[u8], ends: &mut [u64]) -> Walked
     requires { keeps (state_at schema place) ≡ true }
     ensures walked_on { WalkedOn result.check schema place piece.now ends.old result ends.new }
-    ensures ends_len_bound { result.check ≡ Pass → result.read < length piece.now → length ends.old ≤ result.ends }
+    ensures ends_len_bound { result.check ≡ Ok tt → result.read < length piece.now → length ends.old ≤ result.ends }
 {
     let first = by_bytes(schema, place, piece, 0, ends, 0, true);
     let check = first.check;
-    if let Check::Refuse(_) = check {
+    if let Err(_) = check {
         return first;
     }
     let from = first.read;
@@ -257,7 +264,7 @@ pub fn walk(schema: Schema, place: Place, piece: &[u8], ends: &mut [u64]) -> Wal
     }
     let next = by_fields(schema, first.place, piece, from, ends, first.ends);
     let check = next.check;
-    if let Check::Refuse(_) = check {
+    if let Err(_) = check {
         return next;
     }
     by_bytes(schema, next.place, piece, next.read, ends, next.ends, false)

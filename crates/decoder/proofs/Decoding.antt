@@ -3,57 +3,34 @@ use Prim.Native.Nat.{ℕ}
 use mathlib.Core.Path.{◌≡◌, refl, sym, ap, ◌∙◌}
 use mathlib.Core.List.{List}
 use lib.ListN.{length}
-use lib.Seq.{sets}
 use native.Mathlib.Omega.{arith}
 use Rattle.format.specs.declared.Refusal.{Refusal}
 use Rattle.format.specs.declared.Refusal.TheVariants.{SheetRoom}
-use Rattle.format.specs.declared.Check.{Check}
-use Rattle.format.specs.declared.Check.TheVariants.{Pass, Refuse}
-use Rattle.format.specs.declared.Answer.TheVariants.{Done, Refused}
+use Rattle.format.specs.Check.{both, verdict}
+use Rattle.std.specs.declared.result.Result.TheVariants.{Ok, Err}
+use Rattle.std.specs.declared.result.Result.{Result}
 use Rattle.format.specs.declared.Column.{Column}
 use Rattle.format.specs.declared.Schema.{Schema}
-use Rattle.format.specs.Check.{both}
 use Rattle.format.specs.Described.{ColumnList, list_fault, columns}
 use Rattle.format.specs.Schemas.{cols_of}
 use Rattle.format.specs.Read.{rows_fault}
-use Rattle.format.specs.Entries.{row_count_fault, offsets_fault, cut_rows, rows_slots, decoded_sheet, answer, decode_check, decode_answer, decode_sheet}
+use Rattle.format.specs.Entries.{row_count_fault, offsets_fault, cut_rows, rows_slots, decoded_sheet, decode_check, decode_answer, decode_sheet}
 use Rattle.format.specs.Numbers.{numbers_of}
 use Rattle.format.specs.Promises.{Decoded}
 use Rattle.basics.proofs.Append.{over_sets}
-use Rattle.basics.proofs.Checks.{refuse_pass, enough, both_pass}
-use Rattle.list_reader.specs.declared.Listed.{Listed}
-use Rattle.row_reader.specs.declared.Checked.{Checked}
+use Rattle.basics.proofs.Checks.{enough, both_pass}
+use Rattle.list_reader.specs.Listing.{Listed}
 use Rattle.batch_reader.specs.Batch.{Checks}
 use Rattle.sheet_writer.specs.declared.Written.{Written}
-use Rattle.sheet_writer.specs.Writing.{Clears}
+use Rattle.sheet_writer.specs.Writing.{Clears, Decodable}
 use Rattle.room_checks.specs.Room.{sheet_room_fault}
 use Rattle.checks.specs.Begun.{Begun}
-use Rattle.checks.proofs.Begun.{both_grouped}
-use Rattle.decoder.specs.Decoding.{SheetReady, SheetLeft}
-
--- ---- the writing walk
-module _ (fault : Check) (schema : Schema) (n : ℕ) (rows offsets sheet : List ℕ) where
-  -- something is at fault: nothing is written
-  pub none_written : (x : Refusal) → fault ≡ Refuse x → SheetLeft fault schema n rows offsets sheet sheet 0
-  none_written x e = record { bytes = rw e; empty = λ p. absurd (refuse_pass (sym e ∙ p)) }
-
-  -- nothing is: the sheet goes in front
-  pub all_written : SheetReady fault schema n rows offsets sheet → fault ≡ Pass → (sheet' : List ℕ) (w : Written)
-      → Clears n (cols_of schema) (rows_slots (cols_of schema) (cut_rows n rows offsets)) sheet sheet' w
-      → SheetLeft fault schema n rows offsets sheet sheet' w.nulls
-  all_written ready e sheet' w clears =
-      let new = decoded_sheet n (cols_of schema) (cut_rows n rows offsets) in
-      record { bytes = rw e (clears.wrote.bytes ∙ sym (over_sets new sheet (ready e).room)); empty = λ p. clears.empty }
-
--- the null total of a refusal is not told
-same_total : (x : Check) (a : ℕ) {b c : ℕ} → (x ≡ Pass → b ≡ c) → answer x a b ≡ answer x a c
-same_total Pass a e = ap (Done a) (e refl)
-same_total (Refuse r) a e = refl
+use Rattle.checks.proofs.Begun.{both_grouped, begun_refused, begun_passed, begun_sound}
 
 -- ---- the entry
 module _ (list : ColumnList) (n : ℕ) (rows offsets sheet : List ℕ) where
   -- a refusal writes nothing
-  refused : (x : Refusal) → decode_check list n rows offsets (length sheet) ≡ Refuse x → Decoded list n rows offsets sheet (Refused x) sheet
+  refused : (x : Refusal) → decode_check list n rows offsets (length sheet) ≡ Err x → Decoded list n rows offsets sheet (Err x) sheet
   unfolding decode_answer decode_sheet
   refused x e = record { answers = rw e; bytes = rw e }
 
@@ -63,50 +40,60 @@ module _ (list : ColumnList) (n : ℕ) (rows offsets sheet : List ℕ) where
 
   module _ (b : Listed) (begun : Begun list n b) where
     grouped : decode_check list n rows offsets (length sheet)
-        ≡ both b.check (both (both (offsets_fault n rows offsets) (rows_fault 0 (columns list) (cut_rows n rows offsets)))
+        ≡ both (both (list_fault list) (row_count_fault n))
+        (both (both (offsets_fault n rows offsets) (rows_fault 0 (columns list) (cut_rows n rows offsets)))
         (sheet_room_fault (needed (columns list)) (length sheet)))
     unfolding decode_check
     grouped =
         both_grouped (list_fault list) (row_count_fault n) _
         ∙ ap (both (both (list_fault list) (row_count_fault n)))
         (both_grouped (offsets_fault n rows offsets) (rows_fault 0 (columns list) (cut_rows n rows offsets)) _)
-        ∙ rw begun.check
 
-    pub bad_begin : (x : Refusal) → b.check ≡ Refuse x → Decoded list n rows offsets sheet (Refused x) sheet
-    bad_begin x e = refused x (grouped ∙ rw e)
+    pub bad_begin : (x : Refusal) → b ≡ Err x → Decoded list n rows offsets sheet (Err x) sheet
+    bad_begin x e = refused x (grouped ∙ rw (begun_refused list n b begun x e))
 
-    module _ (e : b.check ≡ Pass) (r : Checked) (k : Checks n (cols_of b.schema) rows offsets r) where
-      cols : cols_of b.schema ≡ columns list
-      cols = (begun.sound e).cols
+    module _ (schema : Schema) (e : b ≡ Ok schema) (r : Result ℕ Refusal) (k : Checks n (cols_of schema) rows offsets r) where
+      cols : cols_of schema ≡ columns list
+      cols = (begun_sound list n b begun schema e).0.cols
 
-      fault : both (offsets_fault n rows offsets) (rows_fault 0 (columns list) (cut_rows n rows offsets)) ≡ r.check
-      fault = rw (← cols) (sym k.check)
+      fault : decode_check list n rows offsets (length sheet) ≡ both (verdict r) (sheet_room_fault (needed (columns list)) (length sheet))
+      fault = grouped ∙ rw (begun_passed list n b begun schema e, ← cols, k.check) refl
 
-      pub bad_rows : (x : Refusal) → r.check ≡ Refuse x → Decoded list n rows offsets sheet (Refused x) sheet
-      bad_rows x f = refused x (grouped ∙ rw (e, fault, f))
+      pub bad_rows : (x : Refusal) → r ≡ Err x → Decoded list n rows offsets sheet (Err x) sheet
+      bad_rows x f = refused x (fault ∙ rw f)
 
-      module _ (f : r.check ≡ Pass) where
-        room : needed (columns list) ≡ r.bytes
-        room = rw (← cols) (sym (k.room f))
+      module _ (bytes : ℕ) (f : r ≡ Ok bytes) where
+        room : needed (columns list) ≡ bytes
+        room = rw (← cols) (sym (k.room bytes f))
 
-        -- what the writing walk asks
-        pub ready : (x : Check) → x ≡ sheet_room_fault r.bytes (length sheet) → SheetReady x b.schema n rows offsets sheet
-        ready x p q =
-            let passed = both_pass (offsets_fault n rows offsets) _ (sym k.check ∙ f) in
-            record {
-              few = begun.few e;
-              limited = (begun.sound e).limited;
-              cuts = passed.0;
-              passes = passed.1;
-              room = omega (arith, k.room f, (enough (length sheet) r.bytes (SheetRoom r.bytes) Pass (sym p ∙ q)).0);
-            }
+        asked : decode_check list n rows offsets (length sheet) ≡ sheet_room_fault bytes (length sheet)
+        asked = fault ∙ rw (f, room) refl
 
-        -- 24 decides what is answered and left
-        pub asked : (x : Check) → x ≡ sheet_room_fault r.bytes (length sheet) → (sheet' : List ℕ) (total : ℕ)
-            → SheetLeft x b.schema n rows offsets sheet sheet' total → Decoded list n rows offsets sheet (answer x r.bytes total) sheet'
-        unfolding decode_answer decode_sheet
-        asked x p sheet' total left =
-            let c : decode_check list n rows offsets (length sheet) ≡ x = grouped ∙ rw (e, fault, f, room) (sym p) in
-            let says : answer x r.bytes total ≡ decode_answer list n rows offsets (length sheet) =
-            same_total x r.bytes left.empty ∙ rw (c, room, cols) refl in
-            record { answers = ap numbers_of says; bytes = left.bytes ∙ rw (c, cols) refl }
+        -- 24
+        pub short : (x : Refusal) → sheet_room_fault bytes (length sheet) ≡ Err x → Decoded list n rows offsets sheet (Err x) sheet
+        short x p = refused x (asked ∙ p)
+
+        module _ (p : sheet_room_fault bytes (length sheet) ≡ Ok tt) where
+          -- what the writing walk asks
+          pub ready : Decodable schema n rows offsets sheet
+          ready =
+              let passed = both_pass (offsets_fault n rows offsets) _ (sym k.check ∙ ap verdict f) in
+              record {
+                few = (begun_sound list n b begun schema e).1;
+                limited = (begun_sound list n b begun schema e).0.limited;
+                cuts = passed.0;
+                passes = passed.1;
+                room = omega (arith, k.room bytes f, (enough (length sheet) bytes (SheetRoom bytes) (Ok tt) p).0);
+              }
+
+          -- none of them: the sheet goes in front
+          pub decoded : (sheet' : List ℕ) (w : Written) → Clears n (cols_of schema) (rows_slots (cols_of schema) (cut_rows n rows offsets)) sheet sheet' w
+              → Decoded list n rows offsets sheet (Ok (bytes, w.nulls)) sheet'
+          unfolding decode_answer decode_sheet
+          decoded sheet' w clears =
+              let c : decode_check list n rows offsets (length sheet) ≡ Ok tt = asked ∙ p in
+              let new = decoded_sheet n (cols_of schema) (cut_rows n rows offsets) in
+              record {
+                answers = rw (c, room, clears.empty, cols) refl;
+                bytes = clears.wrote.bytes ∙ sym (over_sets new sheet ready.room) ∙ rw (c, cols) refl;
+              }

@@ -4,14 +4,12 @@ use mathlib.Core.Path.{◌≡◌, refl, ◌∙◌}
 use mathlib.Core.List.{List}
 use lib.Dec.{ltb}
 use lib.ListN.{length}
-use Rattle.format.specs.declared.Check.{Check}
-use Rattle.format.specs.declared.Answer.TheVariants.{Refused}
-use Rattle.format.specs.declared.Check.TheVariants.{Pass, Refuse}
+use Rattle.format.specs.Check.{Check, both, fail_if}
+use Rattle.std.specs.declared.result.Result.TheVariants.{Err, Ok}
 use Rattle.format.specs.declared.Refusal.{Refusal}
 use Rattle.format.specs.declared.Refusal.TheVariants.{RowRoom, SheetRoom}
 use Rattle.format.specs.declared.Column.{Column}
 use Rattle.format.specs.Limits.{max_rows, max_total}
-use Rattle.format.specs.Check.{both, fail_if}
 use Rattle.format.specs.Described.{ColumnList, list_fault, columns}
 use Rattle.format.specs.Sheet.{sheet_fault}
 use Rattle.format.specs.Read.{rows_fault}
@@ -26,19 +24,19 @@ use Rattle.laws.proofs.Accept.{Accepted}
 pub record AcceptedRows (cols : List Column) (n : ℕ) (bytes offsets : List ℕ) : Type 0 where
   pub few : n ≤ max_rows
   pub cuts : Cuts n bytes offsets
-  pub passes : rows_fault 0 cols (cut_rows n bytes offsets) ≡ Pass
+  pub passes : rows_fault 0 cols (cut_rows n bytes offsets) ≡ Ok tt
 
 -- an answer that refuses is that of a check that does
-pub answer_refused : (k : Check) (a b : ℕ) {x : Refusal} → answer k a b ≡ Refused x → k ≡ Refuse x
-answer_refused Pass a b e = cc
-answer_refused (Refuse y) a b e = cc
+pub answer_refused : (k : Check) (a b : ℕ) {x : Refusal} → answer k a b ≡ Err x → k ≡ Err x
+answer_refused (Ok tt) a b e = cc
+answer_refused (Err y) a b e = cc
 
 -- after a check that passes comes the next
-next : (x y : Check) → x ≡ Pass → both x y ≡ y
+next : (x y : Check) → x ≡ Ok tt → both x y ≡ y
 next x y e = rw e
 
 -- ---- measure and encode
-pub measure_pass : (list : ColumnList) (n : ℕ) (sheet : List ℕ) → list_fault list ≡ Pass → Accepted (columns list) n sheet → measure_check list n sheet ≡ Pass
+pub measure_pass : (list : ColumnList) (n : ℕ) (sheet : List ℕ) → list_fault list ≡ Ok tt → Accepted (columns list) n sheet → measure_check list n sheet ≡ Ok tt
 unfolding measure_check
 measure_pass list n sheet l a =
     pass_both (list_fault list) _ l
@@ -47,15 +45,15 @@ measure_pass list n sheet l a =
     (pass_enough max_total (sheet_total n (columns list) sheet) _ _ a.small refl)))
 
 -- of an accepted sheet, encode refuses nothing but 13 and 14
-pub encode_room : (list : ColumnList) (n : ℕ) (sheet : List ℕ) (row_room offset_room : ℕ) → list_fault list ≡ Pass → Accepted (columns list) n sheet
+pub encode_room : (list : ColumnList) (n : ℕ) (sheet : List ℕ) (row_room offset_room : ℕ) → list_fault list ≡ Ok tt → Accepted (columns list) n sheet
     → encode_check list n sheet row_room offset_room
     ≡ fail_if (ltb row_room (sheet_total n (columns list) sheet)) (RowRoom (sheet_total n (columns list) sheet)) (offset_room_fault n offset_room)
 unfolding encode_check
 encode_room list n sheet row_room offset_room l a = next (measure_check list n sheet) _ (measure_pass list n sheet l a)
 
 -- ---- decode
-pub decoded : (list : ColumnList) (n : ℕ) (bytes offsets : List ℕ) (room : ℕ) → decode_check list n bytes offsets room ≡ Pass
-    → (list_fault list ≡ Pass) × AcceptedRows (columns list) n bytes offsets
+pub decoded : (list : ColumnList) (n : ℕ) (bytes offsets : List ℕ) (room : ℕ) → decode_check list n bytes offsets room ≡ Ok tt
+    → (list_fault list ≡ Ok tt) × AcceptedRows (columns list) n bytes offsets
 unfolding decode_check
 decoded list n bytes offsets room e =
     let p = both_pass (list_fault list) _ e in
@@ -65,11 +63,11 @@ decoded list n bytes offsets room e =
     (p.0, record { few = (enough max_rows n _ _ q.0).0; cuts = offsets_passed n bytes offsets r.0; passes = s.0 })
 
 -- of accepted rows, decode refuses nothing but 24
-pub decode_room : (list : ColumnList) (n : ℕ) (bytes offsets : List ℕ) (room : ℕ) → list_fault list ≡ Pass → AcceptedRows (columns list) n bytes offsets
+pub decode_room : (list : ColumnList) (n : ℕ) (bytes offsets : List ℕ) (room : ℕ) → list_fault list ≡ Ok tt → AcceptedRows (columns list) n bytes offsets
     → decode_check list n bytes offsets room
     ≡ fail_if (ltb room (length (decoded_sheet n (columns list) (cut_rows n bytes offsets))))
     (SheetRoom (length (decoded_sheet n (columns list) (cut_rows n bytes offsets))))
-    Pass
+    (Ok tt)
 unfolding decode_check
 decode_room list n bytes offsets room l r =
     next (list_fault list) _ l

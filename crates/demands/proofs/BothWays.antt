@@ -5,8 +5,8 @@ use mathlib.Core.Path.{◌≡◌}
 use mathlib.Core.List.{List}
 use lib.ListN.{length, take}
 use Rattle.format.specs.declared.Column.{Column}
-use Rattle.format.specs.declared.Answer.{Answer}
-use Rattle.format.specs.declared.Answer.TheVariants.{Done}
+use Rattle.format.specs.Numbers.{Answer}
+use Rattle.std.specs.declared.result.Result.TheVariants.{Ok}
 use Rattle.format.specs.Described.{spelled, described, coded}
 use Rattle.format.specs.Entries.{read_list_answer}
 use Rattle.format.specs.Lent.{answer_room, code_room}
@@ -17,7 +17,7 @@ use Rattle.readings.proofs.Promised.{measured_ways, encoded_ways, decoded_ways, 
 use Rattle.demands.proofs.Unique.{measure_unique, encode_unique, decode_unique, lent_measure_unique, lent_encode_unique, lent_decode_unique}
 
 -- read_list answered k: the first k descriptions are handed on
-module _ {list : List ℕ} {lent : List Column} {r : Answer} {lent' : List Column} (p : ListRead list lent r lent') (k z : ℕ) (e : r ≡ Done k z) where
+module _ {list : List ℕ} {lent : List Column} {r : Answer} {lent' : List Column} (p : ListRead list lent r lent') (k z : ℕ) (e : r ≡ Ok (k, z)) where
   ways : BothWays (spelled list) (described (take k lent'))
   ways = both_ways list lent r lent' p k z e
 
@@ -36,7 +36,7 @@ module _ {list : List ℕ} {lent : List Column} {r : Answer} {lent' : List Colum
 
 -- station_read_list answered k, and there was room for the answer: the first 4 k bytes are handed on
 module _ {list descriptions lent descriptions' lent' : List ℕ} (p : LentListRead list descriptions lent descriptions' lent') (k z : ℕ)
-    (done : read_list_answer list (code_room descriptions) ≡ Done k z) (there : answer_room ≤ length lent) where
+    (done : read_list_answer list (code_room descriptions) ≡ Ok (k, z)) (there : answer_room ≤ length lent) where
   code_ways : BothWays (spelled list) (coded (take (4 * k) descriptions'))
   code_ways = both_ways_codes list descriptions lent descriptions' lent' p k z done there
 

@@ -9,24 +9,21 @@ use lib.IntN.{ℤ}
 use lib.ListN.{length, take, drop, length-append}
 use lib.Seq.{take_at}
 use borrow.Author.Tests.{lt-ltb, le-ltb}
-use Rattle.format.specs.declared.Answer.{Answer}
-use Rattle.format.specs.declared.Answer.TheVariants.{Done, Refused}
-use Rattle.format.specs.declared.Check.TheVariants.{Pass, Refuse}
+use Rattle.format.specs.Numbers.{Answer, numbers_of}
+use Rattle.std.specs.declared.result.Result.TheVariants.{Ok, Err}
+use Rattle.std.specs.declared.option.Option.TheVariants.{None, Some}
 use Rattle.format.specs.declared.Refusal.{Refusal}
 use Rattle.format.specs.Check.{both}
 use Rattle.format.specs.Lists.{Bytes}
 use Rattle.format.specs.Described.{ColumnList, columns}
-use Rattle.format.specs.Numbers.{numbers_of}
 use Rattle.format.specs.Entries.{encode_check, encode_answer, encode_rows, encode_offsets, cut_rows, decoded_sheet, decode_check, decode_answer, decode_sheet, compare_answer}
 use Rattle.format.specs.Promises.{Encoded, Decoded}
 use Rattle.basics.proofs.Checks.{refuse_pass, answer_done}
 use Rattle.laws.proofs.Accept.{decode_writes}
 use Rattle.laws.proofs.Numbers.{numbers_injective}
-use Rattle.demands.specs.declared.order.Ordered.{Ordered}
-use Rattle.demands.specs.declared.order.Ordered.TheVariants.{Refused as NotEncoded, NoRow, Is}
 use Rattle.demands.specs.RoundTrip.{CameBack, CameAgain}
 use Rattle.demands.specs.Slices.{EncodedAlike}
-use Rattle.demands.specs.Order.{Batch, batch, batch_fault, row_in, ordered, order_in, There, OrderedAs}
+use Rattle.demands.specs.Order.{Batch, batch, batch_fault, row_in, ordered, order_in, There, OrderedAs, Ordered}
 use Rattle.demands.proofs.Demand2.{refused_back, encoded_back, refused_again, decoded_again}
 use Rattle.demands.proofs.Demand3.{Written, written_order, written_begins, written_begun}
 use Rattle.demands.proofs.Accept.{answer_refused}
@@ -38,19 +35,19 @@ module _ {list : ColumnList} {n : ℕ} {sheet rows offsets : List ℕ} {r : Answ
   encode_is : r ≡ encode_answer list n sheet (length rows) (length offsets)
   encode_is = numbers_injective r _ h.answers
 
-  pub encode_refused : (x : Refusal) → r ≡ Refused x → encode_check list n sheet (length rows) (length offsets) ≡ Refuse x
+  pub encode_refused : (x : Refusal) → r ≡ Err x → encode_check list n sheet (length rows) (length offsets) ≡ Err x
   unfolding encode_answer
   encode_refused x e = answer_refused (encode_check list n sheet (length rows) (length offsets)) _ _ (sym encode_is ∙ e)
 
-  pub encode_passed : (a b : ℕ) → r ≡ Done a b → encode_check list n sheet (length rows) (length offsets) ≡ Pass
+  pub encode_passed : (a b : ℕ) → r ≡ Ok (a, b) → encode_check list n sheet (length rows) (length offsets) ≡ Ok tt
   unfolding encode_answer
   encode_passed a b e = (answer_done (encode_check list n sheet (length rows) (length offsets)) _ _ a b (sym encode_is ∙ e)).0
 
   -- then one of decode: the sheet came back
-  pub back_refused : (back : List ℕ) (x : Refusal) → r ≡ Refused x → CameBack list n sheet rows offsets back (Refused x) back
+  pub back_refused : (back : List ℕ) (x : Refusal) → r ≡ Err x → CameBack list n sheet rows offsets back (Err x) back
   back_refused back x e = refused_back list n sheet rows offsets back x (encode_refused x e)
 
-  pub back_done : (back : List ℕ) (a b : ℕ) → Bytes sheet → r ≡ Done a b → {q : Answer} {back' : List ℕ} → Decoded list n rows' offsets' back q back'
+  pub back_done : (back : List ℕ) (a b : ℕ) → Bytes sheet → r ≡ Ok (a, b) → {q : Answer} {back' : List ℕ} → Decoded list n rows' offsets' back q back'
       → CameBack list n sheet rows offsets back q back'
   back_done back a b bytes e d =
       let t = encoded_back list n sheet rows offsets back bytes (encode_passed a b e) in
@@ -87,13 +84,13 @@ module _ {list : ColumnList} {n : ℕ} {rows offsets sheet : List ℕ} {r : Answ
   decode_is = numbers_injective r _ h.answers
 
   module _ (rows₂ offsets₂ : List ℕ) where
-    pub again_refused : (x : Refusal) → r ≡ Refused x → CameAgain list n rows offsets sheet rows₂ offsets₂ (Refused x) rows₂ offsets₂
+    pub again_refused : (x : Refusal) → r ≡ Err x → CameAgain list n rows offsets sheet rows₂ offsets₂ (Err x) rows₂ offsets₂
     unfolding decode_answer
     again_refused x e =
         refused_again list n rows offsets sheet rows₂ offsets₂ x (answer_refused (decode_check list n rows offsets (length sheet)) _ _ (sym decode_is ∙ e))
 
-  module _ (a b : ℕ) (e : r ≡ Done a b) where
-    passed : (decode_check list n rows offsets (length sheet) ≡ Pass) × (length out ≡ a)
+  module _ (a b : ℕ) (e : r ≡ Ok (a, b)) where
+    passed : (decode_check list n rows offsets (length sheet) ≡ Ok tt) × (length out ≡ a)
     unfolding decode_answer
     passed = let p = answer_done (decode_check list n rows offsets (length sheet)) _ _ a b (sym decode_is ∙ e) in (p.0, p.1)
 
@@ -123,7 +120,7 @@ module _ {list : ColumnList} {n : ℕ} {rows offsets sheet : List ℕ} {r : Answ
 
 -- a batch that was encoded
 pub batch_written : {list : ColumnList} {n : ℕ} {sheet rows offsets : List ℕ} {r : Answer} {rows' offsets' : List ℕ}
-    → Encoded list n sheet rows offsets r rows' offsets' → Bytes sheet → (a b : ℕ) → r ≡ Done a b → Written list (batch n sheet rows offsets rows' offsets')
+    → Encoded list n sheet rows offsets r rows' offsets' → Bytes sheet → (a b : ℕ) → r ≡ Ok (a, b) → Written list (batch n sheet rows offsets rows' offsets')
 batch_written h bytes a b e = record { bytes = bytes; passes = encode_passed h a b e; row_bytes = h.row_bytes; row_ends = h.row_ends }
 
 module _ {list : ColumnList} {b d : Batch} (r q : ℕ) where
@@ -132,26 +129,26 @@ module _ {list : ColumnList} {b d : Batch} (r q : ℕ) where
       → (There list b d r q → ⊥) → OrderedAs list b d r q x
   none x e never = record { answers = e; begins = λ t. absurd (never t); begun = λ t. absurd (never t) }
 
-  refused : (x : Refusal) → both (batch_fault list b) (batch_fault list d) ≡ Refuse x → OrderedAs list b d r q (NotEncoded x)
-  refused x e = none (NotEncoded x) (rw e) (λ t. refuse_pass (sym e ∙ t.passes))
+  refused : (x : Refusal) → both (batch_fault list b) (batch_fault list d) ≡ Err x → OrderedAs list b d r q (Err x)
+  refused x e = none (Err x) (rw e) (λ t. refuse_pass (sym e ∙ t.passes))
 
-  pub first_refused : (x : Refusal) → batch_fault list b ≡ Refuse x → OrderedAs list b d r q (NotEncoded x)
+  pub first_refused : (x : Refusal) → batch_fault list b ≡ Err x → OrderedAs list b d r q (Err x)
   first_refused x e = refused x (rw e)
 
   module _ (v : Written list b) where
-    pub second_refused : (x : Refusal) → batch_fault list d ≡ Refuse x → OrderedAs list b d r q (NotEncoded x)
+    pub second_refused : (x : Refusal) → batch_fault list d ≡ Err x → OrderedAs list b d r q (Err x)
     second_refused x e = refused x (rw (v.passes, e))
 
     module _ (w : Written list d) where
-      pub no_first : b.n ≤ r → OrderedAs list b d r q NoRow
-      no_first l = none NoRow (rw (v.passes, w.passes, le-ltb r b.n l)) (λ t. omega (arith, t.row))
+      pub no_first : b.n ≤ r → OrderedAs list b d r q (Ok None)
+      no_first l = none (Ok None) (rw (v.passes, w.passes, le-ltb r b.n l)) (λ t. omega (arith, t.row))
 
-      pub no_second : r < b.n → d.n ≤ q → OrderedAs list b d r q NoRow
-      no_second k l = none NoRow (rw (v.passes, w.passes, lt-ltb r b.n k, le-ltb q d.n l)) (λ t. omega (arith, t.other))
+      pub no_second : r < b.n → d.n ≤ q → OrderedAs list b d r q (Ok None)
+      no_second k l = none (Ok None) (rw (v.passes, w.passes, lt-ltb r b.n k, le-ltb q d.n l)) (λ t. omega (arith, t.other))
 
-      pub rows_ordered : r < b.n → q < d.n → (x y : ℤ) → x ≡ y → y ≡ compare_answer (row_in b r) (row_in d q) → OrderedAs list b d r q (Is x)
+      pub rows_ordered : r < b.n → q < d.n → (x y : ℤ) → x ≡ y → y ≡ compare_answer (row_in b r) (row_in d q) → OrderedAs list b d r q (Ok (Some x))
       rows_ordered k l x y s e = record {
-        answers = rw (v.passes, w.passes, lt-ltb r b.n k, lt-ltb q d.n l) (ap Is (s ∙ e ∙ written_order v w r q k l));
+        answers = rw (v.passes, w.passes, lt-ltb r b.n k, lt-ltb q d.n l) (ap (λ o. Ok (Some o)) (s ∙ e ∙ written_order v w r q k l));
         begins = λ t. written_begins v w r q k l;
         begun = λ t. written_begun v w r q k l;
       }

@@ -7,7 +7,7 @@ use mathlib.Core.List.{List, [], ◌∷◌, ◌++◌, map, append-nil, map-map}
 use native.Mathlib.Omega.{arith}
 use lib.Dec.{eqb}
 use lib.ListN.{length, get_or, replicate, length-replicate, length-map}
-use Rattle.format.specs.declared.Check.TheVariants.{Pass}
+use Rattle.std.specs.declared.result.Result.TheVariants.{Ok}
 use Rattle.format.specs.declared.SortOptions.{SortOptions}
 use Rattle.format.specs.declared.Column.{Column}
 use Rattle.format.specs.Limits.{max_rows, max_slot}
@@ -162,7 +162,7 @@ raws_back n (col ∷ cols) (ss ∷ sss) h = ap₂ {C = List (List Slot)} (λ x y
 
 -- ---- so the cleared sheet passes, and has the slots
 pub cleared_passes : (n : ℕ) (cols : List Column) (sss : List (List Slot)) → n ≤ max_rows → SheetFits n cols sss
-    → sheet_fault n cols (cleared_sheet n cols sss) ≡ Pass
+    → sheet_fault n cols (cleared_sheet n cols sss) ≡ Ok tt
 cleared_passes n cols sss few h = ap (sheet_fault n cols) (cleared_raw_lem n cols sss) ∙ raw_passes n cols (cleared_raws cols sss) (raws_fit n cols sss few h)
 
 pub cleared_slots_lem : (n : ℕ) (cols : List Column) (sss : List (List Slot)) → n ≤ max_rows → SheetFits n cols sss

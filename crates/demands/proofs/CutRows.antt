@@ -7,7 +7,7 @@ use native.Mathlib.Omega.{arith}
 use lib.ListN.{length, get_or, take, drop, length-drop}
 use lib.Seq.{take-add, drop-drop, drop-cons, length-take-le}
 use borrow.Author.Tests.{eq-eqb}
-use Rattle.format.specs.declared.Check.TheVariants.{Pass}
+use Rattle.std.specs.declared.result.Result.TheVariants.{Ok}
 use Rattle.format.specs.Limits.{max_total}
 use Rattle.format.specs.Lists.{each, ends_from, joined}
 use Rattle.format.specs.Passed.{Cuts}
@@ -15,13 +15,13 @@ use Rattle.format.specs.Entries.{offset_room_fault, fall_fault, offsets_fault, r
 use Rattle.basics.proofs.Checks.{pass_enough, pass_both}
 
 rising_pass : (offsets : List ℕ) (i k : ℕ) → ((j : ℕ) → i ≤ j → j < i + k → get_or offsets j 0 ≤ get_or offsets (suc j) 0)
-    → fall_fault offsets i k ≡ Pass
+    → fall_fault offsets i k ≡ Ok tt
 rising_pass offsets i zero h = refl
 rising_pass offsets i (suc k) h =
     pass_enough (get_or offsets (suc i) 0) (get_or offsets i 0) _ _ (h i (omega arith) (omega arith))
     (rising_pass offsets (suc i) k (λ j a b. h j (omega arith) (omega arith)))
 
-pub cuts_pass : (n : ℕ) (bytes offsets : List ℕ) → Cuts n bytes offsets → offsets_fault n bytes offsets ≡ Pass
+pub cuts_pass : (n : ℕ) (bytes offsets : List ℕ) → Cuts n bytes offsets → offsets_fault n bytes offsets ≡ Ok tt
 cuts_pass n bytes offsets c =
     pass_both (offset_room_fault n (length offsets)) _ (pass_enough (length offsets) (suc n) _ _ c.there refl)
     (rw (eq-eqb (get_or offsets 0 0) 0 c.first)

@@ -8,14 +8,12 @@ use mathlib.Core.List.{List, []}
 use native.Mathlib.Omega.{arith}
 use lib.Dec.{ltb}
 use lib.ListN.{length, get_or, drop}
-use Rattle.format.specs.declared.Answer.TheVariants.{Refused}
-use Rattle.format.specs.declared.Check.{Check}
-use Rattle.format.specs.declared.Check.TheVariants.{Pass, Refuse}
+use Rattle.std.specs.declared.result.Result.TheVariants.{Err, Ok}
+use Rattle.format.specs.Check.{Check, both, fail_if}
 use Rattle.format.specs.declared.Refusal.{Refusal}
 use Rattle.format.specs.declared.Refusal.TheVariants.{Row, RowRoom, SheetRoom}
 use Rattle.format.specs.declared.RowFault.{RowFault}
 use Rattle.format.specs.declared.Column.{Column}
-use Rattle.format.specs.Check.{both, fail_if}
 use Rattle.format.specs.Lists.{Bytes, ends_from, joined}
 use Rattle.format.specs.Described.{ColumnList, list_fault, columns}
 use Rattle.format.specs.Sheet.{sheet_slots, nulls}
@@ -46,11 +44,11 @@ module _ (list : ColumnList) (n : ℕ) (sheet rows offsets back : List ℕ) wher
   offsets' = encode_offsets list n sheet (length rows) offsets
 
   -- what encode refuses is not decoded
-  pub refused_back : (x : Refusal) → encode_check list n sheet (length rows) (length offsets) ≡ Refuse x
-      → CameBack list n sheet rows offsets back (Refused x) back
+  pub refused_back : (x : Refusal) → encode_check list n sheet (length rows) (length offsets) ≡ Err x
+      → CameBack list n sheet rows offsets back (Err x) back
   refused_back x e = record { answers = rw e; writes = rw e; same_slots = λ p. absurd (refuse_pass (sym e ∙ p)) }
 
-  module _ (b : Bytes sheet) (e : encode_check list n sheet (length rows) (length offsets) ≡ Pass) where
+  module _ (b : Bytes sheet) (e : encode_check list n sheet (length rows) (length offsets) ≡ Ok tt) where
     abbrev rs : List (List ℕ)
     rs = sheet_rows n cols sheet
 
@@ -60,7 +58,7 @@ module _ (list : ColumnList) (n : ℕ) (sheet rows offsets back : List ℕ) wher
     abbrev offsetsLeft : List ℕ
     offsetsLeft = drop (length (ends_from 0 rs)) offsets
 
-    accepted : (list_fault list ≡ Pass) × Accepted cols n sheet
+    accepted : (list_fault list ≡ Ok tt) × Accepted cols n sheet
     accepted = encoded list n sheet (length rows) (length offsets) e
 
     accepted_rows : AcceptedRows cols n rows' offsets'
@@ -72,10 +70,10 @@ module _ (list : ColumnList) (n : ℕ) (sheet rows offsets back : List ℕ) wher
         (slots_back cols n sheet rowsLeft offsetsLeft b accepted.1)
 
     room : decode_check list n rows' offsets' (length back)
-        ≡ fail_if (ltb (length back) (length (cleared_of list n sheet))) (SheetRoom (length (cleared_of list n sheet))) Pass
+        ≡ fail_if (ltb (length back) (length (cleared_of list n sheet))) (SheetRoom (length (cleared_of list n sheet))) (Ok tt)
     room =
         decode_room list n rows' offsets' (length back) accepted.0 accepted_rows
-        ∙ ap (λ (z : List ℕ). fail_if (ltb (length back) (length z)) (SheetRoom (length z)) Pass) (ap (cleared_sheet n cols) slots_are)
+        ∙ ap (λ (z : List ℕ). fail_if (ltb (length back) (length z)) (SheetRoom (length z)) (Ok tt)) (ap (cleared_sheet n cols) slots_are)
 
     pub encoded_back : CameBack list n sheet rows offsets back (decode_answer list n rows' offsets' (length back)) (decode_sheet list n rows' offsets' back)
     unfolding decode_answer decode_sheet
@@ -88,15 +86,15 @@ module _ (list : ColumnList) (n : ℕ) (sheet rows offsets back : List ℕ) wher
 -- ---- what decode wrote, encoded: the same rows and offsets, and the same null total
 module _ (list : ColumnList) (n : ℕ) (rows offsets sheet rows₂ offsets₂ : List ℕ) where
   -- what decode refuses is not encoded
-  pub refused_again : (x : Refusal) → decode_check list n rows offsets (length sheet) ≡ Refuse x
-      → CameAgain list n rows offsets sheet rows₂ offsets₂ (Refused x) rows₂ offsets₂
+  pub refused_again : (x : Refusal) → decode_check list n rows offsets (length sheet) ≡ Err x
+      → CameAgain list n rows offsets sheet rows₂ offsets₂ (Err x) rows₂ offsets₂
   refused_again x e = record { answers = rw e; row_bytes = rw e; row_ends = rw e }
 
-  module _ (b : Bytes rows) (e : decode_check list n rows offsets (length sheet) ≡ Pass) where
+  module _ (b : Bytes rows) (e : decode_check list n rows offsets (length sheet) ≡ Ok tt) where
     abbrev out : List ℕ
     out = decoded_sheet n (columns list) (cut_rows n rows offsets)
 
-    passed : (list_fault list ≡ Pass) × AcceptedRows (columns list) n rows offsets
+    passed : (list_fault list ≡ Ok tt) × AcceptedRows (columns list) n rows offsets
     passed = decoded list n rows offsets (length sheet) e
 
     total : sheet_total n (columns list) out ≡ get_or offsets n 0
@@ -118,7 +116,7 @@ module _ (list : ColumnList) (n : ℕ) (rows offsets sheet rows₂ offsets₂ : 
     }
 
 -- ---- accepted sheets that differ only in null slots, and so have equal slots, are encoded alike
-pub same_slots_alike : (list : ColumnList) (n : ℕ) (s t rows offsets : List ℕ) → measure_check list n s ≡ Pass → measure_check list n t ≡ Pass
+pub same_slots_alike : (list : ColumnList) (n : ℕ) (s t rows offsets : List ℕ) → measure_check list n s ≡ Ok tt → measure_check list n t ≡ Ok tt
     → sheet_slots n (columns list) s ≡ sheet_slots n (columns list) t → Alike list n s t rows offsets
 unfolding encode_check encode_answer encode_rows encode_offsets
 same_slots_alike list n s t rows offsets p q e = record {
@@ -128,7 +126,7 @@ same_slots_alike list n s t rows offsets p q e = record {
 }
 
 -- so are an accepted sheet and its cleared sheet
-pub cleared_alike : (list : ColumnList) (n : ℕ) (sheet rows offsets : List ℕ) → Bytes sheet → measure_check list n sheet ≡ Pass
+pub cleared_alike : (list : ColumnList) (n : ℕ) (sheet rows offsets : List ℕ) → Bytes sheet → measure_check list n sheet ≡ Ok tt
     → Alike list n sheet (cleared_of list n sheet) rows offsets
 cleared_alike list n sheet rows offsets b e =
     let l = measured list n sheet e in
@@ -143,8 +141,8 @@ module _ (list : ColumnList) (n : ℕ) (bytes offsets : List ℕ) (room : ℕ) w
   cut r l = each_at n (row_bytes bytes offsets) [] r l
 
   -- what decode refuses by content was refused by its rows: nothing before them refuses so, nor does 24
-  pub by_rows : {x : Refusal} → by_content x ≡ true → decode_answer list n bytes offsets room ≡ Refused x
-      → rows_fault 0 (columns list) (cut_rows n bytes offsets) ≡ Refuse x
+  pub by_rows : {x : Refusal} → by_content x ≡ true → decode_answer list n bytes offsets room ≡ Err x
+      → rows_fault 0 (columns list) (cut_rows n bytes offsets) ≡ Err x
   unfolding decode_answer decode_check
   by_rows {x} t e =
       let cols : List Column = columns list in
@@ -154,15 +152,15 @@ module _ (list : ColumnList) (n : ℕ) (bytes offsets : List ℕ) (room : ℕ) w
       (past_outer (offsets_fault n bytes offsets) _ (outer_offsets n bytes offsets) t
       (past_outer (row_count_fault n) _ (outer_count n) t (past_outer (list_fault list) _ (outer_list list) t k)))
     where
-      outer_room : (sheet : List ℕ) → Outer (fail_if (ltb room (length sheet)) (SheetRoom (length sheet)) Pass)
+      outer_room : (sheet : List ℕ) → Outer (fail_if (ltb room (length sheet)) (SheetRoom (length sheet)) (Ok tt))
       outer_room sheet = outer_if (ltb room (length sheet)) _ _ refl tt
 
-      first : (c d : Check) → Outer d → both c d ≡ Refuse x → c ≡ Refuse x
-      first Pass d h e = absurd (outer_no d h t e)
-      first (Refuse y) d h e = e
+      first : (c d : Check) → Outer d → both c d ≡ Err x → c ≡ Err x
+      first (Ok tt) d h e = absurd (outer_no d h t e)
+      first (Err y) d h e = e
 
   -- a refusal by content names the first row that no values have
-  pub content_refused : (f : RowFault) (r c place : ℕ) → Bytes bytes → decode_answer list n bytes offsets room ≡ Refused (Row f r c place)
+  pub content_refused : (f : RowFault) (r c place : ℕ) → Bytes bytes → decode_answer list n bytes offsets room ≡ Err (Row f r c place)
       → (r < n) × (HasValues (columns list) (row_bytes bytes offsets r) → ⊥) × ((i : ℕ) → i < r → HasValues (columns list) (row_bytes bytes offsets i))
   content_refused f r c place b e =
       let t = rows_refused (columns list) (cut_rows n bytes offsets) 0 (Row f r c place) (by_rows (row_content f r c place) e) in
@@ -182,7 +180,7 @@ module _ (list : ColumnList) (n : ℕ) (bytes offsets : List ℕ) (room : ℕ) w
 
   -- where every row has values, nothing is refused by content
   pub content_accepted : ((r : ℕ) → r < n → HasValues (columns list) (row_bytes bytes offsets r)) → {x : Refusal} → by_content x ≡ true
-      → decode_answer list n bytes offsets room ≡ Refused x → ⊥
+      → decode_answer list n bytes offsets room ≡ Err x → ⊥
   content_accepted h t e =
       refuse_pass (sym (by_rows t e)
       ∙ rows_valued (columns list) (cut_rows n bytes offsets) 0
@@ -191,21 +189,21 @@ module _ (list : ColumnList) (n : ℕ) (bytes offsets : List ℕ) (room : ℕ) w
       subst (HasValues (columns list)) (sym (cut i k)) (h i k)))
 
   -- and where some row has none, and nothing before the rows is refused, decode refuses by content
-  pub content_needed : Bytes bytes → list_fault list ≡ Pass → row_count_fault n ≡ Pass → offsets_fault n bytes offsets ≡ Pass
+  pub content_needed : Bytes bytes → list_fault list ≡ Ok tt → row_count_fault n ≡ Ok tt → offsets_fault n bytes offsets ≡ Ok tt
       → (r : ℕ) → r < n → (HasValues (columns list) (row_bytes bytes offsets r) → ⊥)
-      → (x : Refusal) × (by_content x ≡ true) × (decode_answer list n bytes offsets room ≡ Refused x)
+      → (x : Refusal) × (by_content x ≡ true) × (decode_answer list n bytes offsets room ≡ Err x)
   unfolding decode_answer decode_check
   content_needed b p q o r l never = go (rows_fault 0 (columns list) (cut_rows n bytes offsets)) refl
     where
       go : (k : Check) → rows_fault 0 (columns list) (cut_rows n bytes offsets) ≡ k
-          → (x : Refusal) × (by_content x ≡ true) × (decode_answer list n bytes offsets room ≡ Refused x)
-      go Pass e =
+          → (x : Refusal) × (by_content x ≡ true) × (decode_answer list n bytes offsets room ≡ Err x)
+      go (Ok tt) e =
           let t = rows_passed 0 (columns list) (cut_rows n bytes offsets) (cut_bytes n bytes offsets b) e in
           let cols : List Column = columns list in
           let rs : List (List ℕ) = cut_rows n bytes offsets in
           let long : length rs ≡ n = length_each 0 n (row_bytes bytes offsets) in
           let v = row_valued cols rs t.0 t.1 r (omega arith) in
           absurd (never (subst (HasValues cols) (cut r l) (record { values = row_slots cols (get_or rs r []); fit = v.0; spell = v.1 })))
-      go (Refuse x) e =
+      go (Err x) e =
           let t = rows_refused (columns list) (cut_rows n bytes offsets) 0 x e in
           (x, ap by_content t.names ∙ row_content t.fault (0 + t.j) t.column t.place, rw (p, q, o, e))

@@ -4,7 +4,7 @@ use Prim.Native.Nat.{ℕ, ◌<◌, Ordering}
 use mathlib.Core.Path.{◌≡◌, ap, ap₂, ◌∙◌}
 use mathlib.Core.List.{List, ◌++◌}
 use lib.ListN.{length, drop}
-use Rattle.format.specs.declared.Check.TheVariants.{Pass}
+use Rattle.std.specs.declared.result.Result.TheVariants.{Ok}
 use Rattle.format.specs.declared.Column.{Column}
 use Rattle.format.specs.Lists.{Bytes, ends_from, joined}
 use Rattle.format.specs.Described.{ColumnList, columns}
@@ -27,7 +27,7 @@ use Rattle.demands.proofs.Turning.{row_at, row_fits}
 -- a batch that encode did not refuse, with what it wrote
 pub record Written (list : ColumnList) (b : Batch) : Type 0 where
   pub bytes : Bytes b.sheet
-  pub passes : batch_fault list b ≡ Pass
+  pub passes : batch_fault list b ≡ Ok tt
   pub row_bytes : b.rows' ≡ encode_rows list b.n b.sheet b.rows (length b.offsets)
   pub row_ends : b.offsets' ≡ encode_offsets list b.n b.sheet (length b.rows) b.offsets
 

@@ -10,12 +10,11 @@ use lib.ListN.{length, get_or}
 use Rattle.format.specs.declared.Column.{Column}
 use Rattle.format.specs.declared.RowFault.{RowFault}
 use Rattle.format.specs.declared.RowFault.TheVariants.{Cut, Lead, NullRest, BoolByte, EndByte, Padding, Extra, TooLong, Unfolded}
-use Rattle.format.specs.declared.Check.{Check}
-use Rattle.format.specs.declared.Check.TheVariants.{Pass, Refuse}
+use Rattle.format.specs.Check.{Check, both, fail_if}
+use Rattle.std.specs.declared.result.Result.TheVariants.{Ok, Err}
 use Rattle.format.specs.declared.Refusal.{Refusal}
 use Rattle.format.specs.declared.Refusal.TheVariants.{Row}
 use Rattle.format.specs.Limits.{max_columns, max_rows, max_total}
-use Rattle.format.specs.Check.{both, fail_if}
 use Rattle.format.specs.Lists.{Bytes}
 use Rattle.format.specs.Kinds.{last_kind, Slot, column_shape}
 use Rattle.format.specs.Columns.{most_options, most_width, numbers_fault, description_bytes, description_fault, width_at, list_fault_from, spelled_fault}
@@ -46,16 +45,16 @@ row_content Unfolded r c place = refl
 
 -- a check that refuses nothing by content
 abbrev pub Outer : Check → Type 0
-Outer Pass = Unit {0}
-Outer (Refuse x) = by_content x ≡ false
+Outer (Ok tt) = Unit {0}
+Outer (Err x) = by_content x ≡ false
 
 pub outer_if : (b : Bool) (x : Refusal) (next : Check) → by_content x ≡ false → Outer next → Outer (fail_if b x next)
 outer_if true x next h k = h
 outer_if false x next h k = k
 
 outer_both : (c d : Check) → Outer c → Outer d → Outer (both c d)
-outer_both Pass d h k = k
-outer_both (Refuse x) d h k = h
+outer_both (Ok tt) d h k = k
+outer_both (Err x) d h k = h
 
 outer_cond : (b : Bool) (c d : Check) → Outer c → Outer d → Outer (cond b c d)
 outer_cond true c d h k = h
@@ -112,34 +111,34 @@ outer_offsets n bytes offsets =
     (outer_if (ltb (length bytes) (get_or offsets n 0)) _ _ refl (outer_if (ltb max_total (get_or offsets n 0)) _ _ refl tt))))
 
 -- it is no refusal by content
-pub outer_no : (c : Check) {x : Refusal} → Outer c → by_content x ≡ true → c ≡ Refuse x → ⊥
-outer_no Pass h t e = refuse_pass (sym e)
-outer_no (Refuse y) {x} h t e = let w : y ≡ x = cc in true≢false (sym t ∙ ap by_content (sym w) ∙ h)
+pub outer_no : (c : Check) {x : Refusal} → Outer c → by_content x ≡ true → c ≡ Err x → ⊥
+outer_no (Ok tt) h t e = refuse_pass (sym e)
+outer_no (Err y) {x} h t e = let w : y ≡ x = cc in true≢false (sym t ∙ ap by_content (sym w) ∙ h)
 
 -- what refuses by content after such a check was refused by what comes after it
-pub past_outer : (c d : Check) {x : Refusal} → Outer c → by_content x ≡ true → both c d ≡ Refuse x → d ≡ Refuse x
-past_outer Pass d h t e = e
-past_outer (Refuse y) d h t e = absurd (outer_no (Refuse y) h t e)
+pub past_outer : (c d : Check) {x : Refusal} → Outer c → by_content x ≡ true → both c d ≡ Err x → d ≡ Err x
+past_outer (Ok tt) d h t e = e
+past_outer (Err y) d h t e = absurd (outer_no (Err y) h t e)
 
 -- ---- rows
 
 -- a fault in row r is refused as one
-named : (r n c : ℕ) (cols : List Column) (s : List ℕ) (x : Refusal) → row_fault r n c cols s ≡ Refuse x
+named : (r n c : ℕ) (cols : List Column) (s : List ℕ) (x : Refusal) → row_fault r n c cols s ≡ Err x
     → (f : RowFault) × (d place : ℕ) × (x ≡ Row f r d place)
 named r n c [] [] x e = absurd (refuse_pass (sym e))
 named r n c [] (b ∷ s) x e = (Extra, c, n - suc (length s), sym (refused e))
   where
-    refused : {y z : Refusal} → Refuse y ≡ Refuse z → y ≡ z
+    refused : {y z : Refusal} → ◌≡◌ {A = Check} (Err y) (Err z) → y ≡ z
     refused h = cc
 named r n c (col ∷ cols) s x e = go (read_field (column_shape col) col.options s) e (named r n (suc c) cols)
   where
-    go : (p : Parsed Slot) → field_check r n c p (row_fault r n (suc c) cols) ≡ Refuse x
-        → ((t : List ℕ) (y : Refusal) → row_fault r n (suc c) cols t ≡ Refuse y → (f : RowFault) × (d place : ℕ) × (y ≡ Row f r d place))
+    go : (p : Parsed Slot) → field_check r n c p (row_fault r n (suc c) cols) ≡ Err x
+        → ((t : List ℕ) (y : Refusal) → row_fault r n (suc c) cols t ≡ Err y → (f : RowFault) × (d place : ℕ) × (y ≡ Row f r d place))
         → (f : RowFault) × (d place : ℕ) × (x ≡ Row f r d place)
     go (got v rest) h ih = ih rest x h
     go (fault f l) h ih = (f, c, n - l, cc)
 
-values_pass : (r n : ℕ) (cols : List Column) (f : List ℕ) → HasValues cols f → row_fault r n 0 cols f ≡ Pass
+values_pass : (r n : ℕ) (cols : List Column) (f : List ℕ) → HasValues cols f → row_fault r n 0 cols f ≡ Ok tt
 values_pass r n cols f h = ap (row_fault r n 0 cols) (sym h.spell) ∙ row_passes r n 0 cols h.values h.fit
 
 -- rows refused from row k on: row k + j of them is the first that no values have
@@ -150,17 +149,17 @@ pub record First (cols : List Column) (bs : List (List ℕ)) (k : ℕ) (x : Refu
   pub column : ℕ
   pub place : ℕ
   pub names : x ≡ Row fault (k + j) column place
-  pub refused : row_fault (k + j) (length (get_or bs j [])) 0 cols (get_or bs j []) ≡ Refuse x
+  pub refused : row_fault (k + j) (length (get_or bs j [])) 0 cols (get_or bs j []) ≡ Err x
   pub none : HasValues cols (get_or bs j []) → ⊥
   pub before : (i : ℕ) → i < j → Bytes (get_or bs i []) → HasValues cols (get_or bs i [])
 
-pub rows_refused : (cols : List Column) (bs : List (List ℕ)) (k : ℕ) (x : Refusal) → rows_fault k cols bs ≡ Refuse x → First cols bs k x
+pub rows_refused : (cols : List Column) (bs : List (List ℕ)) (k : ℕ) (x : Refusal) → rows_fault k cols bs ≡ Err x → First cols bs k x
 rows_refused cols [] k x e = absurd (refuse_pass (sym e))
 rows_refused cols (b ∷ bs) k x e = go (row_fault k (length b) 0 cols b) refl e (rows_refused cols bs (suc k) x)
   where
-    go : (c : Check) → row_fault k (length b) 0 cols b ≡ c → both c (rows_fault (suc k) cols bs) ≡ Refuse x
-        → (rows_fault (suc k) cols bs ≡ Refuse x → First cols bs (suc k) x) → First cols (b ∷ bs) k x
-    go Pass q h ih =
+    go : (c : Check) → row_fault k (length b) 0 cols b ≡ c → both c (rows_fault (suc k) cols bs) ≡ Err x
+        → (rows_fault (suc k) cols bs ≡ Err x → First cols bs (suc k) x) → First cols (b ∷ bs) k x
+    go (Ok tt) q h ih =
         let t = ih h in
         record {
           j = suc t.j;
@@ -174,11 +173,11 @@ rows_refused cols (b ∷ bs) k x e = go (row_fault k (length b) 0 cols b) refl e
           before = earlier t q;
         }
       where
-        earlier : (t : First cols bs (suc k) x) → row_fault k (length b) 0 cols b ≡ Pass → (i : ℕ) → i < suc t.j → Bytes (get_or (b ∷ bs) i [])
+        earlier : (t : First cols bs (suc k) x) → row_fault k (length b) 0 cols b ≡ Ok tt → (i : ℕ) → i < suc t.j → Bytes (get_or (b ∷ bs) i [])
             → HasValues cols (get_or (b ∷ bs) i [])
         earlier t q zero l y = let p = passed_row k (length b) 0 cols b y q in record { values = row_slots cols b; fit = p.1; spell = p.0 }
         earlier t q (suc i) l y = t.before i (omega arith) y
-    go (Refuse y) q h ih =
+    go (Err y) q h ih =
         let n = named k (length b) 0 cols b x (q ∙ h) in
         record {
           j = 0;
@@ -193,7 +192,7 @@ rows_refused cols (b ∷ bs) k x e = go (row_fault k (length b) 0 cols b) refl e
         }
 
 -- rows that all have values pass
-pub rows_valued : (cols : List Column) (bs : List (List ℕ)) (k : ℕ) → ((i : ℕ) → i < length bs → HasValues cols (get_or bs i [])) → rows_fault k cols bs ≡ Pass
+pub rows_valued : (cols : List Column) (bs : List (List ℕ)) (k : ℕ) → ((i : ℕ) → i < length bs → HasValues cols (get_or bs i [])) → rows_fault k cols bs ≡ Ok tt
 rows_valued cols [] k h = refl
 rows_valued cols (b ∷ bs) k h =
     pass_both (row_fault k (length b) 0 cols b) _ (values_pass k (length b) cols b (h 0 (omega arith)))

@@ -6,10 +6,9 @@ use mathlib.Core.Option.{none as null, some}
 use mathlib.Core.List.{List, [], ◌∷◌, ◌++◌, map}
 use lib.Dec.{ltb}
 use lib.ListN.{length}
-use Rattle.format.specs.declared.Answer.TheVariants.{Done}
+use Rattle.std.specs.declared.result.Result.TheVariants.{Ok}
 use Rattle.format.specs.declared.SortOptions.{SortOptions}
 use Rattle.format.specs.declared.Column.{Column}
-use Rattle.format.specs.declared.Check.TheVariants.{Pass}
 use Rattle.format.specs.declared.Refusal.TheVariants.{RowRoom}
 use Rattle.format.specs.Limits.{max_rows, max_slot, max_total}
 use Rattle.format.specs.Check.{fail_if}
@@ -73,12 +72,12 @@ pub rows_folded : (n : ℕ) (cols : List Column) (sheet other : List ℕ) → sh
 rows_folded n cols sheet other e =
     sym (ap (λ (z : List (List Slot)). map (row (map unfolded cols)) (turned n z)) e ∙ rows_same cols (turned n (sheet_slots n cols sheet)))
 
-module _ (n : ℕ) (cols : List Column) (sheet : List ℕ) (few : n ≤ max_rows) (b : Bytes sheet) (e : sheet_fault n cols sheet ≡ Pass) where
+module _ (n : ℕ) (cols : List Column) (sheet : List ℕ) (few : n ≤ max_rows) (b : Bytes sheet) (e : sheet_fault n cols sheet ≡ Ok tt) where
   fits : SheetFits n (map unfolded cols) (sheet_slots n cols sheet)
   fits = fits_still n cols (sheet_slots n cols sheet) (sheet_fits n cols sheet b e)
 
   -- the folded sheet is accepted there
-  pub folded_passes : sheet_fault n (map unfolded cols) (folded_sheet n cols sheet) ≡ Pass
+  pub folded_passes : sheet_fault n (map unfolded cols) (folded_sheet n cols sheet) ≡ Ok tt
   folded_passes =
       ap (sheet_fault n (map unfolded cols)) (sym (sheet_same n cols (sheet_slots n cols sheet)))
       ∙ cleared_passes n (map unfolded cols) (sheet_slots n cols sheet) few fits
@@ -94,8 +93,8 @@ module _ (n : ℕ) (cols : List Column) (sheet : List ℕ) (few : n ≤ max_rows
   folded_rows = rows_folded n cols sheet (folded_sheet n cols sheet) folded_slots
 
 -- ---- the same of encode, where another list has the same columns without bit 3
-module _ (list plain : ColumnList) (n : ℕ) (sheet rows offsets : List ℕ) (l : list_fault plain ≡ Pass) (same : columns plain ≡ map unfolded (columns list))
-    (b : Bytes sheet) (e : encode_check list n sheet (length rows) (length offsets) ≡ Pass) where
+module _ (list plain : ColumnList) (n : ℕ) (sheet rows offsets : List ℕ) (l : list_fault plain ≡ Ok tt) (same : columns plain ≡ map unfolded (columns list))
+    (b : Bytes sheet) (e : encode_check list n sheet (length rows) (length offsets) ≡ Ok tt) where
   a : Accepted (columns list) n sheet
   a = (encoded list n sheet (length rows) (length offsets) e).1
 
@@ -119,7 +118,7 @@ module _ (list plain : ColumnList) (n : ℕ) (sheet rows offsets : List ℕ) (l 
     small = subst (λ (k : ℕ). k ≤ max_total) total a.small;
   }
 
-  passes : encode_check plain n folded (length rows) (length offsets) ≡ Pass
+  passes : encode_check plain n folded (length rows) (length offsets) ≡ Ok tt
   passes =
       encode_room plain n folded (length rows) (length offsets) l accepted
       ∙ ap (λ (k : ℕ). fail_if (ltb (length rows) k) (RowRoom k) (offset_room_fault n (length offsets))) (sym total)
@@ -127,7 +126,7 @@ module _ (list plain : ColumnList) (n : ℕ) (sheet rows offsets : List ℕ) (l 
 
   answers_alike : encode_answer list n sheet (length rows) (length offsets) ≡ encode_answer plain n folded (length rows) (length offsets)
   unfolding encode_answer
-  answers_alike = rw (e, passes) (ap₂ Done total none)
+  answers_alike = rw (e, passes) (ap₂ (λ (a b : ℕ). Ok (a, b)) total none)
 
   pub encode_folded : EncodedFolded list plain n sheet rows offsets
   encode_folded = record {

@@ -11,11 +11,10 @@ use lib.Dec.{ltb, eqb}
 use lib.ListN.{length, get_or, take, drop, length-take}
 use lib.Seq.{get_or-take, take-take, take-nil}
 use borrow.Author.Tests.{lt-ltb, le-ltb}
-use Rattle.format.specs.declared.Check.{Check}
-use Rattle.format.specs.declared.Check.TheVariants.{Pass, Refuse}
+use Rattle.format.specs.Check.{Check, both, fail_if}
+use Rattle.std.specs.declared.result.Result.TheVariants.{Ok, Err}
 use Rattle.format.specs.declared.Refusal.{Refusal}
 use Rattle.format.specs.declared.Refusal.TheVariants.{OffsetRoom, Offsets}
-use Rattle.format.specs.Check.{both, fail_if}
 use Rattle.format.specs.Described.{ColumnList, list_fault}
 use Rattle.format.specs.Passed.{Cuts}
 use Rattle.format.specs.Entries.{row_count_fault, total_fault, fall_fault, offsets_fault, row_bytes, cut_rows, decode_check, decode_answer, decode_sheet}
@@ -47,10 +46,10 @@ cut_front : (a b m : ℕ) (l : List ℕ) → b ≤ m → take (b - a) (drop a (t
 cut_front a b m l h = ap (take (b - a)) (drop_take a m l) ∙ take-take (b - a) (m - a) (drop a l) (omega arith)
 
 -- a refusal of the offsets is one of what comes before them or their own
-no_rows : (x y : Check) (r : Refusal) → (z : Refusal) × (both x (both y (Refuse r)) ≡ Refuse z)
-no_rows Pass Pass r = (r, refl)
-no_rows Pass (Refuse q) r = (q, refl)
-no_rows (Refuse p) y r = (p, refl)
+no_rows : (x y : Check) (r : Refusal) → (z : Refusal) × (both x (both y (Err r)) ≡ Err z)
+no_rows (Ok _) (Ok _) r = (r, refl)
+no_rows (Ok _) (Err q) r = (q, refl)
+no_rows (Err p) y r = (p, refl)
 
 module _ (list : ColumnList) (n : ℕ) (bytes bytes' offsets offsets' sheet : List ℕ) (ends : take (suc n) offsets ≡ take (suc n) offsets')
     (front : take (get_or offsets n 0) bytes ≡ take (get_or offsets n 0) bytes') where
@@ -69,7 +68,7 @@ module _ (list : ColumnList) (n : ℕ) (bytes bytes' offsets offsets' sheet : Li
   offsets_alike : offsets_fault n bytes offsets ≡ offsets_fault n bytes' offsets'
   offsets_alike =
       ap₂ (λ (x y : Check). both x y)
-      (ap (λ (b : Bool). fail_if b (OffsetRoom (suc n)) Pass) (shorter (suc n) offsets offsets' ends))
+      (ap (λ (b : Bool). fail_if b (OffsetRoom (suc n)) (Ok tt)) (shorter (suc n) offsets offsets' ends))
       (ap₂ (λ (b : Bool) (next : Check). fail_if b (Offsets 0) next)
       (ap (λ (x : ℕ). not (eqb x 0)) (at 0 (omega arith)))
       (ap₂ (λ (x y : Check). both x y) (falls 0 n (omega arith))
@@ -97,5 +96,5 @@ module _ (list : ColumnList) (n : ℕ) (bytes bytes' offsets offsets' sheet : Li
       go : (k : Check) → offsets_fault n bytes offsets ≡ k
           → (decode_answer list n bytes offsets (length sheet) ≡ decode_answer list n bytes' offsets' (length sheet))
           × (decode_sheet list n bytes offsets sheet ≡ decode_sheet list n bytes' offsets' sheet)
-      go Pass e = let rows = rows_alike (offsets_passed n bytes offsets e) in (rw (← offsets_alike, e, rows), rw (← offsets_alike, e, rows))
-      go (Refuse x) e = let z = no_rows (list_fault list) (row_count_fault n) x in (rw (← offsets_alike, e, z.1), rw (← offsets_alike, e, z.1))
+      go (Ok tt) e = let rows = rows_alike (offsets_passed n bytes offsets e) in (rw (← offsets_alike, e, rows), rw (← offsets_alike, e, rows))
+      go (Err x) e = let z = no_rows (list_fault list) (row_count_fault n) x in (rw (← offsets_alike, e, z.1), rw (← offsets_alike, e, z.1))

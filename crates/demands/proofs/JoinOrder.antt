@@ -10,10 +10,9 @@ use lib.Dec.{ltb, eqb}
 use lib.ListN.{length, get_or, take, drop}
 use lib.Seq.{take_at}
 use borrow.Author.Tests.{lt-ltb, le-ltb, ltb-true, ltb-false, eqb-true, eqb-false}
-use Rattle.format.specs.declared.Answer.{Answer}
-use Rattle.format.specs.declared.Answer.TheVariants.{Done}
-use Rattle.format.specs.declared.Check.{Check}
-use Rattle.format.specs.declared.Check.TheVariants.{Pass}
+use Rattle.format.specs.Numbers.{Answer}
+use Rattle.std.specs.declared.result.Result.TheVariants.{Ok}
+use Rattle.format.specs.Check.{Check}
 use Rattle.format.specs.declared.Refusal.TheVariants.{ManyRows}
 use Rattle.format.specs.Limits.{max_rows}
 use Rattle.format.specs.Entries.{answer, written, row_count_fault, row_bytes, cut_rows}
@@ -200,7 +199,7 @@ join_in_order xs ys few =
 
 -- it is in order, where nothing is refused
 pub joined_in_order : {n₀ : ℕ} {rows₀ offsets₀ : List ℕ} {n₁ : ℕ} {rows₁ offsets₁ list : List ℕ} {r : Answer} {list' : List ℕ}
-    → Joined n₀ rows₀ offsets₀ n₁ rows₁ offsets₁ list r list' → (a b : ℕ) → r ≡ Done a b
+    → Joined n₀ rows₀ offsets₀ n₁ rows₁ offsets₁ list r list' → (a b : ℕ) → r ≡ Ok (a, b)
     → InOrder (cut_rows n₀ rows₀ offsets₀) (cut_rows n₁ rows₁ offsets₁) (take (n₀ + n₁) list')
 unfolding join_list join_answer join_check pass_fault
 joined_in_order {n₀} {rows₀} {offsets₀} {n₁} {rows₁} {offsets₁} {list} {r} {list'} g a b e =
@@ -208,9 +207,9 @@ joined_in_order {n₀} {rows₀} {offsets₀} {n₁} {rows₁} {offsets₁} {lis
     let xs = cut_rows n₀ rows₀ offsets₀ in
     let ys = cut_rows n₁ rows₁ offsets₁ in
     let says : r ≡ answer check (n₀ + n₁) 0 = numbers_injective r (answer check (n₀ + n₁) 0) g.answers in
-    let pass : check ≡ Pass = (answer_done check (n₀ + n₁) 0 a b (sym says ∙ e)).0 in
+    let pass : check ≡ Ok tt = (answer_done check (n₀ + n₁) 0 a b (sym says ∙ e)).0 in
     let first = (both_pass (pass_fault 0 n₀ rows₀ offsets₀) _ pass).0 in
-    let few : n₀ ≤ max_rows = (enough max_rows n₀ (ManyRows n₀) Pass (both_pass (row_count_fault n₀) _ first).0).0 in
+    let few : n₀ ≤ max_rows = (enough max_rows n₀ (ManyRows n₀) (Ok tt) (both_pass (row_count_fault n₀) _ first).0).0 in
     let many : length (join_order xs ys) ≡ n₀ + n₁ =
     length_order xs ys ∙ ap₂ {C = ℕ} (λ a b. a + b) (length_each 0 n₀ (row_bytes rows₀ offsets₀)) (length_each 0 n₁ (row_bytes rows₁ offsets₁)) in
     let front : take (n₀ + n₁) list' ≡ join_order xs ys =

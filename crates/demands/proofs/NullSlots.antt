@@ -7,8 +7,8 @@ use mathlib.Core.List.{List, [], ◌∷◌, map}
 use native.Mathlib.Omega.{arith}
 use lib.ListN.{length, drop}
 use borrow.Author.Tests.{le-ltb}
-use Rattle.format.specs.declared.Answer.{Answer}
-use Rattle.format.specs.declared.Check.TheVariants.{Pass}
+use Rattle.format.specs.Numbers.{Answer, three, numbers_of}
+use Rattle.std.specs.declared.result.Result.TheVariants.{Ok}
 use Rattle.format.specs.declared.Column.{Column}
 use Rattle.format.specs.Limits.{max_total}
 use Rattle.format.specs.Lists.{Bytes, joined, over}
@@ -19,7 +19,6 @@ use Rattle.format.specs.Described.{ColumnList, columns}
 use Rattle.format.specs.Row.{row}
 use Rattle.format.specs.Sheet.{Layout, bits, ended, wide, layout, packed, bit, value_at, slot_if, column_bytes, slot_at, sheet_fault, sheet_slots, nulls, turned}
 use Rattle.format.specs.Cleared.{cleared_sheet}
-use Rattle.format.specs.Numbers.{three, numbers_of}
 use Rattle.format.specs.Entries.{measure_check, encode_check}
 use Rattle.basics.proofs.Lists.{each_same, map_each}
 use Rattle.laws.proofs.Accept.{measured, encoded}
@@ -43,15 +42,15 @@ raws_slots n (col ∷ cols) s =
 -- raw columns within the limits of which encode takes the slots of an accepted sheet make an accepted sheet, which is encoded alike. Those of the
 -- sheet itself make the sheet (`sheet-raw`), so that its null slots, and what is before its first ends, may be changed at will,
 -- and a float for one that is folded to the same
-pub null_slots_free : (list : ColumnList) (n : ℕ) (s rows offsets : List ℕ) (cs : List RawColumn) → measure_check list n s ≡ Pass → RawFits n (columns list) cs
+pub null_slots_free : (list : ColumnList) (n : ℕ) (s rows offsets : List ℕ) (cs : List RawColumn) → measure_check list n s ≡ Ok tt → RawFits n (columns list) cs
     → taken_from (columns list) cs ≡ sheet_slots n (columns list) s
-    → (measure_check list n (raw_sheet n (columns list) cs) ≡ Pass) × Alike list n s (raw_sheet n (columns list) cs) rows offsets
+    → (measure_check list n (raw_sheet n (columns list) cs) ≡ Ok tt) × Alike list n s (raw_sheet n (columns list) cs) rows offsets
 null_slots_free list n s rows offsets cs e fits same =
     let cols : List Column = columns list in
     let t : List ℕ = raw_sheet n cols cs in
     let m = measured list n s e in
     let slots : sheet_slots n cols t ≡ sheet_slots n cols s = raw_slots n cols cs fits ∙ same in
-    let accepted : measure_check list n t ≡ Pass
+    let accepted : measure_check list n t ≡ Ok tt
     = measure_pass list n t m.0 (record {
       few = m.1.few;
       passes = raw_passes n cols cs fits;
@@ -94,14 +93,14 @@ resliced_slots (col ∷ cols) (c ∷ cs) (d ∷ ds) r =
     (resliced_slots cols cs ds r.3)
 
 -- so a sheet that differs from an accepted one only in bytes before a first end is accepted, and encoded alike
-pub sliced_alike : (list : ColumnList) (n : ℕ) (s t rows offsets : List ℕ) → Bytes s → measure_check list n s ≡ Pass → DiffersBefore n (columns list) s t
-    → (measure_check list n t ≡ Pass) × Alike list n s t rows offsets
+pub sliced_alike : (list : ColumnList) (n : ℕ) (s t rows offsets : List ℕ) → Bytes s → measure_check list n s ≡ Ok tt → DiffersBefore n (columns list) s t
+    → (measure_check list n t ≡ Ok tt) × Alike list n s t rows offsets
 sliced_alike list n s t rows offsets b e d =
     let cols : List Column = columns list in
     let m = measured list n s e in
     let fits = resliced_fits n cols (raw_columns n cols s) d.others d.resliced (sheet_raw n cols s b m.1.passes).1 in
     let same = resliced_slots cols (raw_columns n cols s) d.others d.resliced ∙ raws_slots n cols s in
-    subst (λ (z : List ℕ). (measure_check list n z ≡ Pass) × Alike list n s z rows offsets) (sym d.is)
+    subst (λ (z : List ℕ). (measure_check list n z ≡ Ok tt) × Alike list n s z rows offsets) (sym d.is)
     (null_slots_free list n s rows offsets d.others e fits same)
 
 -- ---- a cleared sheet, whose floats are folded where their column folds
@@ -125,13 +124,13 @@ clear_raws n (col ∷ cols) s h f =
     (clear_raws n cols (drop (column_bytes ly n s) s) h.1 f.1)
 
 -- a cleared sheet that passes is the cleared sheet of its slots
-pub cleared_kept : (n : ℕ) (cols : List Column) (s : List ℕ) → Bytes s → sheet_fault n cols s ≡ Pass → IsCleared n cols s → IsFolded n cols s
+pub cleared_kept : (n : ℕ) (cols : List Column) (s : List ℕ) → Bytes s → sheet_fault n cols s ≡ Ok tt → IsCleared n cols s → IsFolded n cols s
     → cleared_sheet n cols (sheet_slots n cols s) ≡ s
 cleared_kept n cols s b e h f = cleared_raw_lem n cols (sheet_slots n cols s) ∙ ap (raw_sheet n cols) (clear_raws n cols s h f) ∙ (sheet_raw n cols s b e).0
 
 -- so, encoded and decoded, it comes back byte for byte
 pub byte_for_byte : (list : ColumnList) (n : ℕ) (sheet rows offsets back : List ℕ) (r : Answer) (back' : List ℕ)
-    → CameBack list n sheet rows offsets back r back' → Bytes sheet → encode_check list n sheet (length rows) (length offsets) ≡ Pass → IsCleared n (columns list) sheet
+    → CameBack list n sheet rows offsets back r back' → Bytes sheet → encode_check list n sheet (length rows) (length offsets) ≡ Ok tt → IsCleared n (columns list) sheet
     → IsFolded n (columns list) sheet → length sheet ≤ length back
     → (numbers_of r ≡ three 0 (length sheet) (nulls (sheet_slots n (columns list) sheet))) × (back' ≡ over sheet back)
 byte_for_byte list n sheet rows offsets back r back' h b e clear folded room =

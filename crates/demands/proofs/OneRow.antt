@@ -7,8 +7,8 @@ use Rattle.format.specs.Kinds.{Slot, column_shape}
 use Rattle.format.specs.Lists.{Bytes}
 use Rattle.format.specs.Read.{Parsed, got, field_check, left_after, read_field, row_fault, row_slots, slot_read}
 use Rattle.format.specs.Row.{row}
-use Rattle.format.specs.declared.Check.{Check}
-use Rattle.format.specs.declared.Check.TheVariants.{Pass, Refuse}
+use Rattle.format.specs.Check.{Check}
+use Rattle.std.specs.declared.result.Result.TheVariants.{Ok, Err}
 use Rattle.format.specs.declared.Column.{Column}
 use Rattle.format.specs.declared.Refusal.{Refusal}
 use Rattle.basics.proofs.Checks.{refuse_pass}
@@ -24,7 +24,7 @@ first_read : (col : Column) (cols : List Column) (x : Slot) (xs : List Slot) →
 first_read col cols x xs h = field_read (column_shape col) col.options x (row cols xs) h.0 (bytes_row cols xs h.1)
 
 -- a row has no fault
-pub row_passes : (r n c : ℕ) (cols : List Column) (xs : List Slot) → RowFits cols xs → row_fault r n c cols (row cols xs) ≡ Pass
+pub row_passes : (r n c : ℕ) (cols : List Column) (xs : List Slot) → RowFits cols xs → row_fault r n c cols (row cols xs) ≡ Ok tt
 row_passes r n c [] [] h = refl
 row_passes r n c [] (x ∷ xs) h = absurd h
 row_passes r n c (col ∷ cols) [] h = absurd h
@@ -47,15 +47,15 @@ row_injective cols xs ys hx hy e = sym (row_slots_lem cols xs hx) ∙ ap (row_sl
 -- ---- a row is refused exactly when no slots within the limits have its bytes
 
 -- what is refused is the row of no slots that fit
-pub refused_none : (r n c : ℕ) (cols : List Column) (f : List ℕ) (x : Refusal) → row_fault r n c cols f ≡ Refuse x
+pub refused_none : (r n c : ℕ) (cols : List Column) (f : List ℕ) (x : Refusal) → row_fault r n c cols f ≡ Err x
     → (xs : List Slot) → RowFits cols xs → row cols xs ≡ f → ⊥
 refused_none r n c cols f x h xs fits e = refuse_pass (sym h ∙ ap (row_fault r n c cols) (sym e) ∙ row_passes r n c cols xs fits)
 
 -- and what is the row of none is refused
 pub none_refused : (r n c : ℕ) (cols : List Column) (f : List ℕ) → Bytes f → ((xs : List Slot) → RowFits cols xs → row cols xs ≡ f → ⊥)
-    → (x : Refusal) × (row_fault r n c cols f ≡ Refuse x)
+    → (x : Refusal) × (row_fault r n c cols f ≡ Err x)
 none_refused r n c cols f b never = go (row_fault r n c cols f) refl
   where
-    go : (k : Check) → row_fault r n c cols f ≡ k → (x : Refusal) × (row_fault r n c cols f ≡ Refuse x)
-    go Pass q = let t = passed_row r n c cols f b q in absurd (never (row_slots cols f) t.1 t.0)
-    go (Refuse x) q = (x, q)
+    go : (k : Check) → row_fault r n c cols f ≡ k → (x : Refusal) × (row_fault r n c cols f ≡ Err x)
+    go (Ok tt) q = let t = passed_row r n c cols f b q in absurd (never (row_slots cols f) t.1 t.0)
+    go (Err x) q = (x, q)

@@ -7,8 +7,8 @@ use native.Mathlib.Nat.{pow-le-pow_right}
 use native.Mathlib.Omega.{arith}
 use lib.Dec.{eqb}
 use lib.ListN.{length, get_or, take, drop, length-take}
-use Rattle.format.specs.declared.Check.{Check}
-use Rattle.format.specs.declared.Check.TheVariants.{Pass, Refuse}
+use Rattle.format.specs.Check.{Check}
+use Rattle.std.specs.declared.result.Result.TheVariants.{Ok, Err}
 use Rattle.format.specs.declared.Column.{Column}
 use Rattle.format.specs.Limits.{max_rows, max_slot}
 use Rattle.format.specs.Lists.{Bytes, ends_from, joined, low_bytes}
@@ -83,9 +83,9 @@ cleared_bytes : (n : ℕ) (cols : List Column) (sss : List (List Slot)) → n �
 cleared_bytes n cols sss few h = subst Bytes (sym (cleared_raw_lem n cols sss)) (raw_bytes n cols (cleared_raws cols sss) (raws_fit n cols sss few h))
 
 -- ---- the lent buffers at exit
-written_bytes : (m : Check) (new old : List ℕ) → (m ≡ Pass → Bytes new) → Bytes old → Bytes (written m new old)
-written_bytes Pass new old h b = bytes_append new (drop (length new) old) (h refl) (bytes_drop (length new) old b)
-written_bytes (Refuse r) new old h b = b
+written_bytes : (m : Check) (new old : List ℕ) → (m ≡ Ok tt → Bytes new) → Bytes old → Bytes (written m new old)
+written_bytes (Ok tt) new old h b = bytes_append new (drop (length new) old) (h refl) (bytes_drop (length new) old b)
+written_bytes (Err r) new old h b = b
 
 rows_bytes : (cols : List Column) (yss : List (List Slot)) → Every (RowFits cols) yss → Every Bytes (map (row cols) yss)
 rows_bytes cols [] h = tt
@@ -100,7 +100,7 @@ encode_bytes list n sheet rows offset_room b old =
     cols : List Column
     cols = columns list
 
-    new : encode_check list n sheet (length rows) offset_room ≡ Pass → Bytes (joined (sheet_rows n cols sheet))
+    new : encode_check list n sheet (length rows) offset_room ≡ Ok tt → Bytes (joined (sheet_rows n cols sheet))
     new e =
         let fits = sheet_fits n cols sheet b (encoded list n sheet (length rows) offset_room e).1.passes in
         bytes_joined (sheet_rows n cols sheet) (rows_bytes cols (turned n (sheet_slots n cols sheet)) (rows_fit n cols (sheet_slots n cols sheet) fits))
@@ -110,7 +110,7 @@ unfolding decode_sheet
 decode_bytes list n bytes offsets sheet b old =
     written_bytes (decode_check list n bytes offsets (length sheet)) (decoded_sheet n (columns list) (cut_rows n bytes offsets)) sheet new old
   where
-    new : decode_check list n bytes offsets (length sheet) ≡ Pass → Bytes (decoded_sheet n (columns list) (cut_rows n bytes offsets))
+    new : decode_check list n bytes offsets (length sheet) ≡ Ok tt → Bytes (decoded_sheet n (columns list) (cut_rows n bytes offsets))
     new e =
         cleared_bytes n (columns list) (rows_slots (columns list) (cut_rows n bytes offsets))
         (decoded list n bytes offsets (length sheet) e).1.few

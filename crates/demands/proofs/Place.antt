@@ -5,12 +5,12 @@ use mathlib.Core.Bool.{Bool, true, false, true≢false}
 use mathlib.Core.List.{List, [], ◌∷◌, ◌++◌, append_assoc}
 use native.Mathlib.Omega.{arith}
 use lib.ListN.{length, take, drop, get_or, length-append}
-use Rattle.format.specs.declared.Answer.TheVariants.{Refused}
-use Rattle.format.specs.declared.Check.TheVariants.{Refuse}
+use Rattle.std.specs.declared.result.Result.TheVariants.{Err}
 use Rattle.format.specs.declared.Column.{Column}
 use Rattle.format.specs.declared.Refusal.{Refusal}
 use Rattle.format.specs.declared.Refusal.TheVariants.{Row}
 use Rattle.format.specs.declared.RowFault.{RowFault}
+use Rattle.format.specs.Check.{Check}
 use Rattle.format.specs.declared.RowFault.TheVariants.{Cut, Lead, NullRest, BoolByte, EndByte, Padding, Extra, TooLong, Unfolded}
 use Rattle.format.specs.declared.SortOptions.{SortOptions}
 use Rattle.format.specs.Kinds.{Fixed, bool, plain, number, integer, float, parts, Shape, fixed, variable, Slot, width, column_shape}
@@ -49,7 +49,7 @@ record Placed (r n c : ℕ) (cols : List Column) (s : List ℕ) (x : Refusal) : 
   names : x ≡ Row kind r column place
   at : BadAt cols s kind later here
 
-same_refusal : {x y : Refusal} → Refuse x ≡ Refuse y → y ≡ x
+same_refusal : {x y : Refusal} → ◌≡◌ {A = Check} (Err x) (Err y) → y ≡ x
 same_refusal e = cc
 
 -- past a field
@@ -69,7 +69,7 @@ bad_past col cols x s g f c here e t = record {
     head : List ℕ
     head = field (column_shape col) col.options x
 
-placed : (r n c : ℕ) (cols : List Column) (s : List ℕ) (x : Refusal) → Bytes s → length s ≤ n → row_fault r n c cols s ≡ Refuse x → Placed r n c cols s x
+placed : (r n c : ℕ) (cols : List Column) (s : List ℕ) (x : Refusal) → Bytes s → length s ≤ n → row_fault r n c cols s ≡ Err x → Placed r n c cols s x
 placed r n c [] [] x b l e = absurd (refuse_pass (sym e))
 placed r n c [] (y ∷ s) x b l e = record {
   kind = Extra;
@@ -84,8 +84,8 @@ placed r n c [] (y ∷ s) x b l e = record {
 }
 placed r n c (col ∷ cols) s x b l e = go (read_field (column_shape col) col.options s) refl e (placed r n (suc c) cols)
   where
-    go : (p : Parsed Slot) → read_field (column_shape col) col.options s ≡ p → field_check r n c p (row_fault r n (suc c) cols) ≡ Refuse x
-        → ((g : List ℕ) (y : Refusal) → Bytes g → length g ≤ n → row_fault r n (suc c) cols g ≡ Refuse y → Placed r n (suc c) cols g y)
+    go : (p : Parsed Slot) → read_field (column_shape col) col.options s ≡ p → field_check r n c p (row_fault r n (suc c) cols) ≡ Err x
+        → ((g : List ℕ) (y : Refusal) → Bytes g → length g ≤ n → row_fault r n (suc c) cols g ≡ Err y → Placed r n (suc c) cols g y)
         → Placed r n c (col ∷ cols) s x
     go (got v g) q e ih =
         let head : List ℕ = field (column_shape col) col.options v in
@@ -127,7 +127,7 @@ placed r n c (col ∷ cols) s x b l e = go (read_field (column_shape col) col.op
 
 -- a whole row: its refusal names the bad byte
 pub row_place : (r : ℕ) (cols : List Column) (s : List ℕ) (f : RowFault) (k c place : ℕ) → Bytes s
-    → row_fault r (length s) 0 cols s ≡ Refuse (Row f k c place) → BadAt cols s f c place
+    → row_fault r (length s) 0 cols s ≡ Err (Row f k c place) → BadAt cols s f c place
 row_place r cols s f k c place b e =
     let t = placed r (length s) 0 cols s (Row f k c place) b (omega arith) e in
     let w = same t.names in
@@ -200,7 +200,7 @@ byte_place cols s f c place other t = omega (arith, length_rest t, go (drop c co
 
 -- ---- decode
 module _ (list : ColumnList) (n : ℕ) (bytes offsets : List ℕ) (room : ℕ) (b : Bytes bytes) (f : RowFault) (r c place : ℕ)
-    (e : decode_answer list n bytes offsets room ≡ Refused (Row f r c place)) where
+    (e : decode_answer list n bytes offsets room ≡ Err (Row f r c place)) where
   -- a refusal by content names the bad byte of its row
   pub decode_place : BadAt (columns list) (row_bytes bytes offsets r) f c place
   decode_place =

@@ -9,7 +9,7 @@ use native.Mathlib.Omega.{arith}
 use lib.Dec.{eqb, ltb→lt}
 use lib.ListN.{length, get_or, take, drop, length-append, length-map, get_or-map}
 use lib.Seq.{drop_at}
-use Rattle.format.specs.declared.Check.TheVariants.{Pass}
+use Rattle.std.specs.declared.result.Result.TheVariants.{Ok}
 use Rattle.format.specs.declared.SortOptions.{SortOptions}
 use Rattle.format.specs.declared.Column.{Column}
 use Rattle.format.specs.Limits.{max_slot}
@@ -38,7 +38,7 @@ raw_fits sh (r ∷ rs) h = (h.0, raw_fits sh rs h.1)
 
 -- values before t: nothing is refused, they take their bytes, and each is read back
 record Reads (ly : Layout) (n c : ℕ) (a : List ℕ) (xs : List (List ℕ)) (t : List ℕ) : Type 0 where
-  pub passes : values_fault ly n c (standing ly n a xs ++ t) ≡ Pass
+  pub passes : values_fault ly n c (standing ly n a xs ++ t) ≡ Ok tt
   pub bytes : values_bytes ly n (standing ly n a xs ++ t) ≡ length (standing ly n a xs)
   pub back : (i : ℕ) → i < n → value_at ly n (standing ly n a xs ++ t) i ≡ get_or xs i []
 
@@ -85,7 +85,7 @@ pub data_short : (xs : List (List ℕ)) → Every (Fits max_slot variable false)
 data_short [] h = omega arith
 data_short (x ∷ xs) h = omega (arith, length-append x (joined xs), data_short xs h.1, h.0.1)
 
-ends_pass : (c : ℕ) (s : List ℕ) (i k : ℕ) → ((j : ℕ) → i ≤ j → j < i + k → Step s j) → ends_fault c s i k ≡ Pass
+ends_pass : (c : ℕ) (s : List ℕ) (i k : ℕ) → ((j : ℕ) → i ≤ j → j < i + k → Step s j) → ends_fault c s i k ≡ Ok tt
 ends_pass c s i zero h = refl
 ends_pass c s i (suc k) h =
     let now = h i (omega arith) (omega arith) in
@@ -179,7 +179,7 @@ all_valid sh o (r ∷ rs) h q zero l = valid_asked sh o r.valid r.bytes h.0 q
 all_valid sh o (r ∷ rs) h q (suc i) l = all_valid sh o rs h.1 q i (omega arith)
 
 -- and so it is not refused
-none_missing : (q : Bool) (n c : ℕ) (s : List ℕ) → (q ≡ true → Set s 0 n) → required_fault q n c s ≡ Pass
+none_missing : (q : Bool) (n c : ℕ) (s : List ℕ) → (q ≡ true → Set s 0 n) → required_fault q n c s ≡ Ok tt
 none_missing true n c s h = pass_enough (first_clear s 0 n) n _ _ (omega (arith, clear_none s n (h refl))) refl
 none_missing false n c s h = refl
 
@@ -224,7 +224,7 @@ module _ (col : Column) (n c : ℕ) (raw : RawColumn) (t : List ℕ) (h : Column
   all_set : col.options.required ≡ true → Set (p ++ q) 0 n
   all_set asked i l m = bit_before (packed n) flags q i (omega arith) ∙ all_valid (column_shape col) col.options rs h.fit asked i (omega (arith, e))
 
-  column_passes : column_fault col.options.required ly n c (raw_column ly n raw ++ t) ≡ Pass
+  column_passes : column_fault col.options.required ly n c (raw_column ly n raw ++ t) ≡ Ok tt
   column_passes =
       rw split
       (pass_both (bits_fault n c (p ++ q)) _ (bits_pass n c flags q (length-map rs _ ∙ e))
@@ -246,7 +246,7 @@ module _ (col : Column) (n c : ℕ) (raw : RawColumn) (t : List ℕ) (h : Column
   column_slots_lem = rw split (each_is (map slot_of rs) (slot_if false []) n (slot_at ly n (p ++ q)) (length-map rs slot_of ∙ e) slot_is)
 
 -- ---- the sheet
-passes_from : (n c at : ℕ) (cols : List Column) (cs : List RawColumn) → RawFits n cols cs → sheet_fault_from n c at cols (raw_sheet n cols cs) ≡ Pass
+passes_from : (n c at : ℕ) (cols : List Column) (cs : List RawColumn) → RawFits n cols cs → sheet_fault_from n c at cols (raw_sheet n cols cs) ≡ Ok tt
 passes_from n c at [] [] h = refl
 passes_from n c at [] (x ∷ cs) h = absurd h
 passes_from n c at (col ∷ cols) [] h = absurd h
@@ -256,7 +256,7 @@ passes_from n c at (col ∷ cols) (x ∷ cs) h =
     pass_both (column_fault col.options.required (layout col) n c (raw_column (layout col) n x ++ t)) _ (column_passes col n c x t h.0)
     (ap (sheet_fault_from n (suc c) (at + k) cols) (column_past col n c x t h.0) ∙ passes_from n (suc c) (at + k) cols cs h.1)
 
-pub raw_passes : (n : ℕ) (cols : List Column) (cs : List RawColumn) → RawFits n cols cs → sheet_fault n cols (raw_sheet n cols cs) ≡ Pass
+pub raw_passes : (n : ℕ) (cols : List Column) (cs : List RawColumn) → RawFits n cols cs → sheet_fault n cols (raw_sheet n cols cs) ≡ Ok tt
 unfolding sheet_fault
 raw_passes n cols cs h = passes_from n 0 0 cols cs h
 

@@ -11,7 +11,7 @@ use lib.Dec.{eqb, lit<}
 use lib.ListN.{length, get_or, take, drop, length-append, length-take, length-drop, take-append-drop, get_or-eq_default}
 use lib.Pow.{shr-shr}
 use lib.Seq.{length-take-le, take-add, take_all, drop-drop, ext_get_or}
-use Rattle.format.specs.declared.Check.TheVariants.{Pass}
+use Rattle.std.specs.declared.result.Result.TheVariants.{Ok}
 use Rattle.format.specs.declared.Column.{Column}
 use Rattle.format.specs.Limits.{max_slot}
 use Rattle.format.specs.Lists.{Bytes, each, ends_from, joined, low, low_bytes}
@@ -86,7 +86,7 @@ all_clear bs i (suc k) e j a b =
     go now later (inr l) = ap (bit bs) (let z : j ≡ i = omega arith in z) ∙ now
 
 -- packed bits that pass are those of their rows
-flags_back : (n c : ℕ) (s : List ℕ) → Bytes s → bits_fault n c s ≡ Pass → pack (packed n) (each 0 n (bit s)) ≡ take (packed n) s
+flags_back : (n c : ℕ) (s : List ℕ) → Bytes s → bits_fault n c s ≡ Ok tt → pack (packed n) (each 0 n (bit s)) ≡ take (packed n) s
 flags_back n c s b e =
     same_bits (packed n) (pack (packed n) flags) v (length_pack (packed n) flags) long (bytes_pack (packed n) flags) (bytes_take (packed n) s b)
     (λ i l. bit_pack (packed n) flags i l ∙ at i l (choose i n) ∙ sym (bit_take (packed n) s i l))
@@ -125,7 +125,7 @@ parts_back w n s = parts_from w 0 n s ∙ ap (λ (m : ℕ). take (n * w) (drop m
 
 -- ---- variable bytes
 
-module _ (n c : ℕ) (s : List ℕ) (b : Bytes s) (e : variable_fault n c s ≡ Pass) where
+module _ (n c : ℕ) (s : List ℕ) (b : Bytes s) (e : variable_fault n c s ≡ Ok tt) where
   abbrev between : List ℕ
   between = drop (4 * suc n) s
 
@@ -213,7 +213,7 @@ module _ (n c : ℕ) (s : List ℕ) (b : Bytes s) (e : variable_fault n c s ≡ 
   ended_back = ap₂ (λ (x y : List ℕ). x ++ y) ends_back past_back ∙ sym (take-add (4 * suc n) (end s n) s)
 
 -- ---- a column
-values_back : (ly : Layout) (n c : ℕ) (s : List ℕ) → Bytes s → values_fault ly n c s ≡ Pass
+values_back : (ly : Layout) (n c : ℕ) (s : List ℕ) → Bytes s → values_fault ly n c s ≡ Ok tt
     → standing ly n (before_first ly n s) (each 0 n (value_at ly n s)) ≡ take (values_bytes ly n s) s
 values_back bits n c s b e =
     ap (pack (packed n))
@@ -222,7 +222,7 @@ values_back bits n c s b e =
 values_back (wide w) n c s b e = parts_back w n s
 values_back ended n c s b e = ended_back n c s b e
 
-column_back : (q : Bool) (ly : Layout) (n c : ℕ) (s : List ℕ) → Bytes s → column_fault q ly n c s ≡ Pass
+column_back : (q : Bool) (ly : Layout) (n c : ℕ) (s : List ℕ) → Bytes s → column_fault q ly n c s ≡ Ok tt
     → raw_column ly n (column_of ly n s) ≡ take (column_bytes ly n s) s
 column_back q ly n c s b e =
     let p = column_passed q ly n c s e in
@@ -242,13 +242,13 @@ before_bytes bits n s b = tt
 before_bytes (wide w) n s b = tt
 before_bytes ended n s b = bytes_take (end s 0) (drop (4 * suc n) s) (bytes_drop (4 * suc n) s b)
 
-end_fits : (ly : Layout) (n c : ℕ) (s : List ℕ) → Bytes s → values_fault ly n c s ≡ Pass → EndFits ly (before_first ly n s) (each 0 n (value_at ly n s))
+end_fits : (ly : Layout) (n c : ℕ) (s : List ℕ) → Bytes s → values_fault ly n c s ≡ Ok tt → EndFits ly (before_first ly n s) (each 0 n (value_at ly n s))
 end_fits bits n c s b e = tt
 end_fits (wide w) n c s b e = tt
 end_fits ended n c s b e = past_small n c s b e
 
 -- ---- the sheet
-back_from : (n c at : ℕ) (cols : List Column) (s : List ℕ) → Bytes s → sheet_fault_from n c at cols s ≡ Pass
+back_from : (n c at : ℕ) (cols : List Column) (s : List ℕ) → Bytes s → sheet_fault_from n c at cols s ≡ Ok tt
     → (raw_sheet n cols (raw_columns n cols s) ≡ s) × RawFits n cols (raw_columns n cols s)
 back_from n c at [] s b e = (empty s (enough 0 (length s) _ _ e).0, tt)
   where
@@ -266,7 +266,7 @@ back_from n c at (col ∷ cols) s b e =
     v : List ℕ
     v = drop (packed n) s
 
-    whole : column_fault col.options.required (layout col) n c s ≡ Pass → ColumnFits n col (column_of (layout col) n s)
+    whole : column_fault col.options.required (layout col) n c s ≡ Ok tt → ColumnFits n col (column_of (layout col) n s)
     whole q =
         let passed = (column_passed col.options.required (layout col) n c s q).1 in
         let vb = bytes_drop (packed n) s b in
@@ -281,7 +281,7 @@ back_from n c at (col ∷ cols) s b e =
         }
 
 -- a sheet that passes is that of its raw columns
-pub sheet_raw : (n : ℕ) (cols : List Column) (s : List ℕ) → Bytes s → sheet_fault n cols s ≡ Pass
+pub sheet_raw : (n : ℕ) (cols : List Column) (s : List ℕ) → Bytes s → sheet_fault n cols s ≡ Ok tt
     → (raw_sheet n cols (raw_columns n cols s) ≡ s) × RawFits n cols (raw_columns n cols s)
 unfolding sheet_fault
 sheet_raw n cols s b e = back_from n 0 0 cols s b e

@@ -5,7 +5,7 @@ use mathlib.Core.List.{List, [], ◌∷◌, ◌++◌, map}
 use native.Mathlib.Omega.{arith}
 use lib.ListN.{length, get_or, take, length-map}
 use lib.Seq.{length-take-le}
-use Rattle.format.specs.declared.Check.TheVariants.{Pass}
+use Rattle.std.specs.declared.result.Result.TheVariants.{Ok}
 use Rattle.format.specs.declared.Column.{Column}
 use Rattle.format.specs.Limits.{max_total}
 use Rattle.format.specs.Lists.{Bytes, ends_from, joined}
@@ -30,7 +30,7 @@ use Rattle.demands.proofs.Accept.{AcceptedRows}
 use Rattle.demands.proofs.OneRow.{row_passes, row_slots_lem}
 
 -- ---- rows of slots that fit are read back
-rows_pass : (r : ℕ) (cols : List Column) (yss : List (List Slot)) → Every (RowFits cols) yss → rows_fault r cols (map (row cols) yss) ≡ Pass
+rows_pass : (r : ℕ) (cols : List Column) (yss : List (List Slot)) → Every (RowFits cols) yss → rows_fault r cols (map (row cols) yss) ≡ Ok tt
 rows_pass r cols [] h = refl
 rows_pass r cols (ys ∷ yss) h =
     let n : ℕ = length (row cols ys) in

@@ -10,10 +10,9 @@ use native.Mathlib.Omega.{arith}
 use lib.Dec.{leb}
 use lib.IntN.{ℤ, pos, negsuc}
 use borrow.Author.Tests.{leb-false}
-use Rattle.format.specs.declared.Check.TheVariants.{Pass}
+use Rattle.std.specs.declared.result.Result.TheVariants.{Ok}
 use Rattle.format.specs.declared.Refusal.TheVariants.{SheetRow}
 use Rattle.format.specs.declared.Column.{Column}
-use Rattle.format.specs.declared.Answer.TheVariants.{Done}
 use Rattle.format.specs.Lists.{Bytes, each}
 use Rattle.format.specs.Described.{ColumnList, list_fault, columns}
 use Rattle.format.specs.Row.{row}
@@ -46,12 +45,12 @@ bytes_rank cols n₀ sheet₀ r₀ n₁ sheet₁ r₁ = sign_rank (compare_answe
 
 -- ---- two sheets that pass under a list, and rows that they have
 module _ (list : ColumnList) (n₀ : ℕ) (sheet₀ : List ℕ) (n₁ : ℕ) (sheet₁ : List ℕ) (b₀ : Bytes sheet₀) (b₁ : Bytes sheet₁)
-    (p : sheets_fault list n₀ sheet₀ n₁ sheet₁ ≡ Pass) where
-  counted : (counted_fault n₀ (columns list) sheet₀ ≡ Pass) × (counted_fault n₁ (columns list) sheet₁ ≡ Pass)
+    (p : sheets_fault list n₀ sheet₀ n₁ sheet₁ ≡ Ok tt) where
+  counted : (counted_fault n₀ (columns list) sheet₀ ≡ Ok tt) × (counted_fault n₁ (columns list) sheet₁ ≡ Ok tt)
   unfolding sheets_fault
   counted = both_pass (counted_fault n₀ (columns list) sheet₀) (counted_fault n₁ (columns list) sheet₁) (both_pass (list_fault list) _ p).1
 
-  fits : (n : ℕ) (sheet : List ℕ) (r : ℕ) → Bytes sheet → counted_fault n (columns list) sheet ≡ Pass → r < n → RowFits (columns list) (row_values (columns list) n sheet r)
+  fits : (n : ℕ) (sheet : List ℕ) (r : ℕ) → Bytes sheet → counted_fault n (columns list) sheet ≡ Ok tt → r < n → RowFits (columns list) (row_values (columns list) n sheet r)
   fits n sheet r b q l =
       row_fits n (columns list) (sheet_slots n (columns list) sheet) r l
       (sheet_fits n (columns list) sheet b (both_pass (row_count_fault n) (sheet_fault n (columns list) sheet) q).1)
@@ -66,19 +65,19 @@ module _ (list : ColumnList) (n₀ : ℕ) (sheet₀ : List ℕ) (n₁ : ℕ) (sh
 
 -- ---- one row of each
 pub compare_is_bytes : (list : ColumnList) (n₀ : ℕ) (sheet₀ : List ℕ) (r₀ n₁ : ℕ) (sheet₁ : List ℕ) (r₁ a b : ℕ) → Bytes sheet₀ → Bytes sheet₁
-    → compare_sheets_answer list n₀ sheet₀ r₀ n₁ sheet₁ r₁ ≡ Done a b → (a ≡ bytes_rank (columns list) n₀ sheet₀ r₀ n₁ sheet₁ r₁) × (b ≡ 0)
+    → compare_sheets_answer list n₀ sheet₀ r₀ n₁ sheet₁ r₁ ≡ Ok (a, b) → (a ≡ bytes_rank (columns list) n₀ sheet₀ r₀ n₁ sheet₁ r₁) × (b ≡ 0)
 unfolding compare_sheets_answer compare_sheets_check
 compare_is_bytes list n₀ sheet₀ r₀ n₁ sheet₁ r₁ a b b₀ b₁ e =
     let d = answer_done (compare_sheets_check list n₀ sheet₀ r₀ n₁ sheet₁ r₁) _ 0 a b e in
     let p = both_pass (sheets_fault list n₀ sheet₀ n₁ sheet₁) (pair_fault n₀ r₀ n₁ r₁) d.0 in
     let w = both_pass (sheet_row_fault 0 r₀ n₀) (sheet_row_fault 1 r₁ n₁) p.1 in
-    let l₀ : r₀ < n₀ = leb-false n₀ r₀ (fail_if_pass (leb n₀ r₀) (SheetRow 0 r₀) Pass w.0).0 in
-    let l₁ : r₁ < n₁ = leb-false n₁ r₁ (fail_if_pass (leb n₁ r₁) (SheetRow 1 r₁) Pass w.1).0 in
+    let l₀ : r₀ < n₀ = leb-false n₀ r₀ (fail_if_pass (leb n₀ r₀) (SheetRow 0 r₀) (Ok tt) w.0).0 in
+    let l₁ : r₁ < n₁ = leb-false n₁ r₁ (fail_if_pass (leb n₁ r₁) (SheetRow 1 r₁) (Ok tt) w.1).0 in
     (sym d.1 ∙ rows_are_bytes list n₀ sheet₀ n₁ sheet₁ b₀ b₁ p.0 r₀ r₁ l₀ l₁, sym d.2)
 
 -- ---- every pair
 pub pairs_are_bytes : (list : ColumnList) (n₀ : ℕ) (sheet₀ : List ℕ) (n₁ : ℕ) (sheet₁ rows : List ℕ) (room a b : ℕ) → Bytes sheet₀ → Bytes sheet₁
-    → compare_pairs_answer list n₀ sheet₀ n₁ sheet₁ rows room ≡ Done a b
+    → compare_pairs_answer list n₀ sheet₀ n₁ sheet₁ rows room ≡ Ok (a, b)
     → pair_ranks (columns list) n₀ sheet₀ n₁ sheet₁ rows
     ≡ each 0 (pair_count rows) (λ k. bytes_rank (columns list) n₀ sheet₀ (first_row rows k) n₁ sheet₁ (second_row rows k))
 unfolding compare_pairs_answer compare_pairs_check

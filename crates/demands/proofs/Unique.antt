@@ -5,7 +5,7 @@ use mathlib.Core.Path.{◌≡◌}
 use mathlib.Core.List.{List}
 use lib.IntN.{ℤ}
 use Rattle.format.specs.declared.Column.{Column}
-use Rattle.format.specs.declared.Answer.{Answer}
+use Rattle.format.specs.Numbers.{Answer}
 use Rattle.format.specs.Described.{ColumnList}
 use Rattle.format.specs.Promises.{Joined, LookedUp, LentJoined, LentLookedUp, SheetsCompared, PairsCompared, LentSheetsCompared, LentPairsCompared}
 use Rattle.format.specs.Promises.{ListChecked, ListRead, Measured, Encoded, Decoded, Compared, LentListChecked, LentListRead, LentMeasured, LentEncoded, LentDecoded}

@@ -1,15 +1,12 @@
 -- The order: what comparing two encoded rows answers, and that neither begins the other unless their values are equal.
-use Rattle.std.specs.Prelude.{ℕ, ◌<◌, ◌≡◌, Bool, cond, ◌&&◌, List, ltb, ℤ, length}
-use Rattle.format.specs.declared.Check.{Check}
-use Rattle.format.specs.declared.Check.TheVariants.{Pass, Refuse}
-use Rattle.format.specs.Check.{both}
+use Rattle.std.specs.Prelude.{ℕ, ◌<◌, ◌≡◌, Bool, cond, ◌&&◌, List, ltb, ℤ, length, Ok, Err, Result, Option, Some, None}
+use Rattle.format.specs.declared.Refusal.{Refusal}
+use Rattle.format.specs.Check.{Check, both}
 use Rattle.format.specs.Kinds.{Slot}
 use Rattle.format.specs.Described.{ColumnList, columns}
 use Rattle.format.specs.Order.{Begins}
 use Rattle.format.specs.Value.{row_order}
 use Rattle.format.specs.Entries.{row_values, encode_check, row_bytes, sign}
-use Rattle.demands.specs.declared.order.Ordered.{Ordered}
-use Rattle.demands.specs.declared.order.Ordered.TheVariants.{Refused, NoRow, Is}
 
 -- a sheet of n rows with the row buffer and the offsets lent for it, and these two at exit
 pub record Batch : Type 0 where
@@ -34,10 +31,14 @@ row_in b r = row_bytes b.rows' b.offsets' r
 abbrev pub values_in : ColumnList → Batch → ℕ → List Slot
 values_in list b r = row_values (columns list) b.n b.sheet r
 
+-- what comparing a row of one sheet with a row of another answers: encode's refusal of one of them, no such row, or the order
+abbrev pub Ordered : Type 0
+Ordered = Result (Option ℤ) Refusal
+
 -- a refusal; a row past its sheet; and else the order
 abbrev pub ordered : Check → Bool → ℤ → Ordered
-ordered (Refuse x) there order = Refused x
-ordered Pass there order = cond there (Is order) NoRow
+ordered (Err x) there order = Err x
+ordered (Ok tt) there order = Ok (cond there (Some order) None)
 
 -- −1, 0 or 1, as the values of row r of one batch and of row q of another stand
 abbrev pub order_in : ColumnList → Batch → Batch → ℕ → ℕ → ℤ
@@ -45,7 +46,7 @@ order_in list b d r q = sign (row_order (columns list) (values_in list b r) (val
 
 -- both sheets are encoded, and both rows are there
 pub record There (list : ColumnList) (b d : Batch) (r q : ℕ) : Type 0 where
-  pub passes : both (batch_fault list b) (batch_fault list d) ≡ Pass
+  pub passes : both (batch_fault list b) (batch_fault list d) ≡ Ok tt
   pub row : r < b.n
   pub other : q < d.n
 

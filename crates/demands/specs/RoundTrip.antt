@@ -1,14 +1,11 @@
 -- The round trip: what encode and then decode give back, what decode and then encode do, and which sheets are encoded alike.
-use Rattle.std.specs.Prelude.{ℕ, suc, ◌≡◌, List, ltb, length, get_or, take}
-use Rattle.format.specs.declared.Answer.{Answer}
-use Rattle.format.specs.declared.Check.{Check}
-use Rattle.format.specs.declared.Check.TheVariants.{Pass}
+use Rattle.std.specs.Prelude.{ℕ, suc, ◌≡◌, List, ltb, length, get_or, take, Ok}
+use Rattle.format.specs.Numbers.{Answer, numbers_of}
+use Rattle.format.specs.Check.{Check, both, fail_if}
 use Rattle.format.specs.declared.Refusal.TheVariants.{RowRoom, SheetRoom}
-use Rattle.format.specs.Check.{both, fail_if}
 use Rattle.format.specs.Described.{ColumnList, columns}
 use Rattle.format.specs.Sheet.{sheet_slots, nulls}
 use Rattle.format.specs.Cleared.{cleared_sheet}
-use Rattle.format.specs.Numbers.{numbers_of}
 use Rattle.format.specs.Entries.{answer, written, encode_check, encode_answer, encode_rows, encode_offsets, offset_room_fault, cut_rows, rows_slots, decode_check}
 
 -- ---- encode, then decode
@@ -21,7 +18,7 @@ cleared_of list n sheet = cleared_sheet n (columns list) (sheet_slots n (columns
 abbrev pub back_check : ColumnList → ℕ → List ℕ → ℕ → ℕ → ℕ → Check
 back_check list n sheet row_room offset_room room =
     both (encode_check list n sheet row_room offset_room)
-    (fail_if (ltb room (length (cleared_of list n sheet))) (SheetRoom (length (cleared_of list n sheet))) Pass)
+    (fail_if (ltb room (length (cleared_of list n sheet))) (SheetRoom (length (cleared_of list n sheet))) (Ok tt))
 
 -- success: the bytes of the cleared sheet, and the null total of the sheet
 abbrev pub back_answer : ColumnList → ℕ → List ℕ → ℕ → ℕ → ℕ → Answer
@@ -32,7 +29,7 @@ back_answer list n sheet row_room offset_room room =
 pub record CameBack (list : ColumnList) (n : ℕ) (sheet rows offsets back : List ℕ) (r : Answer) (back' : List ℕ) : Type 0 where
   pub answers : numbers_of r ≡ numbers_of (back_answer list n sheet (length rows) (length offsets) (length back))
   pub writes : back' ≡ written (back_check list n sheet (length rows) (length offsets) (length back)) (cleared_of list n sheet) back
-  pub same_slots : encode_check list n sheet (length rows) (length offsets) ≡ Pass
+  pub same_slots : encode_check list n sheet (length rows) (length offsets) ≡ Ok tt
       → sheet_slots n (columns list) (cleared_of list n sheet) ≡ sheet_slots n (columns list) sheet
 
 -- ---- decode, then encode

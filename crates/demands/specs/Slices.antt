@@ -1,6 +1,5 @@
 -- Sheets from slices: what is before a first end means nothing to encode.
-use Rattle.std.specs.Prelude.{ℕ, ◌≡◌, List}
-use Rattle.format.specs.declared.Check.TheVariants.{Pass}
+use Rattle.std.specs.Prelude.{ℕ, ◌≡◌, List, Ok}
 use Rattle.format.specs.Described.{ColumnList, columns}
 use Rattle.format.specs.Numbers.{numbers_of}
 use Rattle.format.specs.Entries.{measure_check}
@@ -17,4 +16,4 @@ pub record SameOut (b : Both) (rows' offsets' others' ends' : List ℕ) : Type 0
 -- that hold the same
 abbrev pub EncodedAlike : ColumnList → ℕ → List ℕ → List ℕ → List ℕ → List ℕ → List ℕ → List ℕ → Both → List ℕ → List ℕ → List ℕ → List ℕ → Type 0
 EncodedAlike list n sheet rows offsets other others ends b rows' offsets' others' ends' =
-    measure_check list n sheet ≡ Pass → DiffersBefore n (columns list) sheet other → rows ≡ others → offsets ≡ ends → SameOut b rows' offsets' others' ends'
+    measure_check list n sheet ≡ Ok tt → DiffersBefore n (columns list) sheet other → rows ≡ others → offsets ≡ ends → SameOut b rows' offsets' others' ends'

@@ -2,5 +2,4 @@
 // crates `round_trip` and `two_sheets`; here are the types of what they answer.
 #![tactic(auto)]
 
-pub mod order;
 pub mod slices;

@@ -6,7 +6,7 @@ ghost use Rattle.std.specs.Prelude.{◌≡◌, cond, ◌≤◌};
 ghost use Rattle.format.specs.Columns.{kind_of, options_of, most_options, most_width, numbers_fault};
 ghost use Rattle.format.specs.Described.{kind_number, options_number, held_width};
 
-use format::{Check, Kind, Refusal, SortOptions};
+use format::{Kind, Refusal, SortOptions};
 
 // The kind that a kind byte from 1 to 18 says; fixed binary takes its width along.
 pub fn kind_of(b: u8, width: u16) -> Kind
@@ -71,25 +71,31 @@ fn most_width(kind: u8) -> usize
 
 // The first fault of a description at a place, whose body is cut or not: 2, 1, 3, 4 in this order. Lists, codes and columns are all
 // judged here.
-pub fn check_numbers(place: usize, kind: u8, cut: bool, options: u8, width: usize) -> Check
+pub fn check_numbers(
+    place: usize,
+    kind: u8,
+    cut: bool,
+    options: u8,
+    width: usize,
+) -> Result<(), Refusal>
     ensures { result ≡ numbers_fault place kind cut options width }
 {
     if kind < 1 {
-        return Check::Refuse(Refusal::UnknownKind(place));
+        return Err(Refusal::UnknownKind(place));
     }
     if format::LAST_KIND < kind {
-        return Check::Refuse(Refusal::UnknownKind(place));
+        return Err(Refusal::UnknownKind(place));
     }
     if cut {
-        return Check::Refuse(Refusal::ListCut(place));
+        return Err(Refusal::ListCut(place));
     }
     if most_options(kind) < options {
-        return Check::Refuse(Refusal::OptionBits(place));
+        return Err(Refusal::OptionBits(place));
     }
     if most_width(kind) < width {
-        return Check::Refuse(Refusal::Width(place));
+        return Err(Refusal::Width(place));
     }
-    Check::Pass
+    Ok(())
 }
 
 // The kind byte of a kind.

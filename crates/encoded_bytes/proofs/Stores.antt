@@ -5,10 +5,9 @@ use mathlib.Core.List.{List, append-nil}
 use native.Mathlib.Omega.{arith}
 use lib.ListN.{length, drop_of_length-le}
 use Rattle.format.specs.declared.Refusal.{Refusal}
-use Rattle.format.specs.declared.Check.{Check}
-use Rattle.format.specs.declared.Check.TheVariants.{Pass, Refuse}
-use Rattle.format.specs.declared.Answer.{Answer}
-use Rattle.format.specs.declared.Answer.TheVariants.{Done, Refused}
+use Rattle.format.specs.Check.{Check}
+use Rattle.std.specs.declared.result.Result.TheVariants.{Ok, Err}
+use Rattle.format.specs.Numbers.{Answer}
 use Rattle.format.specs.Lists.{ends_from, over}
 use Rattle.format.specs.Described.{ColumnList, columns}
 use Rattle.format.specs.Sheet.{sheet_slots}
@@ -21,9 +20,9 @@ use Rattle.laws.proofs.Accept.{encode_done, encode_offsets_lem}
 use Rattle.laws.proofs.Turned.{rows_many}
 use Rattle.encoded_bytes.specs.Stored.{EncodedBytes}
 
-pub answer_refused : (m : Check) (a b : ℕ) (x : Refusal) → answer m a b ≡ Refused x → m ≡ Refuse x
-answer_refused Pass a b x e = absurd (let z : ◌≡◌ {A = ℕ} 0 1 = cc in omega arith)
-answer_refused (Refuse y) a b x e = cc
+pub answer_refused : (m : Check) (a b : ℕ) (x : Refusal) → answer m a b ≡ Err x → m ≡ Err x
+answer_refused (Ok tt) a b x e = absurd (let z : ◌≡◌ {A = ℕ} 0 1 = cc in omega arith)
+answer_refused (Err y) a b x e = cc
 
 module _ (list : ColumnList) (n : ℕ) (sheet rows offsets numbers : List ℕ) (r : Answer) (rows' numbers' : List ℕ)
     (h : Encoded list n sheet rows numbers r rows' numbers') where
@@ -31,14 +30,14 @@ module _ (list : ColumnList) (n : ℕ) (sheet rows offsets numbers : List ℕ) (
   ends = ends_from 0 (sheet_rows n (columns list) sheet)
 
   -- a refusal stores nothing
-  pub none_stored : (x : Refusal) → r ≡ Refused x → EncodedBytes list n sheet rows offsets (length numbers) r rows' offsets
+  pub none_stored : (x : Refusal) → r ≡ Err x → EncodedBytes list n sheet rows offsets (length numbers) r rows' offsets
   unfolding encode_answer
   none_stored x e =
       let refuses = answer_refused (encode_check list n sheet (length rows) (length numbers)) _ _ x (sym (numbers_injective _ _ h.answers) ∙ e) in
       record { answers = h.answers; row_bytes = h.row_bytes; row_ends = rw refuses }
 
   -- a success stores the ends: there is room for no more numbers
-  pub ends_stored : (x y : ℕ) → r ≡ Done x y → length numbers ≤ suc n → (offsets' : List ℕ) → offsets' ≡ over (eight_bytes numbers') offsets
+  pub ends_stored : (x y : ℕ) → r ≡ Ok (x, y) → length numbers ≤ suc n → (offsets' : List ℕ) → offsets' ≡ over (eight_bytes numbers') offsets
       → EncodedBytes list n sheet rows offsets (length numbers) r rows' offsets'
   ends_stored x y e most offsets' w =
       let passes = (encode_done list n sheet (length rows) (length numbers) x y (sym (numbers_injective _ _ h.answers) ∙ e)).0 in

@@ -1,9 +1,8 @@
 -- Encode on lent bytes, of which a call uses the first few only.
 use Rattle.std.specs.Prelude.{ℕ, suc, ◌*◌, ◌≤◌, ◌≡◌, List, length}
-use Rattle.format.specs.declared.Answer.{Answer}
+use Rattle.format.specs.Numbers.{Answer, numbers_of}
 use Rattle.format.specs.Lists.{ends_from}
 use Rattle.format.specs.Described.{ColumnList, columns}
-use Rattle.format.specs.Numbers.{numbers_of}
 use Rattle.format.specs.Entries.{written, sheet_rows, encode_check, encode_answer, encode_rows}
 use Rattle.format.specs.Lent.{eight_bytes}
 

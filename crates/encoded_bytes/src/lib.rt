@@ -6,29 +6,25 @@ ghost use Rattle.list_reader.specs.Listing.{OfList, OfEach};
 ghost use Rattle.encoded_bytes.specs.Stored.{Held, EncodedBytes};
 
 use encoder::encode_listed;
-use format::Answer;
+use format::{Refusal, Schema};
 use lent_bytes::write_offsets;
-use list_reader::Listed;
 
 // Encode with offsets in bytes: a success stores the ends of the rows, for which there is room among the numbers; a refusal
 // stores nothing. What the lent bytes held is not looked at.
 pub fn encode_bytes(
-    listed: Listed,
+    listed: Result<Schema, Refusal>,
     n: u64,
     sheet: &[u8],
     rows: &mut [u8],
     offsets: &mut [u8],
     numbers: &mut [u64],
-) -> Answer
+) -> Result<(u64, u64), Refusal>
     requires of_list { OfList listed }
     requires held { Held n (length numbers.old) (length offsets.old) }
     ensures { OfEach listed (λ list. EncodedBytes list n sheet.now rows.old offsets.old
         (length numbers.old) result rows.new offsets.new) }
 {
-    let r = encode_listed(listed, n, sheet, rows, numbers);
-    if let Answer::Refused(_) = r {
-        return r;
-    }
+    let totals = encode_listed(listed, n, sheet, rows, numbers)?;
     write_offsets(numbers, offsets);
-    r
+    Ok(totals)
 }

@@ -1,30 +1,28 @@
 -- What `encode` answers and leaves in the buffers: where list, 6 or sheet refuses, and where 12, 13 and 14 are asked. Assumes nothing.
-use Prim.Native.Nat.{ℕ, ◌≤◌}
-use mathlib.Core.Path.{◌≡◌, refl, sym, ◌∙◌}
+use Prim.Native.Nat.{ℕ, suc, ◌<◌, ◌≤◌}
+use mathlib.Core.Path.{◌≡◌, refl, sym, ap, ◌∙◌}
 use mathlib.Core.List.{List}
 use native.Mathlib.Omega.{arith}
 use lib.ListN.{length, length-map}
 use lib.Seq.{sets}
 use Rattle.format.specs.declared.Refusal.{Refusal}
-use Rattle.format.specs.declared.Check.{Check}
-use Rattle.format.specs.declared.Check.TheVariants.{Pass, Refuse}
+use Rattle.format.specs.declared.Refusal.TheVariants.{RowRoom, OffsetRoom}
+use Rattle.format.specs.Check.{both, verdict}
+use Rattle.std.specs.declared.result.Result.{Result}
+use Rattle.std.specs.declared.result.Result.TheVariants.{Ok, Err}
 use Rattle.format.specs.declared.Column.{Column}
-use Rattle.format.specs.declared.Schema.{Schema}
-use Rattle.format.specs.declared.Answer.TheVariants.{Refused}
-use Rattle.format.specs.Check.{both}
 use Rattle.format.specs.Lists.{joined, ends_from}
 use Rattle.format.specs.Described.{ColumnList, columns}
 use Rattle.format.specs.Schemas.{cols_of}
 use Rattle.format.specs.Row.{row}
 use Rattle.format.specs.Sheet.{sheet_slots, turned}
-use Rattle.format.specs.Entries.{sheet_rows, sheet_total, total_fault, answer, written, encode_check, encode_answer, encode_rows, encode_offsets}
+use Rattle.format.specs.Entries.{sheet_rows, sheet_total, total_fault, offset_room_fault, encode_check, encode_answer, encode_rows, encode_offsets}
 use Rattle.format.specs.Promises.{Encoded}
 use Rattle.basics.proofs.Append.{over_sets}
+use Rattle.basics.proofs.Checks.{enough}
 use Rattle.basics.proofs.Lists.{length_each, length_ends}
-use Rattle.sheet_reader.specs.declared.sheet.Facts.{Facts}
 use Rattle.measurer.specs.declared.Measuring.{Measuring}
 use Rattle.measurer.specs.Measuring.{batch_check, Measures}
-use Rattle.encoder.specs.Encoding.{RowsReady, RowsLeft}
 use Rattle.measurer.proofs.Batches.{batch_first}
 use Rattle.room_checks.specs.Room.{room_fault}
 use Rattle.checks.proofs.Begun.{both_grouped}
@@ -33,52 +31,63 @@ use Rattle.checks.proofs.Begun.{both_grouped}
 rows_many : (n : ℕ) (cols : List Column) (sheet : List ℕ) → length (sheet_rows n cols sheet) ≡ n
 rows_many n cols sheet = length-map (turned n (sheet_slots n cols sheet)) (row cols) ∙ length_each 0 n _
 
--- ---- the writing walk
-module _ (fault : Check) (schema : Schema) (n : ℕ) (sheet rows offsets : List ℕ) where
-  -- nothing is: what is written goes in front
-  front : (new old end : List ℕ) → fault ≡ Pass → length new ≤ length old → end ≡ sets old 0 new → end ≡ written fault new old
-  front new old end e h w = rw e (w ∙ sym (over_sets new old h))
-
-  pub all_written : (facts : List Facts) → RowsReady fault schema n sheet facts rows offsets → fault ≡ Pass → (rows' offsets' : List ℕ)
-      → rows' ≡ sets rows 0 (joined (sheet_rows n (cols_of schema) sheet)) → offsets' ≡ sets offsets 0 (ends_from 0 (sheet_rows n (cols_of schema) sheet))
-      → RowsLeft fault schema n sheet rows offsets rows' offsets'
-  all_written facts ready e rows' offsets' p q =
-      let cols = cols_of schema in
-      let ends = ends_from 0 (sheet_rows n cols sheet) in
-      record {
-        row_bytes = front (joined (sheet_rows n cols sheet)) rows rows' e (ready.fits e) p;
-        row_ends = front ends offsets offsets' e (omega (arith, ready.ends_fit e, length_ends 0 (sheet_rows n cols sheet), rows_many n cols sheet)) q;
-      }
-
--- two checks made one after the other
-pub in_order : (x y first second fault : Check) → x ≡ first → y ≡ second → fault ≡ both x y → fault ≡ both first second
-in_order x y first second fault p q e = rw (← p, ← q) e
+-- what 13 and 14 leave
+pub room_passed : (total row_room n offset_room : ℕ) → room_fault total row_room n offset_room ≡ Ok tt → (total ≤ row_room) × (n < offset_room)
+room_passed total row_room n offset_room e =
+    let p = enough row_room total (RowRoom total) (offset_room_fault n offset_room) e in
+    let q = enough offset_room (suc n) (OffsetRoom (suc n)) (Ok tt) p.1 in
+    (p.0, omega (arith, q.0))
 
 -- ---- what is answered and left in the buffers
-module _ (list : ColumnList) (n : ℕ) (sheet rows offsets : List ℕ) (m : Measuring) (h : Measures list n sheet m) where
+module _ (list : ColumnList) (n : ℕ) (sheet rows offsets : List ℕ) (r : Result Measuring Refusal) (h : Measures list n sheet r) where
+  -- a refusal writes nothing
+  refused : (x : Refusal) → encode_check list n sheet (length rows) (length offsets) ≡ Err x → Encoded list n sheet rows offsets (Err x) rows offsets
+  unfolding encode_answer encode_rows encode_offsets
+  refused x e = record { answers = rw e; row_bytes = rw e; row_ends = rw e }
+
   -- list, 6 and sheet, then 12, 13 and 14
   checks : encode_check list n sheet (length rows) (length offsets)
-      ≡ both m.check (both (total_fault (sheet_total n (columns list) sheet)) (room_fault (sheet_total n (columns list) sheet) (length rows) n (length offsets)))
+      ≡ both (verdict r) (both (total_fault (sheet_total n (columns list) sheet)) (room_fault (sheet_total n (columns list) sheet) (length rows) n (length offsets)))
   unfolding encode_check
   checks = rw (h.check, batch_first list n sheet) (sym (both_grouped (batch_check list n sheet) _ _))
 
-  -- a refusal writes nothing
-  pub bad_batch : (x : Refusal) → m.check ≡ Refuse x → Encoded list n sheet rows offsets (Refused x) rows offsets
-  unfolding encode_answer encode_rows encode_offsets
-  bad_batch x e =
-      let r : encode_check list n sheet (length rows) (length offsets) ≡ Refuse x = checks ∙ rw e in
-      record { answers = rw r; row_bytes = rw r; row_ends = rw r }
+  pub bad_batch : (x : Refusal) → r ≡ Err x → Encoded list n sheet rows offsets (Err x) rows offsets
+  bad_batch x e = refused x (checks ∙ rw e)
 
-  module _ (e : m.check ≡ Pass) where
-    -- 12, 13 and 14 decide what is answered and left
-    pub asked : (fault : Check) → fault ≡ both (total_fault m.total) (room_fault m.total (length rows) n (length offsets))
-        → (rows' offsets' : List ℕ) → RowsLeft fault m.schema n sheet rows offsets rows' offsets'
-        → Encoded list n sheet rows offsets (answer fault m.total m.nulls) rows' offsets'
-    unfolding encode_answer encode_rows encode_offsets
-    asked fault f rows' offsets' left =
-        let r : encode_check list n sheet (length rows) (length offsets) ≡ fault = checks ∙ rw (e, f, (h.found e).total) refl in
-        record {
-          answers = rw (r, (h.found e).total, (h.found e).nulls) refl;
-          row_bytes = left.row_bytes ∙ rw (r, (h.found e).sound.cols) refl;
-          row_ends = left.row_ends ∙ rw (r, (h.found e).sound.cols) refl;
-        }
+  module _ (m : Measuring) (e : r ≡ Ok m) where
+    asked : encode_check list n sheet (length rows) (length offsets) ≡ both (total_fault m.total) (room_fault m.total (length rows) n (length offsets))
+    asked = checks ∙ rw (e, (h.found m e).total) refl
+
+    -- 12
+    pub heavy : (x : Refusal) → total_fault m.total ≡ Err x → Encoded list n sheet rows offsets (Err x) rows offsets
+    heavy x t = refused x (asked ∙ rw t)
+
+    module _ (t : total_fault m.total ≡ Ok tt) where
+      -- 13, 14
+      pub short : (x : Refusal) → room_fault m.total (length rows) n (length offsets) ≡ Err x → Encoded list n sheet rows offsets (Err x) rows offsets
+      short x p = refused x (asked ∙ rw (t, p))
+
+      module _ (p : room_fault m.total (length rows) n (length offsets) ≡ Ok tt) where
+        -- the rows have room
+        pub fits : sheet_total n (cols_of m.schema) sheet ≤ length rows
+        fits = rw ((h.found m e).sound.cols, ← (h.found m e).total) (room_passed m.total (length rows) n (length offsets) p).0
+
+        -- and so do the offsets
+        pub ends_fit : n < length offsets
+        ends_fit = (room_passed m.total (length rows) n (length offsets) p).1
+
+        -- none of them: what is written goes in front
+        pub written : (rows' offsets' : List ℕ) → rows' ≡ sets rows 0 (joined (sheet_rows n (cols_of m.schema) sheet))
+            → offsets' ≡ sets offsets 0 (ends_from 0 (sheet_rows n (cols_of m.schema) sheet))
+            → Encoded list n sheet rows offsets (Ok (m.total, m.nulls)) rows' offsets'
+        unfolding encode_answer encode_rows encode_offsets
+        written rows' offsets' v w =
+            let cols = cols_of m.schema in
+            let ends = ends_from 0 (sheet_rows n cols sheet) in
+            let passes : encode_check list n sheet (length rows) (length offsets) ≡ Ok tt = asked ∙ rw (t, p) in
+            let long : length ends ≤ length offsets = omega (arith, ends_fit, length_ends 0 (sheet_rows n cols sheet), rows_many n cols sheet) in
+            record {
+              answers = rw (passes, (h.found m e).total, (h.found m e).nulls) refl;
+              row_bytes = v ∙ sym (over_sets (joined (sheet_rows n cols sheet)) rows fits) ∙ rw (passes, (h.found m e).sound.cols) refl;
+              row_ends = w ∙ sym (over_sets ends offsets long) ∙ rw (passes, (h.found m e).sound.cols) refl;
+            }

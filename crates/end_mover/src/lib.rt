@@ -8,7 +8,7 @@ ghost use Rattle.cursors.specs.Cursors.{Readable, nexts_at};
 ghost use Rattle.end_mover.specs.Ends.{variable_column, ends_at, data_at};
 
 use format::SortOptions;
-use number::put32;
+use number::Word;
 use variable_reader::decode_blocks;
 
 // Ends and bytes in one pass, since it is known where the bytes start. The ends are 0, and after each value the count of the
@@ -30,16 +30,14 @@ pub fn move_ended(
     let data = at + 4 * (cursors.len() + 1);
     let mut end = at;
     let mut total: usize = 0;
-    let mut r = 0;
-    while r < cursors.len() {
-        put32(sheet, end, total as u32);
-        let p = cursors[r];
+    for cursor in cursors.iter_mut() {
+        (total as u32).put(sheet, end);
+        let p = *cursor;
         let copied = decode_blocks(&rows[p..], options, sheet, data + total);
-        cursors[r] = p + copied.field;
+        *cursor = p + copied.field;
         total += copied.value;
         end += 4;
-        r += 1;
     }
-    put32(sheet, end, total as u32);
+    (total as u32).put(sheet, end);
     data + total
 }

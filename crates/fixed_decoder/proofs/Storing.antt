@@ -44,6 +44,11 @@ slot_is : (k : Fixed) (o : SortOptions) (s : List ℕ) → Good (read_fixed k o 
 slot_is k o s g true q = sym (ap (fixed_slot (width k)) ((stands k o s g).null (sym (q ∙ no_one k o s g))).0)
 slot_is k o s g false q = sym (ap (fixed_slot (width k)) ((stands k o s g).value (sym (q ∙ no_one k o s g))).0)
 
+-- what is stored where there is no null, and where there is one
+pub null_or : (b : Bool) (x y out : List ℕ) (at : ℕ) → sets out at (cond (not b) x y) ≡ sets out at (cond b y x)
+null_or true x y out at = refl
+null_or false x y out at = refl
+
 -- a number of w bytes, and its bytes back
 pub coded_width : (c : Coding) (w : ℕ) → width (coded c w) ≡ w
 coded_width Unsigned w = refl

@@ -10,8 +10,8 @@ ghost use Rattle.fixed_decoder.specs.Bytewise.{bytewise};
 
 use column_facts::{null_lead, width};
 use format::{Kind, SortOptions};
-use number::{Coding, directed8};
-use number_reader::{take_number, take_number8, take_words};
+use number::{Coding, directed};
+use number_reader::{take_number, take_words};
 use runs::{copy_bytes, zeros};
 
 // A bool: the byte of true, inverted under descending; a null has 00.
@@ -20,7 +20,7 @@ pub fn decode_boolean(row: &[u8], options: SortOptions) -> bool
     ensures { result ≡ is_true (slot_read (read_fixed bool options row.now)) }
 {
     let byte = row[1];
-    byte == directed8(options.descending, 1)
+    byte == directed(options.descending, 1)
 }
 
 // Days and milliseconds, from a row whose lead byte is 01.
@@ -29,8 +29,8 @@ fn decode_day_time(row: &[u8], descending: bool, out: &mut [u8], at: usize)
     ensures { out.new ≡ sets out.old at
         (parts_unkey (4 ∷ 4 ∷ []) (directed descending (take 8 (drop 1 row.now)))) }
 {
-    take_number(out, at, row, 1, 4, Coding::Signed, descending);
-    take_number(out, at + 4, row, 5, 4, Coding::Signed, descending);
+    take_number::<u32>(out, at, row, 1, Coding::Signed, descending);
+    take_number::<u32>(out, at + 4, row, 5, Coding::Signed, descending);
 }
 
 // A bytewise kind, from a row whose lead byte is 01.
@@ -42,8 +42,8 @@ fn decode_value(row: &[u8], kind: Kind, descending: bool, out: &mut [u8], at: us
         → out.new ≡ sets out.old at (unkey k (directed descending (take (value_bytes kind) (drop 1 row.now)))) }
 {
     match kind {
-        Kind::I8 => take_number8(out, at, row, 1, Coding::Signed, descending),
-        Kind::U8 => take_number8(out, at, row, 1, Coding::Unsigned, descending),
+        Kind::I8 => take_number::<u8>(out, at, row, 1, Coding::Signed, descending),
+        Kind::U8 => take_number::<u8>(out, at, row, 1, Coding::Unsigned, descending),
         Kind::DayTime => decode_day_time(row, descending, out, at),
         Kind::FixedBinary(w) => copy_bytes(out, at, row, 1, w as usize, descending),
         Kind::I128 => take_words(out, at, row, 1, 2, descending),

@@ -11,10 +11,29 @@ ghost use Rattle.number_reader.specs.Words.{WordWidth};
 ghost use Rattle.fixed_decoder.specs.Worded.{Worded, worded};
 
 use format::SortOptions;
-use number::Coding;
-use number_reader::{number_at, put_number};
+use number::{Coding, Word, or_zero};
+use number_reader::number_at;
 
 // A number at a place of the row, or 0.
+fn put_number<W: Word>(
+    out: &mut [u8],
+    at: usize,
+    row: &[u8],
+    from: usize,
+    coding: Coding,
+    descending: bool,
+    null: bool,
+)
+    requires from_in_bounds { from + W.SIZE ≤ length row.now }
+    requires at_in_bounds { at + W.SIZE ≤ length out.old }
+    ensures { out.new ≡ sets out.old at
+        (cond null (replicate W.SIZE 0) (coding_unkey coding (directed descending (take W.SIZE (drop from row.now))))) }
+{
+    let value: W = number_at(row, from, coding, descending);
+    or_zero(!null, value).put(out, at);
+}
+
+// The same of so many bytes.
 fn put_word(
     out: &mut [u8],
     at: usize,
@@ -31,8 +50,11 @@ fn put_word(
     ensures { out.new ≡ sets out.old at
         (cond null (replicate width 0) (coding_unkey coding (directed descending (take width (drop from row.now))))) }
 {
-    let value = number_at(row, from, width, coding, descending);
-    put_number(out, at, width, if null { 0 } else { value });
+    match width {
+        2 => put_number::<u16>(out, at, row, from, coding, descending, null),
+        4 => put_number::<u32>(out, at, row, from, coding, descending, null),
+        _ => put_number::<u64>(out, at, row, from, coding, descending, null),
+    }
 }
 
 // Months, days and nanoseconds, or zeros.
@@ -42,9 +64,9 @@ fn put_interval(out: &mut [u8], at: usize, row: &[u8], descending: bool, null: b
     ensures { out.new ≡ sets out.old at
         (cond null (replicate 16 0) (parts_unkey (4 ∷ 4 ∷ 8 ∷ []) (directed descending (take 16 (drop 1 row.now))))) }
 {
-    put_word(out, at, row, 1, 4, Coding::Signed, descending, null);
-    put_word(out, at + 4, row, 5, 4, Coding::Signed, descending, null);
-    put_word(out, at + 8, row, 9, 8, Coding::Signed, descending, null);
+    put_number::<u32>(out, at, row, 1, Coding::Signed, descending, null);
+    put_number::<u32>(out, at + 4, row, 5, Coding::Signed, descending, null);
+    put_number::<u64>(out, at + 8, row, 9, Coding::Signed, descending, null);
 }
 
 // The field in front of the row, of so many value bytes.

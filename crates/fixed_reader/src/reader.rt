@@ -10,8 +10,8 @@ ghost use Rattle.number_reader.specs.Words.{WordWidth};
 
 use column_facts::null_lead;
 use format::{FieldRead, RowFault, SortOptions};
-use number::directed8;
-use number_reader::{is_folded16, is_folded32, is_folded64};
+use number::directed;
+use number_reader::is_folded;
 
 // After the null byte: zeros, as many as a value has bytes.
 fn read_null(row: &[u8], width: usize) -> FieldRead
@@ -22,12 +22,10 @@ fn read_null(row: &[u8], width: usize) -> FieldRead
     if room < width {
         return FieldRead::Fault(RowFault::Cut, 0);
     }
-    let mut i = 0;
-    while i < width {
+    for i in 0..width {
         if row[1 + i] != 0 {
             return FieldRead::Fault(RowFault::NullRest, room - i);
         }
-        i += 1;
     }
     FieldRead::Null(1 + width)
 }
@@ -62,7 +60,7 @@ pub fn read_boolean(row: &[u8], options: SortOptions) -> FieldRead
     match field {
         FieldRead::Null(_) => field,
         FieldRead::Value(_, _) => {
-            if 1 < directed8(options.descending, row[1]) {
+            if 1 < directed(options.descending, row[1]) {
                 return FieldRead::Fault(RowFault::BoolByte, row.len() - 1);
             }
             field
@@ -77,17 +75,15 @@ fn may_stand(row: &[u8], width: usize, options: SortOptions) -> bool
     requires width_in_bounds { 1 + width ≤ length row.now }
     ensures { result ≡ is_folded (float width) options.fold (float_unkey (directed options.descending (take width (drop 1 row.now)))) }
 {
-    let descending = options.descending;
-    if options.fold {
-        if width == 2 {
-            return is_folded16(row, 1, descending);
-        }
-        if width == 4 {
-            return is_folded32(row, 1, descending);
-        }
-        return is_folded64(row, 1, descending);
+    if !options.fold {
+        return true;
     }
-    true
+    let descending = options.descending;
+    match width {
+        2 => is_folded::<u16>(row, 1, descending),
+        4 => is_folded::<u32>(row, 1, descending),
+        _ => is_folded::<u64>(row, 1, descending),
+    }
 }
 
 // A float: as its bytes, which are those of a folded one where the column folds.

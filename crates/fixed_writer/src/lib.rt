@@ -14,9 +14,7 @@ ghost use Rattle.basics.specs.Wrote.{Wrote};
 
 use format::{Kind, SortOptions};
 use number::Coding;
-use number_writer::{
-    put_float16, put_float32, put_float64, put_number8, put_number16, put_number32, put_number64,
-};
+use number_writer::{put_float, put_number};
 use part_writer::{encode_day_time, encode_month_day_nano, put_words};
 use runs::copy_bytes;
 
@@ -58,17 +56,17 @@ pub fn encode(
     let place = at + 1;
     out[at] = 1;
     match kind {
-        Kind::I8 => put_number8(out, place, values, r, Coding::Signed, descending),
-        Kind::I16 => put_number16(out, place, values, r * 2, Coding::Signed, descending),
-        Kind::I32 => put_number32(out, place, values, r * 4, Coding::Signed, descending),
-        Kind::I64 => put_number64(out, place, values, r * 8, Coding::Signed, descending),
-        Kind::U8 => put_number8(out, place, values, r, Coding::Unsigned, descending),
-        Kind::U16 => put_number16(out, place, values, r * 2, Coding::Unsigned, descending),
-        Kind::U32 => put_number32(out, place, values, r * 4, Coding::Unsigned, descending),
-        Kind::U64 => put_number64(out, place, values, r * 8, Coding::Unsigned, descending),
-        Kind::F16 => put_float16(out, place, values, r * 2, fold, descending),
-        Kind::F32 => put_float32(out, place, values, r * 4, fold, descending),
-        Kind::F64 => put_float64(out, place, values, r * 8, fold, descending),
+        Kind::I8 => put_number::<u8>(out, place, values, r, Coding::Signed, descending),
+        Kind::I16 => put_number::<u16>(out, place, values, r * 2, Coding::Signed, descending),
+        Kind::I32 => put_number::<u32>(out, place, values, r * 4, Coding::Signed, descending),
+        Kind::I64 => put_number::<u64>(out, place, values, r * 8, Coding::Signed, descending),
+        Kind::U8 => put_number::<u8>(out, place, values, r, Coding::Unsigned, descending),
+        Kind::U16 => put_number::<u16>(out, place, values, r * 2, Coding::Unsigned, descending),
+        Kind::U32 => put_number::<u32>(out, place, values, r * 4, Coding::Unsigned, descending),
+        Kind::U64 => put_number::<u64>(out, place, values, r * 8, Coding::Unsigned, descending),
+        Kind::F16 => put_float::<u16>(out, place, values, r * 2, fold, descending),
+        Kind::F32 => put_float::<u32>(out, place, values, r * 4, fold, descending),
+        Kind::F64 => put_float::<u64>(out, place, values, r * 8, fold, descending),
         Kind::DayTime => encode_day_time(out, place, values, r * 8, descending),
         Kind::MonthDayNano => encode_month_day_nano(out, place, values, r * 16, descending),
         Kind::FixedBinary(w) => encode_fixed_size_binary(

@@ -3,21 +3,17 @@ use Prim.Native.Nat.{ℕ, suc, ◌+◌, ◌-◌, ◌^◌, ◌<◌, ◌≤◌}
 use mathlib.Core.Path.{◌≡◌, refl, sym, ap, ap₂, ◌∙◌, subst}
 use mathlib.Core.Bool.{Bool, true, false, cond}
 use mathlib.Core.List.{List, [], ◌∷◌, ◌++◌, map, map-append}
-use native.Mathlib.Nat.{sub-zero}
 use native.Mathlib.Numerals.{add-one}
 use native.Mathlib.Omega.{arith}
 use lib.Dec.{ltb}
 use lib.ListN.{length, get_or, set, take, drop, length-drop, length-map}
 use lib.Seq.{take-suc, take_all, length-take-le, drop-drop}
-use borrow.Author.Tests.{lt-ltb, le-ltb, ltb-true, ltb-false}
+use borrow.Author.Tests.{le-ltb, ltb-true, ltb-false}
 use Rattle.format.specs.Sheet.{packed}
 use Rattle.format.specs.Cleared.{byte_of, pack}
 use Rattle.bits.proofs.Flags.{byte_last, byte_small}
-use Rattle.bits.proofs.Bits.{length_pack}
-use Rattle.basics.specs.Wrote.{Wrote}
-use Rattle.basics.proofs.Append.{Walk, walk_start, walk_piece, walk_room}
+use Rattle.basics.proofs.Append.{Walk, walk_piece}
 use Rattle.basics.proofs.Lists.{map_take, map_drop}
-use Rattle.cursors.proofs.Wrotes.{wrote_whole}
 
 -- ---- a byte
 
@@ -51,21 +47,12 @@ pub record Packing (f : ℕ → Bool) (xs out₀ : List ℕ) (at₀ : ℕ) (out 
   pub within : base ≤ length xs
   pub wrote : Walk (pack (packed (length xs)) (map f xs)) (packed_from f xs base) out₀ at₀ out at
 
-pub pack_start : (f : ℕ → Bool) (xs out : List ℕ) (at : ℕ) → Packing f xs out at out at 0
-pack_start f xs out at = record {
-  within = omega arith;
-  wrote = rw (sub-zero (length xs)) (walk_start (pack (packed (length xs)) (map f xs)) out at);
-}
-
 -- how many of the flags that are left go into the next byte
 abbrev pub in_byte : ℕ → ℕ
 in_byte left = cond (ltb left 8) left 8
 
 pub eight : (left : ℕ) → 8 ≤ left → 8 ≡ in_byte left
 eight left h = rw (le-ltb left 8 h) refl
-
-pub fewer : (left : ℕ) → left < 8 → left ≡ in_byte left
-fewer left h = rw (lt-ltb left 8 h) refl
 
 -- some, eight at most
 in_byte_lem : (left : ℕ) → 0 < left → (0 < in_byte left) × (in_byte left ≤ 8) × (in_byte left ≤ left)
@@ -76,12 +63,6 @@ in_byte_lem left h = go (ltb left 8) refl
     go false l = let many = ltb-false left 8 l in (omega arith, omega arith, omega arith)
 
 module _ {f : ℕ → Bool} {xs out₀ : List ℕ} {at₀ : ℕ} {out : List ℕ} {at base : ℕ} (t : Packing f xs out₀ at₀ out at base) where
-  -- no flag is left
-  pub pack_end : length xs ≤ base → Wrote (pack (packed (length xs)) (map f xs)) at₀ out₀ out at
-  pack_end h =
-      let z : packed (length xs - base) ≡ 0 = omega arith in
-      wrote_whole t.wrote (ap (λ (n : ℕ). pack n (map f (drop base xs))) z)
-
   module _ (h : base < length xs) (size : ℕ) (e : size ≡ in_byte (length xs - base)) where
     pub size_small : (0 < size) × (size ≤ 8) × (base + size ≤ length xs)
     size_small = let k = in_byte_lem (length xs - base) (omega arith) in (omega arith, omega arith, omega arith)
@@ -111,13 +92,6 @@ module _ {f : ℕ → Bool} {xs out₀ : List ℕ} {at₀ : ℕ} {out : List ℕ
             ∙ ap₂ {C = List ℕ} (λ (x y : List Bool). byte_of x ∷ pack (packed (length xs - (base + size))) y)
             (sym (map_take f 8 (drop base xs)) ∙ ap (λ (n : ℕ). map f (take n (drop base xs))) (sym e))
             (sym (map_drop f 8 (drop base xs)) ∙ ap (map f) (drop-drop 8 base xs ∙ ap (λ (n : ℕ). drop (base + n) xs) (sym e)))
-
-    -- there is room for it
-    pub pack_room : at₀ + packed (length xs) ≤ length out₀ → at < length out
-    pack_room fits =
-        let whole = length_pack (packed (length xs)) (map f xs) in
-        let w = walk_room t.wrote (byte ∷ []) (packed_from f xs (base + size)) next_is (omega arith) in
-        omega arith
 
     -- and it is stored
     pub pack_more : (b n : ℕ) → n ≡ size → b ≡ byte_of (map f (take n (drop base xs))) → Packing f xs out₀ at₀ (set out at b) (at + 1) (base + size)

@@ -43,17 +43,15 @@ fn pack_byte(rows: &[u8], cursors: &[usize], column: Column, which: Flag) -> u8
     ensures { result ≡ byte_of (map (flag_at which column rows.now) cursors.now) }
 {
     let mut byte: u8 = 0;
-    let mut k = 0;
-    while k < cursors.len() {
-        let p = cursors[k];
+    for (k, cursor) in cursors.iter().enumerate() {
+        let p = *cursor;
         let on = read_flag(&rows[p..], column, which);
         byte = put_bit(byte, k as u8, on);
-        k += 1;
     }
     byte
 }
 
-// The flags of all rows, each byte stored once: while there are eight rows they make a byte, so that its loop has a known length.
+// The flags of all rows, each byte stored once: eight rows make a byte, so that its loop has a known length, and then those that are left.
 pub fn pack(
     rows: &[u8],
     cursors: &[usize],
@@ -68,17 +66,13 @@ pub fn pack(
     ensures { Wrote (flags_at which column rows.now cursors.now) at sheet.old sheet.new result }
 {
     let n = cursors.len();
-    let mut place = at;
-    let mut base = 0;
-    while 8 <= n - base {
-        let end = base + 8;
-        sheet[place] = pack_byte(rows, &cursors[base..end], column, which);
-        place += 1;
-        base = end;
+    let full = n / 8;
+    for k in 0..full {
+        sheet[at + k] = pack_byte(rows, &cursors[8 * k..8 * k + 8], column, which);
     }
-    if base == n {
-        return place;
+    if n % 8 == 0 {
+        return at + full;
     }
-    sheet[place] = pack_byte(rows, &cursors[base..n], column, which);
-    place + 1
+    sheet[at + full] = pack_byte(rows, &cursors[8 * full..], column, which);
+    at + full + 1
 }

@@ -1,2 +1,2 @@
--- Laws of folding, over the width.
+-- Laws of folding, over the count of bytes.
 pub mod Folds

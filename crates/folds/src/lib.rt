@@ -5,30 +5,86 @@
 //            FC00 -inf     FC00
 #![tactic(auto)]
 
-ghost use Rattle.std.specs.Prelude.{◌≡◌, cond};
-ghost use Rattle.format.specs.Fold.{folded_bits};
+ghost use Rattle.std.specs.Prelude.{◌≡◌, ℕ, cond, refl};
+ghost use Rattle.format.specs.Fold.{infinity, one_na_n, folded_bits};
+ghost use Rattle.format.specs.declared.Kind.TheVariants.{F16, F32, F64};
+ghost use Rattle.basics.proofs.Sorts.{Foldable, foldable};
+
+use words::Word;
+
+// The words that are the bits of a float.
+pub trait Float: Word {
+    // Infinity: the NaNs are above it.
+    ghost INFINITY: { ℕ };
+
+    // The one NaN.
+    ghost NAN: { ℕ };
+
+    const INFINITY: u64;
+
+    const NAN: u64;
+
+    ghost infinite: { INFINITY ≡ infinity Self.SIZE };
+
+    ghost one: { NAN ≡ one_na_n Self.SIZE };
+
+    ghost folds: { Foldable Self.SIZE };
+}
+
+impl Float for u16 {
+    ghost INFINITY = { 0x7c00 };
+
+    ghost NAN = { 0x7e00 };
+
+    ghost infinite = { refl };
+
+    ghost one = { refl };
+
+    ghost folds = { foldable F16 };
+
+    const INFINITY: u64 = 0x7c00;
+
+    const NAN: u64 = 0x7e00;
+}
+
+impl Float for u32 {
+    ghost INFINITY = { 0x7f80_0000 };
+
+    ghost NAN = { 0x7fc0_0000 };
+
+    ghost infinite = { refl };
+
+    ghost one = { refl };
+
+    ghost folds = { foldable F32 };
+
+    const INFINITY: u64 = 0x7f80_0000;
+
+    const NAN: u64 = 0x7fc0_0000;
+}
+
+impl Float for u64 {
+    ghost INFINITY = { 0x7ff0_0000_0000_0000 };
+
+    ghost NAN = { 0x7ff8_0000_0000_0000 };
+
+    ghost infinite = { refl };
+
+    ghost one = { refl };
+
+    ghost folds = { foldable F64 };
+
+    const INFINITY: u64 = 0x7ff0_0000_0000_0000;
+
+    const NAN: u64 = 0x7ff8_0000_0000_0000;
+}
 
 // The bits of a float, folded where `fold` says so: the NaNs are above infinity without the sign, and -0 is the sign alone.
-pub fn folded16(fold: bool, x: u16) -> u16
-    ensures { result ≡ cond fold (folded_bits 2 x) x }
+pub fn folded<F: Float>(fold: bool, x: F) -> F
+    ensures { F.value result ≡ cond fold (folded_bits F.SIZE (F.value x)) (F.value x) }
 {
-    let nan = (fold & (31744 < x % 32768)) as u16;
-    let zero = (fold & (x == 32768)) as u16;
-    x - (nan + zero) * x + nan * 32256
-}
-
-pub fn folded32(fold: bool, x: u32) -> u32
-    ensures { result ≡ cond fold (folded_bits 4 x) x }
-{
-    let nan = (fold & (2139095040 < x % 2147483648)) as u32;
-    let zero = (fold & (x == 2147483648)) as u32;
-    x - (nan + zero) * x + nan * 2143289344
-}
-
-pub fn folded64(fold: bool, x: u64) -> u64
-    ensures { result ≡ cond fold (folded_bits 8 x) x }
-{
-    let nan = (fold & (9218868437227405312 < x % 9223372036854775808)) as u64;
-    let zero = (fold & (x == 9223372036854775808)) as u64;
-    x - (nan + zero) * x + nan * 9221120237041090560
+    let bits = x.number();
+    let nan = (fold & (F::INFINITY < bits % F::TOP)) as u64;
+    let zero = (fold & (bits == F::TOP)) as u64;
+    F::of(bits - (nan + zero) * bits + nan * F::NAN)
 }

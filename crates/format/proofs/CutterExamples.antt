@@ -4,7 +4,7 @@ use mathlib.Core.Path.{◌≡◌, refl}
 use mathlib.Core.Bool.{true, false}
 use mathlib.Core.List.{List, [], ◌∷◌, ◌++◌}
 use lib.ListN.{length, replicate}
-use Rattle.format.specs.declared.Check.TheVariants.{Pass}
+use Rattle.std.specs.declared.result.Result.TheVariants.{Ok}
 use Rattle.format.specs.declared.Spot.{Spot}
 use Rattle.format.specs.declared.Spot.TheVariants.{Start, Nulls, Value, Block}
 use Rattle.format.specs.declared.Cutter.{Cutter}
@@ -74,7 +74,7 @@ refused_alike = refl
 abbrev after : ℕ → ℕ → ℕ → Spot → Cutter
 after rows bytes row spot = record {
   schema = schema_of (spelled_columns (2 ∷ 2 ∷ []));
-  refusal = Pass;
+  refusal = Ok tt;
   rows = rows;
   bytes = bytes;
   row = row;

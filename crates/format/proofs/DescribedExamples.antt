@@ -7,7 +7,7 @@ use lib.ListN.{replicate}
 use Rattle.format.specs.declared.Kind.{Kind}
 use Rattle.format.specs.declared.Kind.TheVariants.{Bool, I32, F32, FixedBinary, Variable}
 use Rattle.format.specs.declared.Column.{Column}
-use Rattle.format.specs.declared.Check.TheVariants.{Pass, Refuse}
+use Rattle.std.specs.declared.result.Result.TheVariants.{Ok, Err}
 use Rattle.format.specs.declared.Refusal.TheVariants.{ListCut, UnknownKind, OptionBits, Width, ManyColumns}
 use Rattle.format.specs.Lists.{joined}
 use Rattle.format.specs.Columns.{spelled_fault, spelled_columns}
@@ -59,26 +59,26 @@ unfolding spelled_columns
 same_columns = (refl, refl, refl)
 
 -- none lent 1, bit 3 outside the kinds 10 to 12 is 3, a width over 1,024 is 4, a 65th is 5
-pub refused : (list_fault (described []) ≡ Refuse (ListCut 0))
-    × (list_fault (described (folds F32 ∷ folds I32 ∷ [])) ≡ Refuse (OptionBits 1))
-    × (list_fault (described (of (FixedBinary 1024) ∷ of (FixedBinary 1025) ∷ [])) ≡ Refuse (Width 1))
-    × (list_fault (described (of (FixedBinary 65535) ∷ [])) ≡ Refuse (Width 0))
-    × (list_fault (described (folds (FixedBinary 1025) ∷ [])) ≡ Refuse (OptionBits 0))
-    × (list_fault (described (replicate 64 (of Variable))) ≡ Pass)
-    × (list_fault (described (replicate 64 (of Variable) ++ folds Bool ∷ [])) ≡ Refuse (ManyColumns 64))
+pub refused : (list_fault (described []) ≡ Err (ListCut 0))
+    × (list_fault (described (folds F32 ∷ folds I32 ∷ [])) ≡ Err (OptionBits 1))
+    × (list_fault (described (of (FixedBinary 1024) ∷ of (FixedBinary 1025) ∷ [])) ≡ Err (Width 1))
+    × (list_fault (described (of (FixedBinary 65535) ∷ [])) ≡ Err (Width 0))
+    × (list_fault (described (folds (FixedBinary 1025) ∷ [])) ≡ Err (OptionBits 0))
+    × (list_fault (described (replicate 64 (of Variable))) ≡ Ok tt)
+    × (list_fault (described (replicate 64 (of Variable) ++ folds Bool ∷ [])) ≡ Err (ManyColumns 64))
 unfolding descriptions_fault
 refused = (refl, refl, refl, refl, refl, refl, refl)
 
 -- in four bytes also an unknown kind 2, every other option bit 3, a width outside kind 15 is 4: 2 before 3 before 4, 5 before all
-pub refused_codes : (list_fault (coded (4 ∷ 0 ∷ 0 ∷ [])) ≡ Refuse (ListCut 0))
-    × (list_fault (coded (4 ∷ 7 ∷ 0 ∷ 0 ∷ 19 ∷ 16 ∷ 1 ∷ 0 ∷ [])) ≡ Refuse (UnknownKind 1))
-    × (list_fault (coded (0 ∷ 16 ∷ 1 ∷ 0 ∷ [])) ≡ Refuse (UnknownKind 0))
-    × (list_fault (coded (10 ∷ 15 ∷ 0 ∷ 0 ∷ 10 ∷ 16 ∷ 0 ∷ 0 ∷ [])) ≡ Refuse (OptionBits 1))
-    × (list_fault (coded (9 ∷ 8 ∷ 1 ∷ 0 ∷ [])) ≡ Refuse (OptionBits 0))
-    × (list_fault (coded (9 ∷ 7 ∷ 0 ∷ 1 ∷ [])) ≡ Refuse (Width 0))
-    × (list_fault (coded (15 ∷ 7 ∷ 0 ∷ 4 ∷ 15 ∷ 0 ∷ 1 ∷ 4 ∷ [])) ≡ Refuse (Width 1))
-    × (list_fault (coded (list_codes ++ 99 ∷ 0 ∷ 0 ∷ [])) ≡ Pass)
-    × (list_fault (coded (joined (replicate 64 (16 ∷ 0 ∷ 0 ∷ 0 ∷ [])) ++ 99 ∷ 0 ∷ 0 ∷ 0 ∷ [])) ≡ Refuse (ManyColumns 64))
+pub refused_codes : (list_fault (coded (4 ∷ 0 ∷ 0 ∷ [])) ≡ Err (ListCut 0))
+    × (list_fault (coded (4 ∷ 7 ∷ 0 ∷ 0 ∷ 19 ∷ 16 ∷ 1 ∷ 0 ∷ [])) ≡ Err (UnknownKind 1))
+    × (list_fault (coded (0 ∷ 16 ∷ 1 ∷ 0 ∷ [])) ≡ Err (UnknownKind 0))
+    × (list_fault (coded (10 ∷ 15 ∷ 0 ∷ 0 ∷ 10 ∷ 16 ∷ 0 ∷ 0 ∷ [])) ≡ Err (OptionBits 1))
+    × (list_fault (coded (9 ∷ 8 ∷ 1 ∷ 0 ∷ [])) ≡ Err (OptionBits 0))
+    × (list_fault (coded (9 ∷ 7 ∷ 0 ∷ 1 ∷ [])) ≡ Err (Width 0))
+    × (list_fault (coded (15 ∷ 7 ∷ 0 ∷ 4 ∷ 15 ∷ 0 ∷ 1 ∷ 4 ∷ [])) ≡ Err (Width 1))
+    × (list_fault (coded (list_codes ++ 99 ∷ 0 ∷ 0 ∷ [])) ≡ Ok tt)
+    × (list_fault (coded (joined (replicate 64 (16 ∷ 0 ∷ 0 ∷ 0 ∷ [])) ++ 99 ∷ 0 ∷ 0 ∷ 0 ∷ [])) ≡ Err (ManyColumns 64))
 unfolding descriptions_fault
 refused_codes = (refl, refl, refl, refl, refl, refl, refl, refl, refl)
 

@@ -13,8 +13,8 @@ use Rattle.format.specs.declared.SortOptions.{SortOptions}
 use Rattle.format.specs.declared.Kind.{Kind}
 use Rattle.format.specs.declared.Kind.TheVariants.{Bool, I16, U16, F16, MonthDayNano, FixedBinary, Variable, I128, I256}
 use Rattle.format.specs.declared.RowFault.TheVariants.{Cut, Lead, NullRest, BoolByte, EndByte, Padding, Extra, TooLong, Unfolded}
-use Rattle.format.specs.declared.Check.{Check}
-use Rattle.format.specs.declared.Check.TheVariants.{Pass, Refuse}
+use Rattle.format.specs.Check.{Check}
+use Rattle.std.specs.declared.result.Result.TheVariants.{Ok, Err}
 use Rattle.format.specs.declared.Refusal.TheVariants.{Row}
 use Rattle.format.specs.Kinds.{shape}
 use Rattle.format.specs.Field.{field, padded_length}
@@ -118,9 +118,9 @@ pub folding : (folded_bits 2 0xfc01 ≡ 0x7e00) × (folded_bits 2 0x8000 ≡ 0) 
 folding = (refl, refl, refl, refl, refl, refl, refl, refl, refl, refl, refl)
 
 -- the first fault in row order, then column order; 22 after the last field
-pub row_faults : (row_fault 4 2 0 (record { kind = Bool; options = up } ∷ []) (1 ∷ 1 ∷ []) ≡ Pass)
-    × (row_fault 4 3 0 (record { kind = Bool; options = up } ∷ []) (1 ∷ 1 ∷ 0 ∷ []) ≡ Refuse (Row Extra 4 1 2))
-    × (rows_fault 0 (record { kind = Bool; options = up } ∷ record { kind = Bool; options = up } ∷ []) ((1 ∷ 1 ∷ 9 ∷ 1 ∷ []) ∷ (9 ∷ []) ∷ []) ≡ Refuse (Row Lead 0 1 2))
+pub row_faults : (row_fault 4 2 0 (record { kind = Bool; options = up } ∷ []) (1 ∷ 1 ∷ []) ≡ Ok tt)
+    × (row_fault 4 3 0 (record { kind = Bool; options = up } ∷ []) (1 ∷ 1 ∷ 0 ∷ []) ≡ Err (Row Extra 4 1 2))
+    × (rows_fault 0 (record { kind = Bool; options = up } ∷ record { kind = Bool; options = up } ∷ []) ((1 ∷ 1 ∷ 9 ∷ 1 ∷ []) ∷ (9 ∷ []) ∷ []) ≡ Err (Row Lead 0 1 2))
     × (row_slots (record { kind = Bool; options = up } ∷ record { kind = Variable; options = down } ∷ []) (0 ∷ 0 ∷ 0xfe ∷ []) ≡ none ∷ some [] ∷ [])
 row_faults = (refl, refl, refl, refl)
 
@@ -132,11 +132,11 @@ second k f =
 
 -- places count from the start of the row: the first byte missing for 16, the bad byte for 17 to 21 (the first for 18 and 21), the
 -- first extra byte for 22
-pub places : (second I16 (1 ∷ 9 ∷ []) ≡ Refuse (Row Cut 8 1 4))
-    × (second I16 (9 ∷ 0 ∷ 0 ∷ []) ≡ Refuse (Row Lead 8 1 2))
-    × (second I16 (0 ∷ 5 ∷ 6 ∷ []) ≡ Refuse (Row NullRest 8 1 3))
-    × (second Bool (1 ∷ 2 ∷ []) ≡ Refuse (Row BoolByte 8 1 3))
-    × (second Variable (2 ∷ 97 ∷ replicate 7 0 ++ 9 ∷ 5 ∷ []) ≡ Refuse (Row EndByte 8 1 11))
-    × (second Variable (2 ∷ 97 ∷ 0 ∷ 5 ∷ 0 ∷ 6 ∷ replicate 3 0 ++ 1 ∷ []) ≡ Refuse (Row Padding 8 1 5))
-    × (second Variable (1 ∷ 5 ∷ []) ≡ Refuse (Row Extra 8 2 3))
+pub places : (second I16 (1 ∷ 9 ∷ []) ≡ Err (Row Cut 8 1 4))
+    × (second I16 (9 ∷ 0 ∷ 0 ∷ []) ≡ Err (Row Lead 8 1 2))
+    × (second I16 (0 ∷ 5 ∷ 6 ∷ []) ≡ Err (Row NullRest 8 1 3))
+    × (second Bool (1 ∷ 2 ∷ []) ≡ Err (Row BoolByte 8 1 3))
+    × (second Variable (2 ∷ 97 ∷ replicate 7 0 ++ 9 ∷ 5 ∷ []) ≡ Err (Row EndByte 8 1 11))
+    × (second Variable (2 ∷ 97 ∷ 0 ∷ 5 ∷ 0 ∷ 6 ∷ replicate 3 0 ++ 1 ∷ []) ≡ Err (Row Padding 8 1 5))
+    × (second Variable (1 ∷ 5 ∷ []) ≡ Err (Row Extra 8 2 3))
 places = (refl, refl, refl, refl, refl, refl, refl)

@@ -7,7 +7,7 @@ use mathlib.Core.List.{List, [], ◌∷◌, ◌++◌}
 use Rattle.format.specs.declared.Kind.TheVariants.{Bool, I16, F16, Variable}
 use Rattle.format.specs.declared.Kind.{Kind}
 use Rattle.format.specs.declared.Column.{Column}
-use Rattle.format.specs.declared.Check.TheVariants.{Pass, Refuse}
+use Rattle.std.specs.declared.result.Result.TheVariants.{Ok, Err}
 use Rattle.format.specs.declared.Refusal.TheVariants.{ColumnCut, SpareBit, Ends, LongSlot, BytesAfter, Missing}
 use Rattle.format.specs.Sheet.{sheet_fault, sheet_slots, nulls, turned}
 use Rattle.format.specs.Cleared.{cleared_sheet}
@@ -39,7 +39,7 @@ names = 0b101 ∷ 0 ∷ 0 ∷ 0 ∷ 0 ∷ 1 ∷ 0 ∷ 0 ∷ 0 ∷ 3 ∷ 0 ∷ 0 
 abbrev sheet : List ℕ
 sheet = flags ++ numbers ++ names
 
-pub accepted : sheet_fault 3 cols sheet ≡ Pass
+pub accepted : sheet_fault 3 cols sheet ≡ Ok tt
 unfolding sheet_fault
 accepted = refl
 
@@ -78,44 +78,44 @@ pub ninth_row : sheet_slots 9 (of Bool ∷ []) (255 ∷ 1 ∷ 0 ∷ 1 ∷ [])
 ninth_row = refl
 
 -- 7 and 8: validity before values, in column order
-pub bits_refused : (sheet_fault 9 cols (255 ∷ []) ≡ Refuse (ColumnCut 0))
-    × (sheet_fault 9 cols (255 ∷ 2 ∷ []) ≡ Refuse (SpareBit 0))
-    × (sheet_fault 3 cols (7 ∷ []) ≡ Refuse (ColumnCut 0))
-    × (sheet_fault 3 cols (7 ∷ 8 ∷ []) ≡ Refuse (SpareBit 0))
-    × (sheet_fault 3 cols (flags ++ 8 ∷ []) ≡ Refuse (SpareBit 1))
-    × (sheet_fault 3 cols (flags ++ 7 ∷ 0 ∷ []) ≡ Refuse (ColumnCut 1))
+pub bits_refused : (sheet_fault 9 cols (255 ∷ []) ≡ Err (ColumnCut 0))
+    × (sheet_fault 9 cols (255 ∷ 2 ∷ []) ≡ Err (SpareBit 0))
+    × (sheet_fault 3 cols (7 ∷ []) ≡ Err (ColumnCut 0))
+    × (sheet_fault 3 cols (7 ∷ 8 ∷ []) ≡ Err (SpareBit 0))
+    × (sheet_fault 3 cols (flags ++ 8 ∷ []) ≡ Err (SpareBit 1))
+    × (sheet_fault 3 cols (flags ++ 7 ∷ 0 ∷ []) ≡ Err (ColumnCut 1))
 unfolding sheet_fault
 bits_refused = (refl, refl, refl, refl, refl, refl)
 
 -- 27, at the first null row: after the spare bits, before the values
-pub missing_refused : (sheet_fault 3 (must Bool ∷ []) (0b1101 ∷ []) ≡ Refuse (SpareBit 0))
-    × (sheet_fault 3 (must Bool ∷ []) (0b001 ∷ []) ≡ Refuse (Missing 0 1))
-    × (sheet_fault 3 (must Bool ∷ []) (0b111 ∷ []) ≡ Refuse (ColumnCut 0))
-    × (sheet_fault 3 (of Bool ∷ must I16 ∷ []) (flags ++ numbers) ≡ Refuse (Missing 1 1))
-    × (sheet_fault 0 (must I16 ∷ []) [] ≡ Pass)
+pub missing_refused : (sheet_fault 3 (must Bool ∷ []) (0b1101 ∷ []) ≡ Err (SpareBit 0))
+    × (sheet_fault 3 (must Bool ∷ []) (0b001 ∷ []) ≡ Err (Missing 0 1))
+    × (sheet_fault 3 (must Bool ∷ []) (0b111 ∷ []) ≡ Err (ColumnCut 0))
+    × (sheet_fault 3 (of Bool ∷ must I16 ∷ []) (flags ++ numbers) ≡ Err (Missing 1 1))
+    × (sheet_fault 0 (must I16 ∷ []) [] ≡ Ok tt)
 unfolding sheet_fault
 missing_refused = (refl, refl, refl, refl, refl)
 
 -- ends cut 7, then row by row 9 and 10, then bytes 7
-pub ends_refused : (sheet_fault 1 (of Variable ∷ []) (1 ∷ 1 ∷ 0 ∷ 0 ∷ 0 ∷ []) ≡ Refuse (ColumnCut 0))
-    × (sheet_fault 1 (of Variable ∷ []) (1 ∷ 2 ∷ 0 ∷ 0 ∷ 0 ∷ 1 ∷ 0 ∷ 0 ∷ 0 ∷ 97 ∷ []) ≡ Refuse (Ends 0 0))
-    × (sheet_fault 2 (of Variable ∷ []) (3 ∷ 0 ∷ 0 ∷ 0 ∷ 0 ∷ 2 ∷ 0 ∷ 0 ∷ 0 ∷ 1 ∷ 0 ∷ 0 ∷ 0 ∷ 97 ∷ 97 ∷ []) ≡ Refuse (Ends 0 1))
-    × (sheet_fault 2 (of Variable ∷ []) (0 ∷ 0 ∷ 0 ∷ 0 ∷ 0 ∷ 0 ∷ 0 ∷ 1 ∷ 0 ∷ 0 ∷ 0 ∷ 0 ∷ 0 ∷ []) ≡ Refuse (LongSlot 0 0))
-    × (sheet_fault 1 (of Variable ∷ []) (1 ∷ 0 ∷ 0 ∷ 0 ∷ 0 ∷ 255 ∷ 255 ∷ 0 ∷ 0 ∷ 97 ∷ []) ≡ Refuse (ColumnCut 0))
+pub ends_refused : (sheet_fault 1 (of Variable ∷ []) (1 ∷ 1 ∷ 0 ∷ 0 ∷ 0 ∷ []) ≡ Err (ColumnCut 0))
+    × (sheet_fault 1 (of Variable ∷ []) (1 ∷ 2 ∷ 0 ∷ 0 ∷ 0 ∷ 1 ∷ 0 ∷ 0 ∷ 0 ∷ 97 ∷ []) ≡ Err (Ends 0 0))
+    × (sheet_fault 2 (of Variable ∷ []) (3 ∷ 0 ∷ 0 ∷ 0 ∷ 0 ∷ 2 ∷ 0 ∷ 0 ∷ 0 ∷ 1 ∷ 0 ∷ 0 ∷ 0 ∷ 97 ∷ 97 ∷ []) ≡ Err (Ends 0 1))
+    × (sheet_fault 2 (of Variable ∷ []) (0 ∷ 0 ∷ 0 ∷ 0 ∷ 0 ∷ 0 ∷ 0 ∷ 1 ∷ 0 ∷ 0 ∷ 0 ∷ 0 ∷ 0 ∷ []) ≡ Err (LongSlot 0 0))
+    × (sheet_fault 1 (of Variable ∷ []) (1 ∷ 0 ∷ 0 ∷ 0 ∷ 0 ∷ 255 ∷ 255 ∷ 0 ∷ 0 ∷ 97 ∷ []) ≡ Err (ColumnCut 0))
 unfolding sheet_fault
 ends_refused = (refl, refl, refl, refl, refl)
 
 -- a sliced column: its first end is 2, and the two bytes before it mean nothing
-pub sliced : (sheet_fault 2 (of Variable ∷ []) (3 ∷ 2 ∷ 0 ∷ 0 ∷ 0 ∷ 3 ∷ 0 ∷ 0 ∷ 0 ∷ 3 ∷ 0 ∷ 0 ∷ 0 ∷ 9 ∷ 9 ∷ 97 ∷ []) ≡ Pass)
+pub sliced : (sheet_fault 2 (of Variable ∷ []) (3 ∷ 2 ∷ 0 ∷ 0 ∷ 0 ∷ 3 ∷ 0 ∷ 0 ∷ 0 ∷ 3 ∷ 0 ∷ 0 ∷ 0 ∷ 9 ∷ 9 ∷ 97 ∷ []) ≡ Ok tt)
     × (sheet_slots 2 (of Variable ∷ []) (3 ∷ 2 ∷ 0 ∷ 0 ∷ 0 ∷ 3 ∷ 0 ∷ 0 ∷ 0 ∷ 3 ∷ 0 ∷ 0 ∷ 0 ∷ 9 ∷ 9 ∷ 97 ∷ []) ≡ (some (97 ∷ []) ∷ some [] ∷ []) ∷ [])
-    × (sheet_fault 0 (of Variable ∷ []) (1 ∷ 0 ∷ 0 ∷ 0 ∷ 9 ∷ []) ≡ Pass)
-    × (sheet_fault 0 (of Variable ∷ []) (2 ∷ 0 ∷ 0 ∷ 0 ∷ 9 ∷ []) ≡ Refuse (ColumnCut 0))
+    × (sheet_fault 0 (of Variable ∷ []) (1 ∷ 0 ∷ 0 ∷ 0 ∷ 9 ∷ []) ≡ Ok tt)
+    × (sheet_fault 0 (of Variable ∷ []) (2 ∷ 0 ∷ 0 ∷ 0 ∷ 9 ∷ []) ≡ Err (ColumnCut 0))
 unfolding sheet_fault
 sliced = (refl, refl, refl, refl)
 
 -- 11, at its place in the sheet; no rows leave one end
-pub after_refused : (sheet_fault 3 cols (sheet ++ 0 ∷ []) ≡ Refuse (BytesAfter 29))
-    × (sheet_fault 0 (of Variable ∷ []) (0 ∷ 0 ∷ 0 ∷ 0 ∷ []) ≡ Pass)
-    × (sheet_fault 0 cols [] ≡ Refuse (ColumnCut 2))
+pub after_refused : (sheet_fault 3 cols (sheet ++ 0 ∷ []) ≡ Err (BytesAfter 29))
+    × (sheet_fault 0 (of Variable ∷ []) (0 ∷ 0 ∷ 0 ∷ 0 ∷ []) ≡ Ok tt)
+    × (sheet_fault 0 cols [] ≡ Err (ColumnCut 2))
 unfolding sheet_fault
 after_refused = (refl, refl, refl)

@@ -3,12 +3,10 @@ use Prim.Native.Nat.Ordering.{eq}
 use Prim.Native.Nat.Ordering.{gt}
 use Prim.Native.Nat.Ordering.{lt}
 use Prim.Native.Nat.{ℕ, suc, Ordering}
-use Rattle.std.specs.Prelude.{Bool, true, false, List, [], ◌∷◌}
+use Rattle.std.specs.Prelude.{Bool, true, false, List, [], ◌∷◌, Ok}
 use Rattle.format.specs.declared.Column.{Column}
-use Rattle.format.specs.declared.Check.{Check}
-use Rattle.format.specs.declared.Check.TheVariants.{Pass}
+use Rattle.format.specs.Check.{Check, both, fail_if}
 use Rattle.format.specs.declared.Refusal.TheVariants.{OutOfOrder}
-use Rattle.format.specs.Check.{both, fail_if}
 use Rattle.format.specs.Order.{cmp}
 use Rattle.format.specs.Read.{rows_fault}
 use Rattle.format.specs.Entries.{row_count_fault, offsets_fault, cut_rows}
@@ -24,12 +22,12 @@ below a b = is_below (cmp a b)
 
 -- x is row r of pass p, and the others follow it
 abbrev pub order_from : ℕ → ℕ → List ℕ → List (List ℕ) → Check
-order_from p r x [] = Pass
+order_from p r x [] = Ok tt
 order_from p r x (y ∷ ys) = fail_if (below y x) (OutOfOrder p (suc r)) (order_from p (suc r) y ys)
 
 -- 26: the first row below its predecessor
 abbrev pub order_fault : ℕ → List (List ℕ) → Check
-order_fault p [] = Pass
+order_fault p [] = Ok tt
 order_fault p (x ∷ xs) = order_from p 0 x xs
 
 -- pass p of n rows: 6, 14, 15, 12, 26

@@ -3,13 +3,11 @@ use Prim.Native.Nat.Ordering.{eq}
 use Prim.Native.Nat.Ordering.{gt}
 use Prim.Native.Nat.Ordering.{lt}
 use Prim.Native.Nat.{ℕ, zero, suc, ◌+◌, ◌*◌, ◌/◌, Ordering}
-use Rattle.std.specs.Prelude.{List, ltb, leb, length, get_or}
+use Rattle.std.specs.Prelude.{List, ltb, leb, length, get_or, Ok}
 use Rattle.format.specs.declared.Column.{Column}
-use Rattle.format.specs.declared.Answer.{Answer}
-use Rattle.format.specs.declared.Check.{Check}
-use Rattle.format.specs.declared.Check.TheVariants.{Pass}
+use Rattle.format.specs.Numbers.{Answer}
+use Rattle.format.specs.Check.{Check, both, fail_if}
 use Rattle.format.specs.declared.Refusal.TheVariants.{SheetRow, OffsetRoom}
-use Rattle.format.specs.Check.{both, fail_if}
 use Rattle.format.specs.Lists.{each}
 use Rattle.format.specs.Described.{ColumnList, list_fault, columns}
 use Rattle.format.specs.Sheet.{sheet_fault}
@@ -39,7 +37,7 @@ sheets_fault list n₀ sheet₀ n₁ sheet₁ =
 
 -- 32: a row number past its sheet, sheet 0 before sheet 1
 abbrev pub sheet_row_fault : ℕ → ℕ → ℕ → Check
-sheet_row_fault i r n = fail_if (leb n r) (SheetRow i r) Pass
+sheet_row_fault i r n = fail_if (leb n r) (SheetRow i r) (Ok tt)
 
 abbrev pub pair_fault : ℕ → ℕ → ℕ → ℕ → Check
 pair_fault n₀ r₀ n₁ r₁ = both (sheet_row_fault 0 r₀ n₀) (sheet_row_fault 1 r₁ n₁)
@@ -69,7 +67,7 @@ second_row rows k = get_or rows (2 * k + 1) 0
 
 -- the first pair at fault, of k pairs from pair i on
 abbrev pub pairs_fault : ℕ → ℕ → List ℕ → ℕ → ℕ → Check
-pairs_fault n₀ n₁ rows i zero = Pass
+pairs_fault n₀ n₁ rows i zero = Ok tt
 pairs_fault n₀ n₁ rows i (suc k) = both (pair_fault n₀ (first_row rows i) n₁ (second_row rows i)) (pairs_fault n₀ n₁ rows (suc i) k)
 
 -- the list and the sheets, then 32, then 14 of the answers
@@ -78,7 +76,7 @@ compare_pairs_check list n₀ sheet₀ n₁ sheet₁ rows room =
     both (sheets_fault list n₀ sheet₀ n₁ sheet₁)
     (both (pairs_fault n₀ n₁ rows 0 (pair_count rows))
     (fail_if (ltb room (pair_count rows)) (OffsetRoom (pair_count rows))
-    Pass))
+    (Ok tt)))
 
 -- success: the pairs, 0
 unfoldable pub compare_pairs_answer : ColumnList → ℕ → List ℕ → ℕ → List ℕ → List ℕ → ℕ → Answer

@@ -1,19 +1,17 @@
 -- The row cutter: rows joined, with no offsets, in pieces cut anywhere. What one byte does to the state; a piece is its bytes, one by one.
-use Rattle.std.specs.Prelude.{ℕ, zero, suc, ◌+◌, ◌-◌, ◌*◌, ◌/◌, ◌%◌, ◌^◌, cond, not, ◌||◌, List, [], ◌∷◌, ◌++◌, reverse, ltb, eqb, length}
+use Rattle.std.specs.Prelude.{ℕ, zero, suc, ◌+◌, ◌-◌, ◌*◌, ◌/◌, ◌%◌, ◌^◌, cond, not, ◌||◌, List, [], ◌∷◌, ◌++◌, reverse, ltb, eqb, length, Ok, Err}
 use Rattle.format.specs.declared.SortOptions.{SortOptions}
 use Rattle.format.specs.declared.Column.{Column}
 use Rattle.format.specs.declared.RowFault.{RowFault}
 use Rattle.format.specs.declared.RowFault.TheVariants.{Cut, Lead, NullRest, BoolByte, EndByte, Padding, TooLong, Unfolded}
 use Rattle.format.specs.declared.Refusal.{Refusal}
 use Rattle.format.specs.declared.Refusal.TheVariants.{ManyBytes, OffsetRoom, Row, BrokenState}
-use Rattle.format.specs.declared.Check.{Check}
-use Rattle.format.specs.declared.Check.TheVariants.{Pass, Refuse}
-use Rattle.format.specs.declared.Answer.{Answer}
+use Rattle.format.specs.Check.{Check, both, fail_if}
+use Rattle.format.specs.Numbers.{Answer}
 use Rattle.format.specs.declared.Spot.{Spot}
 use Rattle.format.specs.declared.Spot.TheVariants.{Start, Nulls, Value, Block}
 use Rattle.format.specs.declared.Cutter.{Cutter}
 use Rattle.format.specs.Limits.{max_slot, max_total}
-use Rattle.format.specs.Check.{both, fail_if}
 use Rattle.format.specs.Lists.{low_bytes}
 use Rattle.format.specs.Kinds.{Fixed, Shape, fixed, variable, width, column_shape}
 use Rattle.format.specs.Described.{ColumnList, list_fault, columns}
@@ -116,7 +114,7 @@ move (fixed k) o (Block i seen marks) at b = bad Lead at
 
 -- a refused state holds its refusal and nothing else
 abbrev pub refused : Refusal → Cutter
-refused r = record { schema = schema_of []; refusal = Refuse r; rows = 0; bytes = 0; row = 0; column = 0; spot = Start }
+refused r = record { schema = schema_of []; refusal = Err r; rows = 0; bytes = 0; row = 0; column = 0; spot = Start }
 
 -- n bytes more of the same row, which stands in column c
 abbrev pub further : Cutter → ℕ → ℕ → Spot → Cutter
@@ -147,8 +145,8 @@ taken s b = cond (ltb s.bytes max_total) (moved s (move_in s b)) (refused (ManyB
 
 -- a refusal stands
 abbrev pub unless : Check → Cutter → Cutter → Cutter
-unless Pass s t = t
-unless (Refuse r) s t = s
+unless (Ok tt) s t = t
+unless (Err r) s t = s
 
 abbrev pub step : Cutter → ℕ → Cutter
 step s b = unless s.refusal s (taken s b)
@@ -173,12 +171,12 @@ ends_in s (b ∷ bs) = new_end s (step s b) ++ ends_in (step s b) bs
 
 -- before the first byte
 abbrev pub begun : List Column → Cutter
-begun cols = record { schema = schema_of cols; refusal = Pass; rows = 0; bytes = 0; row = 0; column = 0; spot = Start }
+begun cols = record { schema = schema_of cols; refusal = Ok tt; rows = 0; bytes = 0; row = 0; column = 0; spot = Start }
 
 -- from what the list check says, and the columns
 abbrev pub started_with : Check → List Column → Cutter
-started_with Pass cols = begun cols
-started_with (Refuse r) cols = refused r
+started_with (Ok tt) cols = begun cols
+started_with (Err r) cols = refused r
 
 -- answers as the list check
 unfoldable pub start_answer : ColumnList → Answer
@@ -195,7 +193,7 @@ cut_fault s size room =
     fail_if (not (keeps s)) BrokenState
     (both s.refusal
     (fail_if (ltb room size) (OffsetRoom size)
-    Pass))
+    (Ok tt)))
 
 -- then 12 and row faults; success: ends written, 0
 unfoldable pub cut_answer : Cutter → List ℕ → ℕ → Answer
@@ -213,7 +211,7 @@ cut_ends s piece ends = written (cut_fault s (length piece) (length ends)) (ends
 
 -- what stands, or 16 within a row, at the first byte missing
 abbrev pub finish_fault : Cutter → Check
-finish_fault s = both s.refusal (fail_if (ltb 0 s.row) (Row Cut s.rows s.column s.row) Pass)
+finish_fault s = both s.refusal (fail_if (ltb 0 s.row) (Row Cut s.rows s.column s.row) (Ok tt))
 
 -- 33 before these; success: rows in all, 0
 unfoldable pub finish_answer : Cutter → Answer

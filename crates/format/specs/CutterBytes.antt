@@ -1,12 +1,10 @@
 -- A row cutter's state as lent bytes: thirteen numbers of eight bytes, low byte first, and four bytes for each column that there may be.
 -- Then the cutter's C entries.
-use Rattle.std.specs.Prelude.{ℕ, ◌+◌, ◌-◌, ◌*◌, ◌/◌, Bool, true, false, cond, ◌&&◌, List, [], ◌∷◌, ◌++◌, ltb, leb, eqb, length, get_or, take, drop, replicate}
+use Rattle.std.specs.Prelude.{ℕ, ◌+◌, ◌-◌, ◌*◌, ◌/◌, Bool, true, false, cond, ◌&&◌, List, [], ◌∷◌, ◌++◌, ltb, leb, eqb, length, get_or, take, drop, replicate, Ok, Err}
 use Rattle.format.specs.declared.Column.{Column}
 use Rattle.format.specs.declared.RowFault.TheVariants.{Lead, NullRest, BoolByte, EndByte, Padding, TooLong, Unfolded}
 use Rattle.format.specs.declared.Refusal.TheVariants.{ListCut, UnknownKind, OptionBits, Width, ManyColumns, ManyBytes, Row, BrokenState}
-use Rattle.format.specs.declared.Check.{Check}
-use Rattle.format.specs.declared.Check.TheVariants.{Pass, Refuse}
-use Rattle.format.specs.declared.Answer.TheVariants.{Refused}
+use Rattle.format.specs.Check.{Check}
 use Rattle.format.specs.declared.Returned.{Returned}
 use Rattle.format.specs.declared.Spot.{Spot}
 use Rattle.format.specs.declared.Spot.TheVariants.{Start, Nulls, Value, Block}
@@ -24,8 +22,8 @@ use Rattle.format.specs.Cutter.{begun, start_answer, start_state, cut_answer, cu
 
 -- numbers 0 to 3 are those of the refusal that stands, or 0
 abbrev pub check_numbers : Check → Returned
-check_numbers Pass = three 0 0 0
-check_numbers (Refuse r) = refusal_numbers r
+check_numbers (Ok tt) = three 0 0 0
+check_numbers (Err r) = refusal_numbers r
 
 -- numbers 8 to 11: before a lead byte 0; after a fixed null's 1, seen, the bad place; after a fixed value's 2, seen, what they spell; in
 -- a block 3, its number, seen, marks
@@ -59,21 +57,21 @@ state_size = numbers_size + 4 * max_columns
 -- the refusal of four numbers; any that a state cannot hold breaks the rule
 abbrev pub check_of : ℕ → ℕ → ℕ → ℕ → Check
 check_of a b c d =
-    cond (eqb a 0) Pass
-    (cond (eqb a 1) (Refuse (ListCut b))
-    (cond (eqb a 2) (Refuse (UnknownKind b))
-    (cond (eqb a 3) (Refuse (OptionBits b))
-    (cond (eqb a 4) (Refuse (Width b))
-    (cond (eqb a 5) (Refuse (ManyColumns b))
-    (cond (eqb a 12) (Refuse (ManyBytes b c))
-    (cond (eqb a 17) (Refuse (Row Lead b c d))
-    (cond (eqb a 18) (Refuse (Row NullRest b c d))
-    (cond (eqb a 19) (Refuse (Row BoolByte b c d))
-    (cond (eqb a 20) (Refuse (Row EndByte b c d))
-    (cond (eqb a 21) (Refuse (Row Padding b c d))
-    (cond (eqb a 23) (Refuse (Row TooLong b c d))
-    (cond (eqb a 28) (Refuse (Row Unfolded b c d))
-    (Refuse BrokenState))))))))))))))
+    cond (eqb a 0) (Ok tt)
+    (cond (eqb a 1) (Err (ListCut b))
+    (cond (eqb a 2) (Err (UnknownKind b))
+    (cond (eqb a 3) (Err (OptionBits b))
+    (cond (eqb a 4) (Err (Width b))
+    (cond (eqb a 5) (Err (ManyColumns b))
+    (cond (eqb a 12) (Err (ManyBytes b c))
+    (cond (eqb a 17) (Err (Row Lead b c d))
+    (cond (eqb a 18) (Err (Row NullRest b c d))
+    (cond (eqb a 19) (Err (Row BoolByte b c d))
+    (cond (eqb a 20) (Err (Row EndByte b c d))
+    (cond (eqb a 21) (Err (Row Padding b c d))
+    (cond (eqb a 23) (Err (Row TooLong b c d))
+    (cond (eqb a 28) (Err (Row Unfolded b c d))
+    (Err BrokenState))))))))))))))
 
 abbrev pub spot_of : ℕ → ℕ → ℕ → ℕ → Spot
 spot_of p a b c =
@@ -127,7 +125,7 @@ lent_state s = cond (lent_keeps s) (state_of (take state_size s)) (begun [])
 
 -- station_cutter_start: a lent state that is too short is 33, and stays
 unfoldable pub lent_start : ColumnList → List ℕ → List ℕ → List ℕ
-lent_start list state lent = answer_bytes (cond (no_room state) (Refused BrokenState) (start_answer list)) lent
+lent_start list state lent = answer_bytes (cond (no_room state) (Err BrokenState) (start_answer list)) lent
 
 -- the state is written on a list fault too
 unfoldable pub lent_start_state : ColumnList → List ℕ → List ℕ → List ℕ

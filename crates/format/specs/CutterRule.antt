@@ -1,9 +1,8 @@
 -- The rule on a row cutter's state: what every state from a start or a call keeps. A state that keeps it is taken at its word.
-use Rattle.std.specs.Prelude.{ℕ, suc, ◌+◌, ◌-◌, ◌*◌, ◌^◌, Bool, true, false, cond, not, ◌&&◌, ◌||◌, List, [], ◌∷◌, ltb, leb, eqb, get_or, take}
+use Rattle.std.specs.Prelude.{ℕ, suc, ◌+◌, ◌-◌, ◌*◌, ◌^◌, Bool, true, false, cond, not, ◌&&◌, ◌||◌, List, [], ◌∷◌, ltb, leb, eqb, get_or, take, Ok, Err}
 use Rattle.format.specs.declared.Column.{Column}
 use Rattle.format.specs.declared.Schema.{Schema}
-use Rattle.format.specs.declared.Check.{Check}
-use Rattle.format.specs.declared.Check.TheVariants.{Pass, Refuse}
+use Rattle.format.specs.Check.{Check}
 use Rattle.format.specs.declared.Returned.{Returned}
 use Rattle.format.specs.declared.Spot.{Spot}
 use Rattle.format.specs.declared.Spot.TheVariants.{Start, Nulls, Value, Block}
@@ -128,8 +127,8 @@ emptied s = eqb (s.schema.count + s.rows + s.bytes + s.row + s.column) 0 && at_s
 -- ---- the rule
 
 abbrev pub keeps_with : Check → Cutter → Bool
-keeps_with Pass s = standing_kept s
-keeps_with (Refuse r) s = emptied s && numbers_kept (refusal_numbers r)
+keeps_with (Ok tt) s = standing_kept s
+keeps_with (Err r) s = emptied s && numbers_kept (refusal_numbers r)
 
 unfoldable pub keeps : Cutter → Bool
 keeps s = keeps_with s.refusal s

@@ -1,15 +1,13 @@
 -- Column descriptions that the caller lends: read from a list in bytes, or made by the caller. They are held as columns, or coded in
 -- four bytes each.
-use Rattle.std.specs.Prelude.{ℕ, zero, suc, ◌+◌, ◌*◌, ◌/◌, false, cond, List, [], ◌∷◌, map, eqb, length, get_or}
+use Rattle.std.specs.Prelude.{ℕ, zero, suc, ◌+◌, ◌*◌, ◌/◌, false, cond, List, [], ◌∷◌, map, eqb, length, get_or, Ok, Err}
 use Rattle.format.specs.declared.Kind.{Kind}
 use Rattle.format.specs.declared.Kind.TheVariants.{Bool, I8, I16, I32, I64, U8, U16, U32, U64, F16, F32, F64, DayTime, MonthDayNano, FixedBinary, Variable, I128, I256}
 use Rattle.format.specs.declared.SortOptions.{SortOptions}
 use Rattle.format.specs.declared.Column.{Column}
-use Rattle.format.specs.declared.Check.{Check}
-use Rattle.format.specs.declared.Check.TheVariants.{Pass, Refuse}
+use Rattle.format.specs.Check.{Check, both, fail_if}
 use Rattle.format.specs.declared.Refusal.TheVariants.{ListCut, ManyColumns}
 use Rattle.format.specs.Limits.{max_columns}
-use Rattle.format.specs.Check.{both, fail_if}
 use Rattle.format.specs.Lists.{each, joined, low_bytes}
 use Rattle.format.specs.Kinds.{value_bytes}
 use Rattle.format.specs.Columns.{kind_of, options_of, numbers_fault, spelled_fault, spelled_columns}
@@ -83,8 +81,8 @@ held_fault i d = numbers_fault i d.kind false d.options d.width
 
 -- left to right from index i on, with room for so many more: at each 5, then its own faults
 abbrev pub descriptions_fault_from : ℕ → ℕ → List Description → Check
-descriptions_fault_from room i [] = Pass
-descriptions_fault_from zero i (d ∷ ds) = Refuse (ManyColumns i)
+descriptions_fault_from room i [] = Ok tt
+descriptions_fault_from zero i (d ∷ ds) = Err (ManyColumns i)
 descriptions_fault_from (suc room) i (d ∷ ds) = both (held_fault i d) (descriptions_fault_from room (suc i) ds)
 
 -- refusals 1 to 5 of lent descriptions; none lent is 1 at place 0

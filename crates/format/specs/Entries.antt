@@ -3,15 +3,12 @@ use Prim.Native.Nat.Ordering.{eq}
 use Prim.Native.Nat.Ordering.{gt}
 use Prim.Native.Nat.Ordering.{lt}
 use Prim.Native.Nat.{ℕ, zero, suc, ◌-◌, Ordering}
-use Rattle.std.specs.Prelude.{not, List, map, ltb, eqb, ℤ, pos, negsuc, length, get_or, take, drop}
+use Rattle.std.specs.Prelude.{not, List, map, ltb, eqb, ℤ, pos, negsuc, length, get_or, take, drop, Ok, Err}
 use Rattle.format.specs.declared.Column.{Column}
-use Rattle.format.specs.declared.Answer.{Answer}
-use Rattle.format.specs.declared.Answer.TheVariants.{Done, Refused}
-use Rattle.format.specs.declared.Check.{Check}
-use Rattle.format.specs.declared.Check.TheVariants.{Pass, Refuse}
+use Rattle.format.specs.Numbers.{Answer}
+use Rattle.format.specs.Check.{Check, both, fail_if}
 use Rattle.format.specs.declared.Refusal.TheVariants.{ManyRows, ManyBytes, RowRoom, OffsetRoom, Offsets, SheetRoom, ColumnRoom}
 use Rattle.format.specs.Limits.{max_rows, max_total}
-use Rattle.format.specs.Check.{both, fail_if}
 use Rattle.format.specs.Lists.{each, joined, ends_from, over, sum}
 use Rattle.format.specs.Kinds.{Slot, column_shape}
 use Rattle.format.specs.Columns.{spelled_fault, spelled_columns}
@@ -25,25 +22,25 @@ use Rattle.format.specs.Read.{rows_fault, row_slots}
 
 -- the answer to a check: the two numbers of a success, or the refusal
 abbrev pub answer : Check → ℕ → ℕ → Answer
-answer Pass a b = Done a b
-answer (Refuse r) a b = Refused r
+answer (Ok tt) a b = Ok (a, b)
+answer (Err r) a b = Err r
 
 -- a lent buffer at exit: a success writes in front, what is past the written part stays, and a refusal writes nothing
 abbrev pub written : {A : Type 0} → Check → List A → List A → List A
-written Pass new old = over new old
-written (Refuse r) new old = old
+written (Ok tt) new old = over new old
+written (Err r) new old = old
 
 -- 6
 abbrev pub row_count_fault : ℕ → Check
-row_count_fault n = fail_if (ltb max_rows n) (ManyRows n) Pass
+row_count_fault n = fail_if (ltb max_rows n) (ManyRows n) (Ok tt)
 
 -- 12
 abbrev pub total_fault : ℕ → Check
-total_fault total = fail_if (ltb max_total total) (ManyBytes total 0) Pass
+total_fault total = fail_if (ltb max_total total) (ManyBytes total 0) (Ok tt)
 
 -- 14
 abbrev pub offset_room_fault : ℕ → ℕ → Check
-offset_room_fault n room = fail_if (ltb room (suc n)) (OffsetRoom (suc n)) Pass
+offset_room_fault n room = fail_if (ltb room (suc n)) (OffsetRoom (suc n)) (Ok tt)
 
 -- ---- check_list and read_list
 
@@ -56,7 +53,7 @@ unfoldable pub read_list_check : List ℕ → ℕ → Check
 read_list_check list room =
     both (spelled_fault list)
     (fail_if (ltb room (length (spelled_columns list))) (ColumnRoom (length (spelled_columns list)))
-    Pass)
+    (Ok tt))
 
 -- success: as check_list
 unfoldable pub read_list_answer : List ℕ → ℕ → Answer
@@ -122,7 +119,7 @@ encode_offsets list n sheet row_room offsets =
 
 -- falling in order: offsets i + 1 to i + k
 abbrev pub fall_fault : List ℕ → ℕ → ℕ → Check
-fall_fault offsets i zero = Pass
+fall_fault offsets i zero = Ok tt
 fall_fault offsets i (suc k) =
     fail_if (ltb (get_or offsets (suc i) 0) (get_or offsets i 0)) (Offsets (suc i)) (fall_fault offsets (suc i) k)
 
@@ -160,7 +157,7 @@ decode_check list n bytes offsets sheetRoom =
     (both (rows_fault 0 (columns list) (cut_rows n bytes offsets))
     (fail_if (ltb sheetRoom (length (decoded_sheet n (columns list) (cut_rows n bytes offsets))))
     (SheetRoom (length (decoded_sheet n (columns list) (cut_rows n bytes offsets))))
-    Pass))))
+    (Ok tt)))))
 
 -- success: sheet bytes and the null total
 unfoldable pub decode_answer : ColumnList → ℕ → List ℕ → List ℕ → ℕ → Answer

@@ -1,12 +1,11 @@
 -- The C entries: the same answers on lent bytes. Offsets, the order and the answer are eight bytes a number, low byte first; a
 -- description is four bytes.
 use Rattle.std.specs.Prelude.{ℕ, ◌*◌, ◌/◌, cond, List, [], ◌∷◌, map, ltb, length, take, drop}
-use Rattle.format.specs.declared.Answer.{Answer}
+use Rattle.format.specs.Numbers.{Answer, numbers_of}
 use Rattle.format.specs.declared.Returned.{Returned}
 use Rattle.format.specs.Lists.{each, joined, over, low, low_bytes}
 use Rattle.format.specs.Columns.{spelled_columns}
 use Rattle.format.specs.Described.{ColumnList, codes}
-use Rattle.format.specs.Numbers.{numbers_of}
 use Rattle.format.specs.Entries.{written, check_list_answer, read_list_check, read_list_answer, measure_answer, encode_answer, encode_rows, encode_offsets, decode_answer, decode_sheet}
 use Rattle.format.specs.Join.{join_answer, join_list}
 use Rattle.format.specs.Lookup.{lookup_answer}

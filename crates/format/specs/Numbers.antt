@@ -1,12 +1,14 @@
 -- The numbers returned: this paper's number and values for each answer.
-use Rattle.std.specs.Prelude.{ℕ, Bool, ◌&&◌, ◌||◌, leb, eqb}
+use Rattle.std.specs.Prelude.{ℕ, Bool, ◌&&◌, ◌||◌, leb, eqb, Result, Ok, Err}
 use Rattle.format.specs.declared.RowFault.{RowFault}
 use Rattle.format.specs.declared.RowFault.TheVariants.{Cut, Lead, NullRest, BoolByte, EndByte, Padding, Extra, TooLong, Unfolded}
 use Rattle.format.specs.declared.Refusal.{Refusal}
 use Rattle.format.specs.declared.Refusal.TheVariants.{ListCut, UnknownKind, OptionBits, Width, ManyColumns, ManyRows, ColumnCut, SpareBit, Ends, LongSlot, BytesAfter, ManyBytes, RowRoom, OffsetRoom, Offsets, Row, SheetRoom, Input, OutOfOrder, Missing, ColumnRoom, KeyColumns, SheetRow, BrokenState}
-use Rattle.format.specs.declared.Answer.{Answer}
-use Rattle.format.specs.declared.Answer.TheVariants.{Done, Refused}
 use Rattle.format.specs.declared.Returned.{Returned}
+
+-- what an entry answers: the second and third number of a success, or the refusal
+abbrev pub Answer : Type 0
+Answer = Result (ℕ × ℕ) Refusal
 
 abbrev pub four : ℕ → ℕ → ℕ → ℕ → Returned
 four a b c d = record { 0 = a; 1 = b; 2 = c; 3 = d }
@@ -58,5 +60,5 @@ abbrev pub by_content : Refusal → Bool
 by_content r = (leb 16 (refusal_numbers r).0 && leb (refusal_numbers r).0 23) || eqb (refusal_numbers r).0 28
 
 abbrev pub numbers_of : Answer → Returned
-numbers_of (Done a b) = three 0 a b
-numbers_of (Refused r) = refusal_numbers r
+numbers_of (Ok (a, b)) = three 0 a b
+numbers_of (Err r) = refusal_numbers r

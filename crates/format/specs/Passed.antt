@@ -1,15 +1,14 @@
 -- What is known of what passed a check: of the ends of variable bytes, of a column at its place, of offsets.
-use Rattle.std.specs.Prelude.{ℕ, suc, ◌+◌, ◌-◌, ◌*◌, ◌<◌, ◌≤◌, ◌≡◌, List, length, get_or, drop}
+use Rattle.std.specs.Prelude.{ℕ, suc, ◌+◌, ◌-◌, ◌*◌, ◌<◌, ◌≤◌, ◌≡◌, List, length, get_or, drop, Ok}
 use Rattle.format.specs.declared.Column.{Column}
-use Rattle.format.specs.declared.Check.{Check}
-use Rattle.format.specs.declared.Check.TheVariants.{Pass}
+use Rattle.format.specs.Check.{Check}
 use Rattle.format.specs.Limits.{max_slot, max_total}
 use Rattle.format.specs.Sheet.{layout, end, column_fault, column_bytes}
 
 -- a check of a column passes, whichever number the column has
 pub record Passes (fault : ℕ → Check) : Type 0 where
   pub c : ℕ
-  pub pass : fault c ≡ Pass
+  pub pass : fault c ≡ Ok tt
 
 -- ends j and j + 1 do not fall, and are no further apart than the limit
 pub record Step (s : List ℕ) (j : ℕ) : Type 0 where
@@ -23,7 +22,7 @@ pub record Ended (n : ℕ) (s : List ℕ) : Type 0 where
 
 -- column c passes at its place, and ends within the sheet
 pub record Stands (col : Column) (n c at : ℕ) (s : List ℕ) : Type 0 where
-  pub passes : column_fault col.options.required (layout col) n c (drop at s) ≡ Pass
+  pub passes : column_fault col.options.required (layout col) n c (drop at s) ≡ Ok tt
   pub room : at + column_bytes (layout col) n (drop at s) ≤ length s
 
 -- offsets 0 to n cut rows out of the bytes

@@ -2,10 +2,9 @@
 -- inputs. Equal numbers are equal answers: `numbers-injective` in crate laws.
 use Rattle.std.specs.Prelude.{ℕ, ◌≡◌, List, ℤ, length}
 use Rattle.format.specs.declared.Column.{Column}
-use Rattle.format.specs.declared.Answer.{Answer}
+use Rattle.format.specs.Numbers.{Answer, numbers_of}
 use Rattle.format.specs.declared.Cutter.{Cutter}
 use Rattle.format.specs.Described.{ColumnList}
-use Rattle.format.specs.Numbers.{numbers_of}
 use Rattle.format.specs.Entries.{check_list_answer, read_list_answer, read_list_columns, measure_answer, encode_answer, encode_rows, encode_offsets, decode_answer, decode_sheet, compare_answer}
 use Rattle.format.specs.Join.{join_answer, join_list}
 use Rattle.format.specs.Lookup.{lookup_answer}

@@ -1,5 +1,5 @@
 -- Reading rows back: each field is read from the part of the row that the previous one left.
-use Rattle.std.specs.Prelude.{ℕ, zero, suc, ◌+◌, ◌-◌, Bool, true, cond, not, ◌&&◌, ◌||◌, List, [], ◌∷◌, ◌++◌, ltb, leb, eqb, length, take, drop, get_or}
+use Rattle.std.specs.Prelude.{ℕ, zero, suc, ◌+◌, ◌-◌, Bool, true, cond, not, ◌&&◌, ◌||◌, List, [], ◌∷◌, ◌++◌, ltb, leb, eqb, length, take, drop, get_or, Ok, Err}
 use Rattle.std.proofs.Math.Option.{none, some}
 use Rattle.format.specs.declared.SortOptions.{SortOptions}
 use Rattle.format.specs.declared.Column.{Column}
@@ -7,11 +7,9 @@ use Rattle.format.specs.declared.RowFault.{RowFault}
 use Rattle.format.specs.declared.RowFault.TheVariants.{Cut, Lead, NullRest, BoolByte, EndByte, Padding, Extra, TooLong, Unfolded}
 use Rattle.format.specs.declared.FieldRead.{FieldRead}
 use Rattle.format.specs.declared.FieldRead.TheVariants.{Null, Value, Fault}
-use Rattle.format.specs.declared.Check.{Check}
-use Rattle.format.specs.declared.Check.TheVariants.{Pass, Refuse}
+use Rattle.format.specs.Check.{Check, both}
 use Rattle.format.specs.declared.Refusal.TheVariants.{Row}
 use Rattle.format.specs.Limits.{max_slot}
-use Rattle.format.specs.Check.{both}
 use Rattle.format.specs.Kinds.{Fixed, Shape, fixed, variable, Slot, width, column_shape}
 use Rattle.format.specs.Key.{unkey, allowed}
 use Rattle.format.specs.Fold.{is_folded}
@@ -141,12 +139,12 @@ field_read s (fault f l) = Fault f l
 -- a fault is refused with its row and column and its place in the row of len bytes, and else what follows is judged
 abbrev pub field_check : ℕ → ℕ → ℕ → Parsed Slot → (List ℕ → Check) → Check
 field_check r len c (got s rest) next = next rest
-field_check r len c (fault f l) next = Refuse (Row f r c (len - l))
+field_check r len c (fault f l) next = Err (Row f r c (len - l))
 
 -- row r of len bytes, from column c on; after the last field 22
 abbrev pub row_fault : ℕ → ℕ → ℕ → List Column → List ℕ → Check
-row_fault r len c [] [] = Pass
-row_fault r len c [] (b ∷ s) = Refuse (Row Extra r c (len - suc (length s)))
+row_fault r len c [] [] = Ok tt
+row_fault r len c [] (b ∷ s) = Err (Row Extra r c (len - suc (length s)))
 row_fault r len c (col ∷ cols) s = field_check r len c (read_field (column_shape col) col.options s) (row_fault r len (suc c) cols)
 
 -- the slots of a row that has no fault
@@ -157,5 +155,5 @@ row_slots (col ∷ cols) s =
 
 -- the first fault in row order, then column order: from row r on
 abbrev pub rows_fault : ℕ → List Column → List (List ℕ) → Check
-rows_fault r cols [] = Pass
+rows_fault r cols [] = Ok tt
 rows_fault r cols (b ∷ bs) = both (row_fault r (length b) 0 cols b) (rows_fault (suc r) cols bs)

@@ -1,12 +1,10 @@
 -- The sheet: columns follow one another in list order, each with its validity bytes and then its values, for n rows.
-use Rattle.std.specs.Prelude.{ℕ, zero, suc, ◌+◌, ◌-◌, ◌*◌, ◌/◌, ◌%◌, ◌^◌, Bool, false, cond, ◌&&◌, ◌||◌, List, [], ◌∷◌, map, ltb, eqb, length, get_or, take, drop}
+use Rattle.std.specs.Prelude.{ℕ, zero, suc, ◌+◌, ◌-◌, ◌*◌, ◌/◌, ◌%◌, ◌^◌, Bool, false, cond, ◌&&◌, ◌||◌, List, [], ◌∷◌, map, ltb, eqb, length, get_or, take, drop, Ok}
 use Rattle.std.proofs.Math.Option.{none, some}
 use Rattle.format.specs.declared.Column.{Column}
-use Rattle.format.specs.declared.Check.{Check}
-use Rattle.format.specs.declared.Check.TheVariants.{Pass}
+use Rattle.format.specs.Check.{Check, both, fail_if}
 use Rattle.format.specs.declared.Refusal.TheVariants.{ColumnCut, SpareBit, Ends, LongSlot, BytesAfter, Missing}
 use Rattle.format.specs.Limits.{max_slot}
-use Rattle.format.specs.Check.{both, fail_if}
 use Rattle.format.specs.Lists.{each, low, sum}
 use Rattle.format.specs.Kinds.{bool, plain, number, integer, float, parts, Shape, fixed, variable, Slot, width, column_shape}
 use Rattle.format.specs.Fold.{folded_slot}
@@ -52,7 +50,7 @@ abbrev pub bits_fault : ℕ → ℕ → List ℕ → Check
 bits_fault n c s =
     fail_if (ltb (length s) (packed n)) (ColumnCut c)
     (fail_if (spare_set (take (packed n) s) n) (SpareBit c)
-    Pass)
+    (Ok tt))
 
 -- the first clear bit of the k from i on; i + k where all are set
 abbrev pub first_clear : List ℕ → ℕ → ℕ → ℕ
@@ -61,7 +59,7 @@ first_clear bs i (suc k) = cond (bit bs i) (first_clear bs (suc i) k) i
 
 -- a null in a required column, whose validity bits are in front of s: 27, at the first null row
 abbrev pub required_fault : Bool → ℕ → ℕ → List ℕ → Check
-required_fault required n c s = fail_if (required && ltb (first_clear s 0 n) n) (Missing c (first_clear s 0 n)) Pass
+required_fault required n c s = fail_if (required && ltb (first_clear s 0 n) n) (Missing c (first_clear s 0 n)) (Ok tt)
 
 -- ---- the values of column c, which stand in front of s: what is refused, how many bytes they take, and value i
 
@@ -71,7 +69,7 @@ end s i = low (take 4 (drop (4 * i) s))
 
 -- row by row 9, 10: k rows from row i on
 abbrev pub ends_fault : ℕ → List ℕ → ℕ → ℕ → Check
-ends_fault c s i zero = Pass
+ends_fault c s i zero = Ok tt
 ends_fault c s i (suc k) =
     fail_if (ltb (end s (suc i)) (end s i)) (Ends c i)
     (fail_if (ltb max_slot (end s (suc i) - end s i)) (LongSlot c i)
@@ -83,12 +81,12 @@ variable_fault n c s =
     fail_if (ltb (length s) (4 * suc n)) (ColumnCut c)
     (both (ends_fault c s 0 n)
     (fail_if (ltb (length s) (4 * suc n + end s n)) (ColumnCut c)
-    Pass))
+    (Ok tt)))
 
 -- 7, 8 for bool, 7 for fixed
 abbrev pub values_fault : Layout → ℕ → ℕ → List ℕ → Check
 values_fault bits n c s = bits_fault n c s
-values_fault (wide w) n c s = fail_if (ltb (length s) (n * w)) (ColumnCut c) Pass
+values_fault (wide w) n c s = fail_if (ltb (length s) (n * w)) (ColumnCut c) (Ok tt)
 values_fault ended n c s = variable_fault n c s
 
 -- n + 1 ends, then as many bytes as the last says, those before the first end among them
@@ -133,7 +131,7 @@ column_slots ly n s = each 0 n (slot_at ly n s)
 
 -- column by column, from column c on, which stands at the place `at` and in front of s; at the end 11
 abbrev pub sheet_fault_from : ℕ → ℕ → ℕ → List Column → List ℕ → Check
-sheet_fault_from n c at [] s = fail_if (ltb 0 (length s)) (BytesAfter at) Pass
+sheet_fault_from n c at [] s = fail_if (ltb 0 (length s)) (BytesAfter at) (Ok tt)
 sheet_fault_from n c at (col ∷ cols) s =
     both (column_fault col.options.required (layout col) n c s)
     (sheet_fault_from n (suc c) (at + column_bytes (layout col) n s) cols (drop (column_bytes (layout col) n s) s))

@@ -107,20 +107,6 @@ pub enum Refusal {
     BrokenState,
 }
 
-// What a check answers that gives nothing else.
-#[derive(Clone, Copy)]
-pub enum Check {
-    Pass,
-    Refuse(Refusal),
-}
-
-// What an entry answers: the second and third number of a success, or the refusal.
-#[derive(Clone, Copy)]
-pub enum Answer {
-    Done(u64, u64),
-    Refused(Refusal),
-}
-
 // Where in its field a row cutter stands: before the lead byte; after a fixed null's lead, with the bytes seen and the place in the row
 // of the first that is not zero (0: none yet); after a fixed value's 01, with the bytes seen and, where the column folds, the number
 // that they spell high byte first; in a block, with its number, the bytes of it seen, and a bit for each of those that is not zero.
@@ -137,7 +123,7 @@ pub enum Spot {
 #[derive(Clone, Copy)]
 pub struct Cutter {
     pub schema: Schema,
-    pub refusal: Check,
+    pub refusal: Result<(), Refusal>,
     pub rows: u64,
     pub bytes: u64,
     pub row: u64,

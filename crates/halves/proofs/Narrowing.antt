@@ -5,7 +5,7 @@ use mathlib.Core.Bool.{Bool, true, false, true≢false}
 use mathlib.Core.List.{List, [], ◌∷◌}
 use native.Mathlib.Omega.{arith}
 use lib.ListN.{length, get_or}
-use Rattle.format.specs.declared.Check.TheVariants.{Pass}
+use Rattle.std.specs.declared.result.Result.TheVariants.{Ok}
 use Rattle.format.specs.declared.Refusal.TheVariants.{OutOfOrder}
 use Rattle.format.specs.Lists.{each}
 use Rattle.format.specs.Batch.{below, order_from, order_fault}
@@ -17,14 +17,14 @@ use Rattle.halves.proofs.Fronts.{turned_up}
 
 -- ---- sorted rows: none is below one before it
 
-after : (p r : ℕ) (x : List ℕ) (ys : List (List ℕ)) → order_from p r x ys ≡ Pass → (j : ℕ) → j < length ys → below (get_or ys j []) x ≡ false
+after : (p r : ℕ) (x : List ℕ) (ys : List (List ℕ)) → order_from p r x ys ≡ Ok tt → (j : ℕ) → j < length ys → below (get_or ys j []) x ≡ false
 after p r x [] e j l = absurd (omega arith)
 after p r x (y ∷ ys) e zero l = (fail_if_pass (below y x) (OutOfOrder p (suc r)) _ e).0
 after p r x (y ∷ ys) e (suc j) l =
     let t = fail_if_pass (below y x) (OutOfOrder p (suc r)) _ e in
     up_trans x y (get_or ys j []) t.0 (after p (suc r) y ys t.1 j (omega arith))
 
-ordered_from : (p r : ℕ) (x : List ℕ) (ys : List (List ℕ)) → order_from p r x ys ≡ Pass → (i j : ℕ) → i ≤ j → j < suc (length ys)
+ordered_from : (p r : ℕ) (x : List ℕ) (ys : List (List ℕ)) → order_from p r x ys ≡ Ok tt → (i j : ℕ) → i ≤ j → j < suc (length ys)
     → below (get_or (x ∷ ys) j []) (get_or (x ∷ ys) i []) ≡ false
 ordered_from p r x ys e zero zero h l = below_self x
 ordered_from p r x ys e zero (suc j) h l = after p r x ys e j (omega arith)
@@ -33,7 +33,7 @@ ordered_from p r x [] e (suc i) (suc j) h l = absurd (omega arith)
 ordered_from p r x (y ∷ ys) e (suc i) (suc j) h l =
     ordered_from p (suc r) y ys (fail_if_pass (below y x) (OutOfOrder p (suc r)) _ e).1 i j (omega arith) (omega arith)
 
-pub in_order : (p : ℕ) (rows : List (List ℕ)) → order_fault p rows ≡ Pass → (i j : ℕ) → i ≤ j → j < length rows
+pub in_order : (p : ℕ) (rows : List (List ℕ)) → order_fault p rows ≡ Ok tt → (i j : ℕ) → i ≤ j → j < length rows
     → below (get_or rows j []) (get_or rows i []) ≡ false
 in_order p [] e i j h l = absurd (omega arith)
 in_order p (x ∷ xs) e i j h l = ordered_from p 0 x xs e i j h l
@@ -66,7 +66,7 @@ module _ (past : Bool) (key : List ℕ) (n : ℕ) (f : ℕ → List ℕ) where
     end h = record { inside = omega (arith, t.inside, t.around, long); fail = t.fail; pass = λ i l k. t.pass i (omega arith) k }
 
     -- the rows are sorted, and what one between `low` and `high` answers is b
-    module _ (p : ℕ) (sorted : order_fault p rows ≡ Pass) (m : ℕ) (after-low : low ≤ m) (before_high : m < high)
+    module _ (p : ℕ) (sorted : order_fault p rows ≡ Ok tt) (m : ℕ) (after-low : low ≤ m) (before_high : m < high)
         (b : Bool) (said : b ≡ turned past key (f m)) where
       answers : turned past key (get_or rows m []) ≡ b
       answers = ap (turned past key) (each_at n f [] m (omega (arith, t.inside))) ∙ sym said

@@ -7,7 +7,7 @@ use mathlib.Core.Logic.{◌⊎◌, inl, inr, ◌↔◌}
 use mathlib.Core.List.{List, [], ◌∷◌}
 use native.Mathlib.Omega.{arith}
 use lib.ListN.{length, get_or}
-use Rattle.format.specs.declared.Check.TheVariants.{Pass}
+use Rattle.std.specs.declared.result.Result.TheVariants.{Ok}
 use Rattle.format.specs.Order.{Begins}
 use Rattle.format.specs.Batch.{order_fault}
 use Rattle.format.specs.Lookup.{begins, first_that, found_first, found_past}
@@ -48,7 +48,7 @@ module _ (test : List ℕ → Bool) where
       go true e h ih = e
       go false e h ih = ih (omega arith)
 
-module _ (p : ℕ) (key : List ℕ) (rows : List (List ℕ)) (sorted : order_fault p rows ≡ Pass) where
+module _ (p : ℕ) (key : List ℕ) (rows : List (List ℕ)) (sorted : order_fault p rows ≡ Ok tt) where
   -- is where the test turns
   turns : (past : Bool) → Turns (turned past key) rows (first_that (turned past key) rows)
   turns past = record {

@@ -46,6 +46,7 @@ fn search(past: bool, key: &[u8], n: usize, rows: &[u8], offsets: &[u64]) -> usi
 {
     let mut low = 0;
     let mut high = n;
+    // A `while`: `partition_point` shows its test one element of a slice, and a row is cut out by two of the offsets.
     while low < high {
         let middle = low + (high - low) / 2;
         if row_turned(past, key, rows, offsets, middle) {

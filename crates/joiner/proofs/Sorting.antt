@@ -5,7 +5,7 @@ use mathlib.Core.Bool.{Bool, true, false, cond}
 use mathlib.Core.List.{List, [], ◌∷◌, ◌++◌, map}
 use native.Mathlib.Omega.{arith}
 use lib.ListN.{length, length-append, length-map}
-use Rattle.format.specs.declared.Check.TheVariants.{Pass}
+use Rattle.std.specs.declared.result.Result.TheVariants.{Ok}
 use Rattle.format.specs.declared.Refusal.TheVariants.{OutOfOrder}
 use Rattle.format.specs.Batch.{below, order_from, order_fault}
 use Rattle.format.specs.Join.{Entry, entries_from, entries_of, insert, sorted, join_order}
@@ -112,18 +112,18 @@ takes_second e d es ds h k q = takes_past d (e ∷ es) ds (q, all es h.0) k
 -- ---- a pass that is not refused 26
 
 -- x is below none of the rows after it
-row_up : (p r q s : ℕ) (d : Entry) (ys : List (List ℕ)) → order_from p r d.bytes ys ≡ Pass → Every (Up d) (entries_from q s ys)
+row_up : (p r q s : ℕ) (d : Entry) (ys : List (List ℕ)) → order_from p r d.bytes ys ≡ Ok tt → Every (Up d) (entries_from q s ys)
 row_up p r q s d [] e = tt
 row_up p r q s d (y ∷ ys) e =
     let t = fail_if_pass (below y d.bytes) (OutOfOrder p (suc r)) _ e in
     (t.0, raise d (record { number = 0; bytes = y }) (entries_from q (suc s) ys) t.0 (row_up p (suc r) q (suc s) (record { number = 0; bytes = y }) ys t.1))
 
-rows_up : (p r q s : ℕ) (x : List ℕ) (ys : List (List ℕ)) → order_from p r x ys ≡ Pass → Each Up (entries_from q s (x ∷ ys))
+rows_up : (p r q s : ℕ) (x : List ℕ) (ys : List (List ℕ)) → order_from p r x ys ≡ Ok tt → Each Up (entries_from q s (x ∷ ys))
 rows_up p r q s x [] e = (tt, tt)
 rows_up p r q s x (y ∷ ys) e =
     let t = fail_if_pass (below y x) (OutOfOrder p (suc r)) _ e in
     (row_up p r q (suc s) (record { number = 0; bytes = x }) (y ∷ ys) e, rows_up p (suc r) q (suc s) y ys t.1)
 
-pub pass_up : (p q : ℕ) (xs : List (List ℕ)) → order_fault p xs ≡ Pass → Each Up (entries_from q 0 xs)
+pub pass_up : (p q : ℕ) (xs : List (List ℕ)) → order_fault p xs ≡ Ok tt → Each Up (entries_from q 0 xs)
 pass_up p q [] e = tt
 pass_up p q (x ∷ xs) e = rows_up p 0 q 0 x xs e

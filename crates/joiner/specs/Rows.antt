@@ -1,6 +1,5 @@
 -- Rows of sorted batches, where they lie, and which of two comes next.
-use Rattle.std.specs.Prelude.{ℕ, ◌+◌, ◌<◌, ◌≤◌, ◌≡◌, Bool, true, false, cond, List, leb, length, get_or}
-use Rattle.format.specs.declared.Check.TheVariants.{Pass}
+use Rattle.std.specs.Prelude.{ℕ, ◌+◌, ◌<◌, ◌≤◌, ◌≡◌, Bool, true, false, cond, List, leb, length, get_or, Ok}
 use Rattle.format.specs.Limits.{max_rows}
 use Rattle.format.specs.Passed.{Cuts}
 use Rattle.format.specs.Entries.{cut_rows}
@@ -10,7 +9,7 @@ use Rattle.format.specs.Batch.{below, order_fault}
 pub record Sorted (p n : ℕ) (bytes offsets : List ℕ) : Type 0 where
   pub few : n ≤ max_rows
   pub cuts : Cuts n bytes offsets
-  pub rises : order_fault p (cut_rows n bytes offsets) ≡ Pass
+  pub rises : order_fault p (cut_rows n bytes offsets) ≡ Ok tt
 
 -- two passes in order, and room for the order of their rows
 pub record Joinable (n : ℕ) (rows offsets : List ℕ) (m : ℕ) (others ends order : List ℕ) : Type 0 where

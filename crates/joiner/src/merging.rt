@@ -47,15 +47,14 @@ pub fn merge(
     ensures { order.new ≡ over (join_order (cut_rows n rows.now offsets.now)
         (cut_rows m others.now ends.now)) order.old }
 {
-    let total = n + m;
     let mut i = 0;
     let mut j = 0;
-    while i + j < total {
+    for place in 0..n + m {
         if second_next(n, rows, offsets, i, m, others, ends, j) {
-            order[i + j] = MAX_ROWS + j as u64;
+            order[place] = MAX_ROWS + j as u64;
             j += 1;
         } else {
-            order[i + j] = i as u64;
+            order[place] = i as u64;
             i += 1;
         }
     }

@@ -7,14 +7,13 @@ use native.Mathlib.Omega.{arith}
 use lib.ListN.{length, take}
 use lib.Seq.{take_all, take-take}
 use borrow.Author.Tests.{lt-ltb, le-ltb, eq-eqb, ne_eqb}
-use Rattle.format.specs.declared.Check.{Check}
-use Rattle.format.specs.declared.Check.TheVariants.{Pass, Refuse}
+use Rattle.format.specs.Check.{Check, both, verdict}
+use Rattle.std.specs.declared.result.Result.TheVariants.{Ok, Err}
 use Rattle.format.specs.declared.Column.{Column}
 use Rattle.format.specs.declared.Refusal.{Refusal}
 use Rattle.format.specs.declared.Refusal.TheVariants.{ManyRows, KeyColumns}
 use Rattle.format.specs.declared.Schema.{Schema}
 use Rattle.format.specs.Limits.{max_rows}
-use Rattle.format.specs.Check.{both}
 use Rattle.format.specs.Schemas.{Limited, cols_of}
 use Rattle.format.specs.Passed.{Cuts, AllLie}
 use Rattle.format.specs.Read.{row_fault, rows_fault}
@@ -25,16 +24,16 @@ use Rattle.basics.proofs.Checks.{both_pass}
 use Rattle.laws.proofs.Cuts.{offsets_passed}
 use Rattle.laws.proofs.InUse.{Held, in_use}
 use Rattle.checks.proofs.Begun.{both_grouped}
-use Rattle.row_reader.specs.declared.Checked.{Checked}
+use Rattle.std.specs.declared.result.Result.{Result}
 use Rattle.row_reader.specs.Walk.{Finds}
 use Rattle.batch_reader.specs.Batch.{Checks}
 
 -- ---- the key
 
 -- a last check that passes
-both_last : (x : Check) → both x Pass ≡ x
-both_last Pass = refl
-both_last (Refuse r) = refl
+both_last : (x : Check) → both x (Ok tt) ≡ x
+both_last (Ok tt) = refl
+both_last (Err r) = refl
 
 -- all of the key is the one row between 0 and its length
 whole : (key : List ℕ) → take (length key - 0) key ≡ key
@@ -45,12 +44,12 @@ module _ (schema : Schema) (held : Held schema) (limited : Limited schema) (k : 
   keyFault = both (key_columns_fault k (cols_of schema)) (row_fault 0 (length key) 0 (take k (cols_of schema)) key)
 
   -- 31: k is 0
-  pub no_columns : k ≡ 0 → Refuse (KeyColumns k) ≡ keyFault
+  pub no_columns : k ≡ 0 → Err (KeyColumns k) ≡ keyFault
   no_columns e = rw (eq-eqb k 0 e)
 
   module _ (some : k ≡ 0 → ⊥) where
     -- 31: k is past the columns
-    pub past_columns : schema.count < k → Refuse (KeyColumns k) ≡ keyFault
+    pub past_columns : schema.count < k → Err (KeyColumns k) ≡ keyFault
     past_columns h = rw (ne_eqb k 0 some, in_use schema held limited.few, lt-ltb schema.count k h)
 
     module _ (h : k ≤ schema.count) where
@@ -66,7 +65,7 @@ module _ (schema : Schema) (held : Held schema) (limited : Limited schema) (k : 
       key_lies (suc r) l = absurd (omega arith)
 
       -- its fields are judged
-      pub key_read : (x : Checked) → Finds (cols_of first) (cut_rows 1 key (0 ∷ length key ∷ [])) x → x.check ≡ keyFault
+      pub key_read : (x : Result ℕ Refusal) → Finds (cols_of first) (cut_rows 1 key (0 ∷ length key ∷ [])) x → verdict x ≡ keyFault
       key_read x f =
           f.check
           ∙ both_last (row_fault 0 (length (take (length key - 0) key)) 0 (take k schema.columns) (take (length key - 0) key))
@@ -77,25 +76,25 @@ module _ (schema : Schema) (held : Held schema) (limited : Limited schema) (k : 
 -- ---- the batch
 module _ (cols : List Column) (n : ℕ) (bytes offsets : List ℕ) where
   -- 6
-  pub many : max_rows < n → Refuse (ManyRows n) ≡ sorted_fault cols n bytes offsets
+  pub many : max_rows < n → Err (ManyRows n) ≡ sorted_fault cols n bytes offsets
   unfolding sorted_fault
   many h = rw (lt-ltb max_rows n h)
 
-  module _ (h : n ≤ max_rows) (r : Checked) (c : Checks n cols bytes offsets r) where
+  module _ (h : n ≤ max_rows) (r : Result ℕ Refusal) (c : Checks n cols bytes offsets r) where
     abbrev rows : List (List ℕ)
     rows = cut_rows n bytes offsets
 
-    grouped : sorted_fault cols n bytes offsets ≡ both r.check (order_fault 0 rows)
+    grouped : sorted_fault cols n bytes offsets ≡ both (verdict r) (order_fault 0 rows)
     unfolding sorted_fault
     grouped = rw (le-ltb max_rows n h) (both_grouped (offsets_fault n bytes offsets) (rows_fault 0 cols rows) _ ∙ rw c.check)
 
     -- 14, 15, 12, row faults
-    pub bad_rows : (x : Refusal) → r.check ≡ Refuse x → Refuse x ≡ sorted_fault cols n bytes offsets
+    pub bad_rows : (x : Refusal) → r ≡ Err x → Err x ≡ sorted_fault cols n bytes offsets
     bad_rows x e = sym (grouped ∙ rw e)
 
-    module _ (e : r.check ≡ Pass) where
+    module _ (room : ℕ) (e : r ≡ Ok room) where
       pub cuts : Cuts n bytes offsets
-      cuts = offsets_passed n bytes offsets (both_pass (offsets_fault n bytes offsets) _ (sym c.check ∙ e)).0
+      cuts = offsets_passed n bytes offsets (both_pass (offsets_fault n bytes offsets) _ (sym c.check ∙ ap verdict e)).0
 
       -- 26, or none of them
       pub by_order : (x : Check) → x ≡ order_fault 0 rows → x ≡ sorted_fault cols n bytes offsets

@@ -9,21 +9,21 @@ ghost use Rattle.format.specs.Batch.{sorted_fault};
 ghost use Rattle.format.specs.Lookup.{key_columns_fault};
 
 use batch_reader::check_rows;
-use format::{Check, Refusal, Schema};
+use format::{Refusal, Schema};
 use pass_checker::check_order;
 use row_reader::check_fields;
 
 // 31, then the key as row 0 of the first k columns.
-pub fn check_key(schema: Schema, k: u64, key: &[u8]) -> Check
+pub fn check_key(schema: Schema, k: u64, key: &[u8]) -> Result<(), Refusal>
     requires { Limited schema }
     ensures { result ≡ both (key_columns_fault k (cols_of schema)) (row_fault 0 (length key.now) 0 (take k (cols_of schema)) key.now) }
 {
     let count = k as usize;
     if count == 0 {
-        return Check::Refuse(Refusal::KeyColumns(count));
+        return Err(Refusal::KeyColumns(count));
     }
     if schema.count < count {
-        return Check::Refuse(Refusal::KeyColumns(count));
+        return Err(Refusal::KeyColumns(count));
     }
     let columns = schema.columns;
     let first = Schema {
@@ -31,22 +31,18 @@ pub fn check_key(schema: Schema, k: u64, key: &[u8]) -> Check
         count: count,
     };
     let ends = [0, key.len() as u64];
-    let walked = check_fields(first, 1, key, &ends);
-    walked.check
+    check_fields(first, 1, key, &ends)?;
+    Ok(())
 }
 
 // 6, 14, 15, 12, row faults, 26.
-pub fn check_batch(schema: Schema, n: u64, rows: &[u8], offsets: &[u64]) -> Check
+pub fn check_batch(schema: Schema, n: u64, rows: &[u8], offsets: &[u64]) -> Result<(), Refusal>
     requires { Limited schema }
     ensures { result ≡ sorted_fault (cols_of schema) n rows.now offsets.now }
 {
     if format::MAX_ROWS < n {
-        return Check::Refuse(Refusal::ManyRows(n));
+        return Err(Refusal::ManyRows(n));
     }
-    let checked = check_rows(schema, n as usize, rows, offsets);
-    let found = checked.check;
-    if let Check::Refuse(refusal) = found {
-        return Check::Refuse(refusal);
-    }
+    check_rows(schema, n as usize, rows, offsets)?;
     check_order(0, n as usize, rows, offsets)
 }

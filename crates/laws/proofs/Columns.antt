@@ -10,7 +10,7 @@ use lib.ListN.{length, get_or}
 use borrow.Author.Tests.{eq-eqb, ne_eqb, eqb-false, lt-ltb, le-ltb, ltb-false}
 use Rattle.format.specs.declared.Kind.{Kind}
 use Rattle.format.specs.declared.Column.{Column}
-use Rattle.format.specs.declared.Check.TheVariants.{Pass}
+use Rattle.std.specs.declared.result.Result.TheVariants.{Ok}
 use Rattle.format.specs.Limits.{max_columns, max_width}
 use Rattle.format.specs.Check.{both}
 use Rattle.format.specs.Kinds.{last_kind, value_bytes}
@@ -51,7 +51,7 @@ neither : (a b : Bool) → (a || b) ≡ false → (a ≡ false) × (b ≡ false)
 neither true b e = (e, cc)
 neither false b e = (refl, e)
 
-pub fine : (place b : ℕ) (cut : Bool) (o w : ℕ) → numbers_fault place b cut o w ≡ Pass → Fine b cut o w
+pub fine : (place b : ℕ) (cut : Bool) (o w : ℕ) → numbers_fault place b cut o w ≡ Ok tt → Fine b cut o w
 fine place b cut o w e =
     let known = fail_if_pass (ltb b 1 || ltb last_kind b) _ _ e in
     let body = fail_if_pass cut _ _ known.1 in
@@ -66,7 +66,7 @@ fine place b cut o w e =
     }
 
 -- the other way, at any place
-pub fine_pass : (place b : ℕ) (cut : Bool) (o w : ℕ) → Fine b cut o w → numbers_fault place b cut o w ≡ Pass
+pub fine_pass : (place b : ℕ) (cut : Bool) (o w : ℕ) → Fine b cut o w → numbers_fault place b cut o w ≡ Ok tt
 fine_pass place b cut o w f =
     rw (le-ltb b 1 f.least, le-ltb last_kind b f.most, f.whole)
     (pass_enough (most_options b) o _ _ f.options (pass_enough (most_width b) w _ _ f.width refl))
@@ -80,7 +80,7 @@ most_width_lem b w = go (eqb b 15)
     go false l = omega arith
 
 -- what a description that passes says: it is whole, and its width is within the limit
-pub description_passed : (s : List ℕ) (at : ℕ) → description_fault s at ≡ Pass
+pub description_passed : (s : List ℕ) (at : ℕ) → description_fault s at ≡ Ok tt
     → (description_bytes (get_or s at 0) ≤ length s - at) × (width_at s at ≤ max_width)
 description_passed s at e =
     let f = fine at (get_or s at 0) (ltb (length s - at) (description_bytes (get_or s at 0))) (get_or s (at + 1) 0) (width_at s at) e in
@@ -118,15 +118,15 @@ kind_narrow b w h =
 abbrev pub Narrow : List Column → Type 0
 Narrow cols = Every (λ col. value_bytes col.kind ≤ max_width) cols
 
-narrow_from : (room : ℕ) (s : List ℕ) (at : ℕ) → list_fault_from room s at ≡ Pass → Narrow (columns_from room s at)
+narrow_from : (room : ℕ) (s : List ℕ) (at : ℕ) → list_fault_from room s at ≡ Ok tt → Narrow (columns_from room s at)
 narrow_from zero s at e = tt
 narrow_from (suc room) s at e = go (narrow_from room s next) (ltb at (length s)) e
   where
     next : ℕ
     next = at + description_bytes (get_or s at 0)
 
-    go : (list_fault_from room s next ≡ Pass → Narrow (columns_from room s next)) → (t : Bool)
-        → cond t (both (description_fault s at) (list_fault_from room s next)) Pass ≡ Pass
+    go : (list_fault_from room s next ≡ Ok tt → Narrow (columns_from room s next)) → (t : Bool)
+        → cond t (both (description_fault s at) (list_fault_from room s next)) (Ok tt) ≡ Ok tt
         → Narrow (cond t (column_at s at ∷ columns_from room s next) [])
     go rest true e =
         let p = both_pass (description_fault s at) _ e in
@@ -147,11 +147,11 @@ some_from room s at h = rw (lt-ltb at (length s) h) (some _)
     some : (n : ℕ) → 1 ≤ suc n
     some n = omega arith
 
-pub spelled_narrow : (s : List ℕ) → spelled_fault s ≡ Pass → Narrow (spelled_columns s)
+pub spelled_narrow : (s : List ℕ) → spelled_fault s ≡ Ok tt → Narrow (spelled_columns s)
 unfolding spelled_fault spelled_columns
 spelled_narrow s e = narrow_from max_columns s 0 (fail_if_pass (eqb (length s) 0) _ _ e).1
 
-pub spelled_few : (s : List ℕ) → spelled_fault s ≡ Pass → (1 ≤ length (spelled_columns s)) × (length (spelled_columns s) ≤ max_columns)
+pub spelled_few : (s : List ℕ) → spelled_fault s ≡ Ok tt → (1 ≤ length (spelled_columns s)) × (length (spelled_columns s) ≤ max_columns)
 unfolding spelled_fault spelled_columns
 spelled_few s e = (some_from (max_columns - 1) s 0 (filled (eqb-false (length s) 0 (fail_if_pass (eqb (length s) 0) _ _ e).0)), few_from max_columns s 0)
   where

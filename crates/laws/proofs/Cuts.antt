@@ -9,7 +9,7 @@ use native.Mathlib.Omega.{arith}
 use lib.Dec.{eqb}
 use lib.ListN.{length, get_or, take, drop, length-append, get_or-append}
 use borrow.Author.Tests.{eqb-true, not-false}
-use Rattle.format.specs.declared.Check.TheVariants.{Pass}
+use Rattle.std.specs.declared.result.Result.TheVariants.{Ok}
 use Rattle.format.specs.Limits.{max_total}
 use Rattle.format.specs.Lists.{Bytes, ends_from, joined}
 use Rattle.format.specs.Entries.{offset_room_fault, fall_fault, offsets_fault, row_bytes, cut_rows}
@@ -19,14 +19,14 @@ use Rattle.basics.proofs.Lists.{Every, every_each, each_is, end_at, length_ends,
 use Rattle.basics.proofs.Checks.{fail_if_pass, enough, both_pass}
 
 -- ---- they do exactly where nothing is refused
-falls_from : (offsets : List ℕ) (i k : ℕ) → fall_fault offsets i k ≡ Pass → (j : ℕ) → j < k → get_or offsets (i + j) 0 ≤ get_or offsets (suc (i + j)) 0
+falls_from : (offsets : List ℕ) (i k : ℕ) → fall_fault offsets i k ≡ Ok tt → (j : ℕ) → j < k → get_or offsets (i + j) 0 ≤ get_or offsets (suc (i + j)) 0
 falls_from offsets i zero e j l = absurd (omega arith)
 falls_from offsets i (suc k) e zero l = rw add-zero (enough (get_or offsets (suc i) 0) (get_or offsets i 0) _ _ e).0
 falls_from offsets i (suc k) e (suc j) l =
     subst (λ (m : ℕ). get_or offsets m 0 ≤ get_or offsets (suc m) 0) (let q : suc i + j ≡ i + suc j = omega arith in q)
     (falls_from offsets (suc i) k (enough (get_or offsets (suc i) 0) (get_or offsets i 0) _ _ e).1 j (omega arith))
 
-pub offsets_passed : (n : ℕ) (bytes offsets : List ℕ) → offsets_fault n bytes offsets ≡ Pass → Cuts n bytes offsets
+pub offsets_passed : (n : ℕ) (bytes offsets : List ℕ) → offsets_fault n bytes offsets ≡ Ok tt → Cuts n bytes offsets
 offsets_passed n bytes offsets e =
     let p = both_pass (offset_room_fault n (length offsets)) _ e in
     let q = fail_if_pass (not (eqb (get_or offsets 0 0) 0)) _ _ p.1 in

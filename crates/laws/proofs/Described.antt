@@ -12,7 +12,7 @@ use Rattle.format.specs.declared.Kind.{Kind}
 use Rattle.format.specs.declared.Kind.TheVariants.{Bool as KindBool, I8, I16, I32, I64, U8, U16, U32, U64, F16, F32, F64, DayTime, MonthDayNano, FixedBinary, Variable, I128, I256}
 use Rattle.format.specs.declared.SortOptions.{SortOptions}
 use Rattle.format.specs.declared.Column.{Column}
-use Rattle.format.specs.declared.Check.TheVariants.{Pass}
+use Rattle.std.specs.declared.result.Result.TheVariants.{Ok}
 use Rattle.format.specs.Limits.{max_columns}
 use Rattle.format.specs.Columns.{kind_of, options_of}
 use Rattle.format.specs.Described.{Description, kind_number, options_number, held_width, held, column_of, descriptions_in, held_fault, descriptions_fault_from, descriptions_fault, ColumnList, spelled, described, coded, list_fault, columns}
@@ -72,10 +72,10 @@ columns_again (col ∷ cols) = ap₂ {C = List Column} (λ x y. x ∷ y) (column
 
 -- ---- descriptions that pass
 
-pub held_fine : (i : ℕ) (d : Description) → held_fault i d ≡ Pass → Fine d.kind false d.options d.width
+pub held_fine : (i : ℕ) (d : Description) → held_fault i d ≡ Ok tt → Fine d.kind false d.options d.width
 held_fine i d e = fine i d.kind false d.options d.width e
 
-few_from : (room i : ℕ) (ds : List Description) → descriptions_fault_from room i ds ≡ Pass → length ds ≤ room
+few_from : (room i : ℕ) (ds : List Description) → descriptions_fault_from room i ds ≡ Ok tt → length ds ≤ room
 few_from room i [] e = omega arith
 few_from zero i (d ∷ ds) e = absurd (refuse_pass e)
 few_from (suc room) i (d ∷ ds) e = omega (arith, few_from room (suc i) ds (both_pass (held_fault i d) _ e).1)
@@ -84,12 +84,12 @@ few_from (suc room) i (d ∷ ds) e = omega (arith, few_from room (suc i) ds (bot
 abbrev pub AllFine : List Description → Type 0
 AllFine ds = Every (λ d. Fine d.kind false d.options d.width) ds
 
-fine_from : (room i : ℕ) (ds : List Description) → descriptions_fault_from room i ds ≡ Pass → AllFine ds
+fine_from : (room i : ℕ) (ds : List Description) → descriptions_fault_from room i ds ≡ Ok tt → AllFine ds
 fine_from room i [] e = tt
 fine_from zero i (d ∷ ds) e = absurd (refuse_pass e)
 fine_from (suc room) i (d ∷ ds) e = let p = both_pass (held_fault i d) _ e in (held_fine i d p.0, fine_from room (suc i) ds p.1)
 
-pub all_fine : (ds : List Description) → descriptions_fault ds ≡ Pass → AllFine ds
+pub all_fine : (ds : List Description) → descriptions_fault ds ≡ Ok tt → AllFine ds
 unfolding descriptions_fault
 all_fine ds e = fine_from max_columns 0 ds (fail_if_pass (eqb (length ds) 0) _ _ e).1
 
@@ -97,7 +97,7 @@ all_narrow : (ds : List Description) → AllFine ds → Narrow (map column_of ds
 all_narrow [] h = tt
 all_narrow (d ∷ ds) h = (kind_narrow d.kind d.width (most_width_lem d.kind d.width h.0.width), all_narrow ds h.1)
 
-pub descriptions_few : (ds : List Description) → descriptions_fault ds ≡ Pass → (1 ≤ length ds) × (length ds ≤ max_columns)
+pub descriptions_few : (ds : List Description) → descriptions_fault ds ≡ Ok tt → (1 ≤ length ds) × (length ds ≤ max_columns)
 unfolding descriptions_fault
 descriptions_few ds e =
     let p = fail_if_pass (eqb (length ds) 0) _ _ e in
@@ -105,12 +105,12 @@ descriptions_few ds e =
     (omega arith, few_from max_columns 0 ds p.1)
 
 -- ---- a list that passes, in any way
-pub columns_narrow : (list : ColumnList) → list_fault list ≡ Pass → Narrow (columns list)
+pub columns_narrow : (list : ColumnList) → list_fault list ≡ Ok tt → Narrow (columns list)
 columns_narrow (spelled s) e = spelled_narrow s e
 columns_narrow (described cols) e = subst Narrow (columns_again cols) (all_narrow (map held cols) (all_fine (map held cols) e))
 columns_narrow (coded s) e = all_narrow (descriptions_in s) (all_fine (descriptions_in s) e)
 
-pub columns_few : (list : ColumnList) → list_fault list ≡ Pass → (1 ≤ length (columns list)) × (length (columns list) ≤ max_columns)
+pub columns_few : (list : ColumnList) → list_fault list ≡ Ok tt → (1 ≤ length (columns list)) × (length (columns list) ≤ max_columns)
 columns_few (spelled s) e = spelled_few s e
 columns_few (described cols) e = let f = descriptions_few (map held cols) e in (omega (arith, f, length-map cols held), omega (arith, f, length-map cols held))
 columns_few (coded s) e =

@@ -8,10 +8,9 @@ use lib.ListN.{get_or}
 use Rattle.format.specs.declared.RowFault.TheVariants.{Cut, Lead, NullRest, BoolByte, EndByte, Padding, Extra, TooLong, Unfolded}
 use Rattle.format.specs.declared.Refusal.{Refusal}
 use Rattle.format.specs.declared.Refusal.TheVariants.{ListCut, UnknownKind, OptionBits, Width, ManyColumns, ManyRows, ColumnCut, SpareBit, Ends, LongSlot, BytesAfter, ManyBytes, RowRoom, OffsetRoom, Offsets, Row, SheetRoom, Input, OutOfOrder, Missing, ColumnRoom, KeyColumns, SheetRow, BrokenState}
-use Rattle.format.specs.declared.Answer.{Answer}
-use Rattle.format.specs.declared.Answer.TheVariants.{Done, Refused}
+use Rattle.format.specs.Numbers.{Answer, numbers_of}
+use Rattle.std.specs.declared.result.Result.TheVariants.{Ok, Err}
 use Rattle.format.specs.declared.Returned.{Returned}
-use Rattle.format.specs.Numbers.{numbers_of}
 
 -- the refusals in the order of their numbers, each made of the second, third and fourth number; nothing has 30
 abbrev refusals : List (ℕ → ℕ → ℕ → Refusal)
@@ -26,42 +25,42 @@ refusals =
 
 -- the answer of four numbers
 abbrev answer_of : Returned → Answer
-answer_of x = cond (eqb x.0 0) (Done x.1 x.2) (Refused (get_or refusals (x.0 - 1) (λ a b p. Input) x.1 x.2 x.3))
+answer_of x = cond (eqb x.0 0) (Ok (x.1, x.2)) (Err (get_or refusals (x.0 - 1) (λ a b p. Input) x.1 x.2 x.3))
 
 numbers_back : (a : Answer) → answer_of (numbers_of a) ≡ a
-numbers_back (Done a b) = refl
-numbers_back (Refused (ListCut place)) = refl
-numbers_back (Refused (UnknownKind place)) = refl
-numbers_back (Refused (OptionBits place)) = refl
-numbers_back (Refused (Width place)) = refl
-numbers_back (Refused (ManyColumns place)) = refl
-numbers_back (Refused (ManyRows n)) = refl
-numbers_back (Refused (ColumnCut c)) = refl
-numbers_back (Refused (SpareBit c)) = refl
-numbers_back (Refused (Ends c r)) = refl
-numbers_back (Refused (LongSlot c r)) = refl
-numbers_back (Refused (BytesAfter place)) = refl
-numbers_back (Refused (ManyBytes total rows)) = refl
-numbers_back (Refused (RowRoom total)) = refl
-numbers_back (Refused (OffsetRoom count)) = refl
-numbers_back (Refused (Offsets i)) = refl
-numbers_back (Refused (Row Cut r c place)) = refl
-numbers_back (Refused (Row Lead r c place)) = refl
-numbers_back (Refused (Row NullRest r c place)) = refl
-numbers_back (Refused (Row BoolByte r c place)) = refl
-numbers_back (Refused (Row EndByte r c place)) = refl
-numbers_back (Refused (Row Padding r c place)) = refl
-numbers_back (Refused (Row Extra r c place)) = refl
-numbers_back (Refused (Row TooLong r c place)) = refl
-numbers_back (Refused (Row Unfolded r c place)) = refl
-numbers_back (Refused (SheetRoom bytes)) = refl
-numbers_back (Refused Input) = refl
-numbers_back (Refused (OutOfOrder p r)) = refl
-numbers_back (Refused (Missing c r)) = refl
-numbers_back (Refused (ColumnRoom count)) = refl
-numbers_back (Refused (KeyColumns k)) = refl
-numbers_back (Refused (SheetRow sheet r)) = refl
-numbers_back (Refused BrokenState) = refl
+numbers_back (Ok (a, b)) = refl
+numbers_back (Err (ListCut place)) = refl
+numbers_back (Err (UnknownKind place)) = refl
+numbers_back (Err (OptionBits place)) = refl
+numbers_back (Err (Width place)) = refl
+numbers_back (Err (ManyColumns place)) = refl
+numbers_back (Err (ManyRows n)) = refl
+numbers_back (Err (ColumnCut c)) = refl
+numbers_back (Err (SpareBit c)) = refl
+numbers_back (Err (Ends c r)) = refl
+numbers_back (Err (LongSlot c r)) = refl
+numbers_back (Err (BytesAfter place)) = refl
+numbers_back (Err (ManyBytes total rows)) = refl
+numbers_back (Err (RowRoom total)) = refl
+numbers_back (Err (OffsetRoom count)) = refl
+numbers_back (Err (Offsets i)) = refl
+numbers_back (Err (Row Cut r c place)) = refl
+numbers_back (Err (Row Lead r c place)) = refl
+numbers_back (Err (Row NullRest r c place)) = refl
+numbers_back (Err (Row BoolByte r c place)) = refl
+numbers_back (Err (Row EndByte r c place)) = refl
+numbers_back (Err (Row Padding r c place)) = refl
+numbers_back (Err (Row Extra r c place)) = refl
+numbers_back (Err (Row TooLong r c place)) = refl
+numbers_back (Err (Row Unfolded r c place)) = refl
+numbers_back (Err (SheetRoom bytes)) = refl
+numbers_back (Err Input) = refl
+numbers_back (Err (OutOfOrder p r)) = refl
+numbers_back (Err (Missing c r)) = refl
+numbers_back (Err (ColumnRoom count)) = refl
+numbers_back (Err (KeyColumns k)) = refl
+numbers_back (Err (SheetRow sheet r)) = refl
+numbers_back (Err BrokenState) = refl
 
 pub numbers_injective : (a b : Answer) → numbers_of a ≡ numbers_of b → a ≡ b
 numbers_injective a b e = sym (numbers_back a) ∙ ap answer_of e ∙ numbers_back b

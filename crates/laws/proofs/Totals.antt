@@ -9,7 +9,7 @@ use native.Mathlib.Omega.{arith}
 use lib.Dec.{leb}
 use borrow.Author.Tests.{leb-true}
 use lib.ListN.{length, get_or, drop, length-append, get_or-map}
-use Rattle.format.specs.declared.Check.TheVariants.{Pass}
+use Rattle.std.specs.declared.result.Result.TheVariants.{Ok}
 use Rattle.format.specs.declared.SortOptions.{SortOptions}
 use Rattle.format.specs.declared.Column.{Column}
 use Rattle.format.specs.Limits.{max_width, max_slot}
@@ -74,7 +74,7 @@ total_from n at (col ∷ cols) s d h =
         ∙ ap (field_length (column_shape col)) (each_at n (slot_at (layout col) n (drop at s)) none r (omega arith))))
 
 -- the total of a sheet that passes
-pub total_is : (n : ℕ) (cols : List Column) (s : List ℕ) (d : Column) → Bytes s → sheet_fault n cols s ≡ Pass
+pub total_is : (n : ℕ) (cols : List Column) (s : List ℕ) (d : Column) → Bytes s → sheet_fault n cols s ≡ Ok tt
     → sheet_total n cols s ≡ sum (each 0 (length cols) (λ c. column_total (get_or cols c d) n (drop (place n cols s c) s)))
 total_is n cols s d b e = total_from n 0 cols s d (sheet_fits n cols s b e)
 
@@ -91,7 +91,7 @@ field_most (fixed k) o s w h = omega arith
 field_most variable o none w h = omega arith
 field_most variable o (some v) w h = padded_most (length v) h.1
 
-pub total_most : (col : Column) (n c : ℕ) (s : List ℕ) → Bytes s → column_fault false (layout col) n c s ≡ Pass → value_bytes col.kind ≤ max_width
+pub total_most : (col : Column) (n c : ℕ) (s : List ℕ) → Bytes s → column_fault false (layout col) n c s ≡ Ok tt → value_bytes col.kind ≤ max_width
     → column_total col n s ≤ n * max_field
 total_most col n c s b e w = sum_most (λ r. field_length (column_shape col) (slot_at (layout col) n s r)) max_field 0 n (λ r x y.
     field_most (column_shape col) no_column.options (slot_at (layout col) n s r) w

@@ -7,23 +7,23 @@ ghost use Rattle.format.specs.Numbers.{numbers_of};
 ghost use Rattle.format.specs.Lent.{answer_room, eight_bytes, number_bytes};
 ghost use Rattle.lent_bytes.specs.Offsets.{first_eights, Used};
 
-use format::Answer;
-use number::{low64, put64};
+use format::Refusal;
+use number::Word;
 
 mod entries;
 
 pub use entries::used_entries;
 
 // The four numbers of an answer, in front of the lent bytes.
-pub fn put_answer(lent: &mut [u8], answer: Answer)
+pub fn put_answer(lent: &mut [u8], answer: Result<(u64, u64), Refusal>)
     requires { answer_room ≤ length lent.old }
     ensures { lent.new ≡ over (number_bytes (numbers_of answer)) lent.old }
 {
     let numbers = answers::numbers(answer);
-    put64(lent, 0, numbers.0);
-    put64(lent, 8, numbers.1);
-    put64(lent, 16, numbers.2);
-    put64(lent, 24, numbers.3);
+    numbers.0.put(lent, 0);
+    numbers.1.put(lent, 8);
+    numbers.2.put(lent, 16);
+    numbers.3.put(lent, 24);
 }
 
 // How many of the offsets in so many lent bytes a batch of n rows uses: n + 1, or all if there are fewer, and none of too
@@ -46,11 +46,8 @@ pub fn read_offsets(offsets: &[u8], numbers: &mut [u64])
     requires { 8 * length numbers.old ≤ length offsets.now }
     ensures { numbers.new ≡ first_eights (length numbers.old) offsets.now }
 {
-    let k = numbers.len();
-    let mut i: usize = 0;
-    while i < k {
-        numbers[i] = low64(offsets, 8 * i);
-        i += 1;
+    for (i, number) in numbers.iter_mut().enumerate() {
+        *number = u64::low(offsets, 8 * i);
     }
 }
 
@@ -59,10 +56,7 @@ pub fn write_offsets(numbers: &[u64], offsets: &mut [u8])
     requires { 8 * length numbers.now ≤ length offsets.old }
     ensures { offsets.new ≡ over (eight_bytes numbers.now) offsets.old }
 {
-    let k = numbers.len();
-    let mut i: usize = 0;
-    while i < k {
-        put64(offsets, 8 * i, numbers[i]);
-        i += 1;
+    for (i, number) in numbers.iter().enumerate() {
+        number.put(offsets, 8 * i);
     }
 }

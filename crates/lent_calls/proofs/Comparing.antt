@@ -3,10 +3,9 @@ use Prim.Native.Nat.{ℕ, ◌<◌, ◌≤◌}
 use mathlib.Core.Path.{◌≡◌}
 use mathlib.Core.List.{List}
 use lib.ListN.{length}
-use Rattle.format.specs.declared.Answer.{Answer}
+use Rattle.format.specs.Numbers.{Answer, numbers_of}
 use Rattle.format.specs.Lists.{over}
 use Rattle.format.specs.Described.{ColumnList}
-use Rattle.format.specs.Numbers.{numbers_of}
 use Rattle.format.specs.CompareSheets.{compare_sheets_answer, compare_pairs_answer, compare_pairs_ranks}
 use Rattle.format.specs.Lent.{eights, number_bytes, answer_room, lent_compare_sheets, lent_compare_pairs, lent_compare_pairs_ranks}
 use Rattle.format.specs.Promises.{SheetsCompared, PairsCompared, LentSheetsCompared, LentPairsCompared}

@@ -8,12 +8,11 @@ use native.Mathlib.Omega.{arith}
 use lib.Dec.{ltb}
 use lib.ListN.{length, get_or}
 use borrow.Author.Tests.{ltb-true, ltb-false, lt-ltb, le-ltb}
-use Rattle.format.specs.declared.Check.{Check}
-use Rattle.format.specs.declared.Check.TheVariants.{Pass, Refuse}
+use Rattle.format.specs.Check.{Check, both}
+use Rattle.std.specs.declared.result.Result.TheVariants.{Ok, Err}
 use Rattle.format.specs.declared.Refusal.{Refusal}
 use Rattle.format.specs.declared.Refusal.TheVariants.{ManyRows}
 use Rattle.format.specs.Limits.{max_rows}
-use Rattle.format.specs.Check.{both}
 use Rattle.format.specs.Lists.{Bytes, ends_from, over}
 use Rattle.format.specs.Described.{ColumnList, list_fault, columns}
 use Rattle.format.specs.Sheet.{sheet_slots}
@@ -27,17 +26,17 @@ use Rattle.lent_bytes.specs.Offsets.{eight_at, first_eights, Used}
 use Rattle.lent_bytes.proofs.NumberBytes.{stored_back}
 
 -- ---- over 4,096 rows are refused before the offsets are looked at: what comes after the refusal does not count
-many_both : (x : Check) (r : Refusal) (y z : Check) → both (both x (Refuse r)) y ≡ both (both x (Refuse r)) z
-many_both Pass r y z = refl
-many_both (Refuse s) r y z = refl
+many_both : (x : Check) (r : Refusal) (y z : Check) → both (both x (Err r)) y ≡ both (both x (Err r)) z
+many_both (Ok tt) r y z = refl
+many_both (Err s) r y z = refl
 
-many_answer : (x : Check) (r : Refusal) (a b c d : ℕ) → answer (both x (Refuse r)) a b ≡ answer (both x (Refuse r)) c d
-many_answer Pass r a b c d = refl
-many_answer (Refuse s) r a b c d = refl
+many_answer : (x : Check) (r : Refusal) (a b c d : ℕ) → answer (both x (Err r)) a b ≡ answer (both x (Err r)) c d
+many_answer (Ok tt) r a b c d = refl
+many_answer (Err s) r a b c d = refl
 
-many_written : (x : Check) (r : Refusal) (new new' old : List ℕ) → written (both x (Refuse r)) new old ≡ written (both x (Refuse r)) new' old
-many_written Pass r new new' old = refl
-many_written (Refuse s) r new new' old = refl
+many_written : (x : Check) (r : Refusal) (new new' old : List ℕ) → written (both x (Err r)) new old ≡ written (both x (Err r)) new' old
+many_written (Ok tt) r new new' old = refl
+many_written (Err s) r new new' old = refl
 
 -- one or the other
 pub le_or_lt : (a b : ℕ) → (a ≤ b) ⊎ (b < a)
@@ -69,7 +68,7 @@ module _ (list : ColumnList) (n : ℕ) (sheet : List ℕ) (room k : ℕ) (u : Us
   encode_rows_lem rows = rw (encode_check_lem (length rows))
 
 -- an accepted batch has n + 1 ends, and room for them
-ends_fit : (list : ColumnList) (n : ℕ) (sheet : List ℕ) (row_room k : ℕ) → encode_check list n sheet row_room k ≡ Pass
+ends_fit : (list : ColumnList) (n : ℕ) (sheet : List ℕ) (row_room k : ℕ) → encode_check list n sheet row_room k ≡ Ok tt
     → length (ends_from 0 (sheet_rows n (columns list) sheet)) ≤ k
 unfolding encode_check
 ends_fit list n sheet row_room k e =
@@ -79,10 +78,10 @@ ends_fit list n sheet row_room k e =
     omega (arith, length_ends 0 (sheet_rows n (columns list) sheet), many, (enough k (suc n) _ _ q.1).0)
 
 -- numbers in front of the lent bytes, as the entries' definitions have them: numbers in front of those that were there
-pub front : (m : Check) (new bs : List ℕ) → Bytes bs → (m ≡ Pass → length new ≤ length bs / 8)
+pub front : (m : Check) (new bs : List ℕ) → Bytes bs → (m ≡ Ok tt → length new ≤ length bs / 8)
     → written m (eight_bytes new) bs ≡ over (eight_bytes (written m new (eights bs))) bs
-front Pass new bs b l = sym (stored_back bs b new (length bs / 8) (l refl) (omega arith))
-front (Refuse r) new bs b l = sym (stored_back bs b [] (length bs / 8) (omega arith) (omega arith))
+front (Ok tt) new bs b l = sym (stored_back bs b new (length bs / 8) (l refl) (omega arith))
+front (Err r) new bs b l = sym (stored_back bs b [] (length bs / 8) (omega arith) (omega arith))
 
 pub encode_ends : (list : ColumnList) (n : ℕ) (sheet : List ℕ) (row_room : ℕ) (bs : List ℕ) (k : ℕ) → Bytes bs → Used n (length bs / 8) k
     → written (encode_check list n sheet row_room k) (eight_bytes (ends_from 0 (sheet_rows n (columns list) sheet))) bs
@@ -133,7 +132,7 @@ module _ (list : ColumnList) (n : ℕ) (bytes bs : List ℕ) (k : ℕ) (u : Used
   decode_check_lem h room = rw (offsets_fault_lem n bytes few all (same h), cuts n bytes few all (same h))
 
   -- over 4,096 rows, whatever the offsets are
-  many_check : max_rows < n → (os : List ℕ) (room : ℕ) → decode_check list n bytes os room ≡ both (list_fault list) (Refuse (ManyRows n))
+  many_check : max_rows < n → (os : List ℕ) (room : ℕ) → decode_check list n bytes os room ≡ both (list_fault list) (Err (ManyRows n))
   unfolding decode_check
   many_check h os room = rw (lt-ltb max_rows n h)
 

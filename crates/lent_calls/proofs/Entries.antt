@@ -4,12 +4,11 @@ use mathlib.Core.Path.{◌≡◌, ap, subst, ◌∙◌}
 use mathlib.Core.List.{List}
 use lib.ListN.{length}
 use borrow.Author.Tests.{lt-ltb, le-ltb}
-use Rattle.format.specs.declared.Answer.{Answer}
+use Rattle.format.specs.Numbers.{Answer, numbers_of}
 use Rattle.format.specs.declared.Returned.{Returned}
 use Rattle.format.specs.Lists.{Bytes, over}
 use Rattle.format.specs.Columns.{spelled_columns}
 use Rattle.format.specs.Described.{ColumnList, codes}
-use Rattle.format.specs.Numbers.{numbers_of}
 use Rattle.format.specs.Entries.{written, read_list_check, read_list_answer}
 use Rattle.format.specs.Entries.{check_list_answer, measure_answer, encode_answer, encode_rows, encode_offsets, decode_answer, decode_sheet}
 use Rattle.format.specs.Lent.{eights, eight_bytes, number_bytes, answer_room, answer_bytes, unless_short, code_room, lent_read_list, lent_read_list_codes}
@@ -19,11 +18,6 @@ use Rattle.lent_bytes.specs.Offsets.{first_eights, Used}
 use Rattle.encoded_bytes.specs.Stored.{EncodedBytes}
 use Rattle.lent_calls.specs.Stored.{ReadCodes}
 use Rattle.lent_calls.proofs.Enough.{encode_answer_lem, encode_rows_lem, encode_ends, decode_answer_lem, decode_sheet_lem}
-
--- ---- decode with the offsets that were read
-pub bytes_decoded : (list : ColumnList) (n : ℕ) (rows offsets sheet : List ℕ) (k : ℕ) (os : List ℕ) (r : Answer) (sheet' : List ℕ) → os ≡ first_eights k offsets
-    → Decoded list n rows os sheet r sheet' → Decoded list n rows (first_eights k offsets) sheet r sheet'
-bytes_decoded list n rows offsets sheet k os r sheet' e h = subst (λ (x : List ℕ). Decoded list n rows x sheet r sheet') e h
 
 -- ---- an answer that cannot hold the four numbers
 module _ (lent : List ℕ) (short : length lent < answer_room) where
@@ -86,28 +80,27 @@ module _ (lent lent' : List ℕ) (r : Answer) (long : answer_room ≤ length len
   unfolding lent_measure
   measure_long list n sheet h = record { answers = long_answer (measure_answer list n sheet) h.answers }
 
-  pub encode_long : (list : ColumnList) (n : ℕ) (sheet rows offsets : List ℕ) (k m : ℕ) (rows' offsets' : List ℕ) → Bytes offsets
-      → Used n (length offsets / 8) k → k ≡ m → EncodedBytes list n sheet rows offsets m r rows' offsets'
+  pub encode_long : (list : ColumnList) (n : ℕ) (sheet rows offsets : List ℕ) (k : ℕ) (rows' offsets' : List ℕ) → Bytes offsets
+      → Used n (length offsets / 8) k → EncodedBytes list n sheet rows offsets k r rows' offsets'
       → LentEncoded list n sheet rows offsets lent rows' offsets' lent'
   unfolding lent_encode lent_encode_rows lent_encode_offsets
-  encode_long list n sheet rows offsets k m rows' offsets' b u e h =
-      let v : Used n (length offsets / 8) m = subst (Used n (length offsets / 8)) e u in
-      record {
-        answers =
-            long_answer (encode_answer list n sheet (length rows) (length offsets / 8))
-            (h.answers ∙ ap numbers_of (encode_answer_lem list n sheet (length offsets / 8) m v (length rows)));
-        row_bytes = long_new rows' _ rows (h.row_bytes ∙ encode_rows_lem list n sheet (length offsets / 8) m v rows);
-        row_ends = long_new offsets' _ offsets (h.row_ends ∙ encode_ends list n sheet (length rows) offsets m b v);
-      }
+  encode_long list n sheet rows offsets k rows' offsets' b u h = record {
+    answers =
+        long_answer (encode_answer list n sheet (length rows) (length offsets / 8))
+        (h.answers ∙ ap numbers_of (encode_answer_lem list n sheet (length offsets / 8) k u (length rows)));
+    row_bytes = long_new rows' _ rows (h.row_bytes ∙ encode_rows_lem list n sheet (length offsets / 8) k u rows);
+    row_ends = long_new offsets' _ offsets (h.row_ends ∙ encode_ends list n sheet (length rows) offsets k b u);
+  }
 
-  pub decode_long : (list : ColumnList) (n : ℕ) (rows offsets sheet : List ℕ) (k m : ℕ) (sheet' : List ℕ) → Used n (length offsets / 8) k → k ≡ m
-      → Decoded list n rows (first_eights m offsets) sheet r sheet' → LentDecoded list n rows offsets sheet lent sheet' lent'
+  -- decode with the k offsets that were read
+  pub decode_long : (list : ColumnList) (n : ℕ) (rows offsets sheet : List ℕ) (k : ℕ) (read sheet' : List ℕ) → Used n (length offsets / 8) k
+      → read ≡ first_eights k offsets → Decoded list n rows read sheet r sheet' → LentDecoded list n rows offsets sheet lent sheet' lent'
   unfolding lent_decode lent_decode_sheet
-  decode_long list n rows offsets sheet k m sheet' u e h =
-      let v : Used n (length offsets / 8) m = subst (Used n (length offsets / 8)) e u in
+  decode_long list n rows offsets sheet k read sheet' u e d =
+      let h = subst (λ (os : List ℕ). Decoded list n rows os sheet r sheet') e d in
       record {
         answers =
             long_answer (decode_answer list n rows (eights offsets) (length sheet))
-            (h.answers ∙ ap numbers_of (decode_answer_lem list n rows offsets m v (length sheet)));
-        bytes = long_new sheet' _ sheet (h.bytes ∙ decode_sheet_lem list n rows offsets m v sheet);
+            (h.answers ∙ ap numbers_of (decode_answer_lem list n rows offsets k u (length sheet)));
+        bytes = long_new sheet' _ sheet (h.bytes ∙ decode_sheet_lem list n rows offsets k u sheet);
       }

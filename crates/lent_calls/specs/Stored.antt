@@ -1,13 +1,11 @@
 -- What a call on lent bytes asks, and read_list on them.
 use Rattle.std.specs.Prelude.{ℕ, ◌/◌, ◌≤◌, ◌≡◌, List, length}
-use Rattle.format.specs.declared.Answer.{Answer}
+use Rattle.format.specs.Numbers.{Answer, numbers_of}
 use Rattle.format.specs.Columns.{spelled_columns}
 use Rattle.format.specs.Described.{codes}
-use Rattle.format.specs.Numbers.{numbers_of}
 use Rattle.format.specs.Entries.{written, read_list_check, read_list_answer}
 use Rattle.format.specs.Lent.{code_room, answer_room}
-use Rattle.list_reader.specs.declared.Listed.{Listed}
-use Rattle.list_reader.specs.Listing.{OfList}
+use Rattle.list_reader.specs.Listing.{Listed, OfList}
 use Rattle.lent_bytes.specs.Offsets.{Used}
 
 -- a list that was read, room for the answer, and k of the lent offsets, which are enough

@@ -1,57 +1,61 @@
--- Columns of an array, written one by one in front of lent ones; and what read_list is to write and answer. Assumes nothing.
-use Prim.Native.Nat.{ℕ, suc, ◌+◌, ◌<◌, ◌≤◌}
-use mathlib.Core.Path.{◌≡◌, refl, sym, ap, ap₂, ◌∙◌}
-use mathlib.Core.List.{List, [], ◌∷◌, ◌++◌}
+-- What read_list is to write and answer. Assumes nothing.
+use Prim.Native.Nat.{ℕ, ◌≤◌}
+use mathlib.Core.Path.{◌≡◌, refl, sym, ap, ◌∙◌}
+use mathlib.Core.List.{List, ◌++◌}
 use native.Mathlib.Omega.{arith}
-use lib.ListN.{length, get_or, take, drop, set, length-append, length-drop}
-use lib.Seq.{take-suc, drop-cons, set_at, append_snoc, length-take-le}
+use lib.ListN.{length, take, drop}
 use Rattle.format.specs.declared.Column.{Column}
-use Rattle.format.specs.Schemas.{no_column}
+use Rattle.format.specs.Limits.{max_columns}
+use Rattle.format.specs.declared.Schema.{Schema}
+use Rattle.format.specs.Schemas.{schema_of}
 use Rattle.format.specs.declared.Refusal.{Refusal}
 use Rattle.format.specs.declared.Refusal.TheVariants.{ColumnRoom}
-use Rattle.format.specs.declared.Check.{Check}
-use Rattle.format.specs.declared.Check.TheVariants.{Pass, Refuse}
-use Rattle.format.specs.declared.Answer.{Answer}
-use Rattle.format.specs.declared.Answer.TheVariants.{Done, Refused}
+use Rattle.std.specs.declared.result.Result.TheVariants.{Ok, Err}
 use Rattle.format.specs.Columns.{spelled_fault, spelled_columns}
 use Rattle.format.specs.Described.{spelled}
 use Rattle.format.specs.Entries.{read_list_check, read_list_answer, read_list_columns}
-use Rattle.format.specs.Numbers.{numbers_of}
 use Rattle.format.specs.Promises.{ListRead}
-use Rattle.basics.proofs.Checks.{enough, both_pass}
-use Rattle.list_reader.specs.declared.Listed.{Listed}
-use Rattle.list_reader.specs.Listing.{ListedAs}
+use Rattle.basics.proofs.Checks.{given_ok, given_err, enough, both_pass}
+use Rattle.list_reader.specs.Listing.{Listed, Sound}
 use Rattle.list_reader.proofs.Schemas.{sound}
-use Rattle.list_filler.specs.declared.Reading.{Reading}
-use Rattle.list_filler.specs.Filling.{filling, Planned}
+use Rattle.checks.specs.Begun.{ListedFor}
 
-pub fill_more : (from lent : List Column) (i : ℕ) → i < length from → i < length lent
-    → set (filling from lent i) i (get_or from i no_column) ≡ filling from lent (suc i)
-fill_more from lent i h l =
-    ap (λ (cs : List Column). set (take i from ++ cs) i (get_or from i no_column)) (drop-cons lent i no_column l)
-    ∙ set_at (take i from) (get_or lent i no_column) (drop (suc i) lent) (get_or from i no_column) i (length-take-le i from (omega arith))
-    ∙ sym (append_snoc (take i from) (get_or from i no_column) (drop (suc i) lent))
-    ∙ ap (λ (cs : List Column). cs ++ drop (suc i) lent) (sym (take-suc from i no_column h))
-
--- ---- what is to be written and answered
-module _ (list : List ℕ) (room : ℕ) (l : Listed) (says : ListedAs (spelled list) l) (fault : Check) (f : fault ≡ read_list_check list room) where
+-- ---- what is answered and written
+module _ (list : List ℕ) (lent : List Column) (r : Listed) (l : ListedFor list (length lent) r) where
   -- a refusal writes nothing
-  pub plan_refused : (x : Refusal) → fault ≡ Refuse x → Planned list room (record { columns = l.schema.columns; count = 0; answer = Refused x })
+  pub none_filled : (x : Refusal) → r ≡ Err x → ListRead list lent (Err x) lent
   unfolding read_list_answer read_list_columns
-  plan_refused x e =
-      let c : read_list_check list room ≡ Refuse x = sym f ∙ e in
-      record { answers = rw c refl; few = omega arith; there = omega arith; columns = λ lent is. rw (is, c) refl }
+  none_filled x e =
+      let c : read_list_check list (length lent) ≡ Err x = given_err (read_list_check list (length lent)) _ (sym e ∙ l) in
+      record { answers = rw c refl; descriptions = rw c refl }
 
-  -- a success writes the columns
-  pub plan_passed : fault ≡ Pass → Planned list room (record { columns = l.schema.columns; count = l.schema.count; answer = Done l.schema.count 0 })
-  unfolding read_list_answer read_list_columns read_list_check
-  plan_passed e =
-      let c : read_list_check list room ≡ Pass = sym f ∙ e in
-      let p = both_pass (spelled_fault list) _ c in
-      let is = sound (spelled list) l says p.0 in
-      record {
-        answers = rw (c, is.count) refl;
-        few = is.limited.few;
-        there = omega (arith, is.count, (enough room (length (spelled_columns list)) (ColumnRoom (length (spelled_columns list))) Pass p.1).0);
-        columns = λ lent long. rw (long, c, is.cols, is.count) refl;
-      }
+  module _ (schema : Schema) (e : r ≡ Ok schema) where
+    passes : (read_list_check list (length lent) ≡ Ok tt) × (schema ≡ schema_of (spelled_columns list))
+    passes = given_ok (read_list_check list (length lent)) _ (sym e ∙ l)
+
+    both_passed : (spelled_fault list ≡ Ok tt) × (length (spelled_columns list) ≤ length lent)
+    unfolding read_list_check
+    both_passed =
+        let p = both_pass (spelled_fault list) _ passes.0 in
+        (p.0, (enough (length lent) (length (spelled_columns list)) (ColumnRoom (length (spelled_columns list))) (Ok tt) p.1).0)
+
+    is : Sound (spelled list) schema
+    is = sound (spelled list) schema both_passed.0 passes.1
+
+    -- as many are there, and have room
+    pub room : schema.count ≤ length lent
+    room = omega (arith, is.count, both_passed.1)
+
+    pub few : schema.count ≤ max_columns
+    few = is.limited.few
+
+    pub there : length (take schema.count schema.columns) ≡ schema.count
+    there = ap length is.cols ∙ sym is.count
+
+    -- a success writes the columns
+    pub all_filled : (lent' : List Column) → lent' ≡ take schema.count schema.columns ++ drop schema.count lent → ListRead list lent (Ok (schema.count, 0)) lent'
+    unfolding read_list_answer read_list_columns
+    all_filled lent' w = record {
+      answers = rw (passes.0, is.count) refl;
+      descriptions = w ∙ rw (passes.0, is.cols, is.count) refl;
+    }

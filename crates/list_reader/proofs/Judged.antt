@@ -8,7 +8,7 @@ use lib.ListN.{length}
 use borrow.Author.Tests.{eq-eqb, ne_eqb}
 use Rattle.format.specs.declared.Refusal.{Refusal}
 use Rattle.format.specs.declared.Refusal.TheVariants.{ListCut, ManyColumns}
-use Rattle.format.specs.declared.Check.TheVariants.{Pass, Refuse}
+use Rattle.std.specs.declared.result.Result.TheVariants.{Ok, Err}
 use Rattle.format.specs.Limits.{max_columns}
 use Rattle.format.specs.Lists.{each}
 use Rattle.format.specs.Described.{Description, held_fault, descriptions_fault_from, descriptions_fault}
@@ -30,7 +30,7 @@ module _ (k : ℕ) (f : ℕ → Description) where
   }
 
   -- none is lent
-  pub judged_none : k ≡ 0 → descriptions_fault (each 0 k f) ≡ Refuse (ListCut 0)
+  pub judged_none : k ≡ 0 → descriptions_fault (each 0 k f) ≡ Err (ListCut 0)
   unfolding descriptions_fault
   judged_none e = rw (eq-eqb (length (each 0 k f)) 0 (length_each 0 k f ∙ e))
 
@@ -41,21 +41,21 @@ module _ (k : ℕ) (f : ℕ → Description) where
 
   module _ (i : ℕ) (t : Judged i) where
     -- a 65th
-    pub judged_full : i < k → i ≡ max_columns → descriptions_fault (each 0 k f) ≡ Refuse (ManyColumns i)
+    pub judged_full : i < k → i ≡ max_columns → descriptions_fault (each 0 k f) ≡ Err (ManyColumns i)
     judged_full h e =
         let none : t.room ≡ 0 = omega (arith, t.counts) in
         all (omega arith) ∙ sym t.faults ∙ rw (none, each_step f k i h) refl
 
     -- number i is refused
-    pub judged_bad : (x : Refusal) → i < k → (i ≡ max_columns → ⊥) → held_fault i (f i) ≡ Refuse x → descriptions_fault (each 0 k f) ≡ Refuse x
+    pub judged_bad : (x : Refusal) → i < k → (i ≡ max_columns → ⊥) → held_fault i (f i) ≡ Err x → descriptions_fault (each 0 k f) ≡ Err x
     judged_bad x h left e = all (omega arith) ∙ sym t.faults ∙ step t.room t.counts
       where
-        step : (room : ℕ) → i + room ≡ max_columns → descriptions_fault_from room i (each i (k - i) f) ≡ Refuse x
+        step : (room : ℕ) → i + room ≡ max_columns → descriptions_fault_from room i (each i (k - i) f) ≡ Err x
         step zero counts = absurd (left (omega arith))
         step (suc room) counts = rw (each_step f k i h, e) refl
 
     -- it passes
-    pub judged_more : i < k → (i ≡ max_columns → ⊥) → held_fault i (f i) ≡ Pass → Judged (i + 1)
+    pub judged_more : i < k → (i ≡ max_columns → ⊥) → held_fault i (f i) ≡ Ok tt → Judged (i + 1)
     judged_more h left e = step t.room t.counts t.faults
       where
         step : (room : ℕ) → i + room ≡ max_columns → descriptions_fault_from room i (each i (k - i) f) ≡ descriptions_fault_from max_columns 0 (each 0 k f) → Judged (i + 1)
@@ -70,5 +70,5 @@ module _ (k : ℕ) (f : ℕ → Description) where
             one = rw (each_step f k i h, e) refl
 
     -- all have passed
-    pub judged_end : k ≤ i → 0 < k → descriptions_fault (each 0 k f) ≡ Pass
+    pub judged_end : k ≤ i → 0 < k → descriptions_fault (each 0 k f) ≡ Ok tt
     judged_end h some = all some ∙ sym t.faults ∙ rw (each_none f k i h) refl

@@ -9,26 +9,25 @@ use borrow.Author.Tests.{ne_eqb, eq-eqb, lt-ltb, le-ltb}
 use Rattle.format.specs.declared.Column.{Column}
 use Rattle.format.specs.declared.Refusal.{Refusal}
 use Rattle.format.specs.declared.Refusal.TheVariants.{ListCut, ManyColumns}
-use Rattle.format.specs.declared.Check.TheVariants.{Pass, Refuse}
+use Rattle.std.specs.declared.result.Result.TheVariants.{Ok, Err}
 use Rattle.format.specs.Limits.{max_columns}
 use Rattle.format.specs.Columns.{description_bytes, column_at, description_fault, list_fault_from, columns_from, spelled_fault, spelled_columns}
 use Rattle.format.specs.Described.{spelled}
-use Rattle.list_reader.specs.declared.Listed.{Listed}
 use Rattle.format.specs.Schemas.{no_column}
 use Rattle.list_reader.specs.Listing.{ListedAs}
 use Rattle.list_reader.proofs.Schemas.{refused, passed}
 
 -- ---- one turn of the definitions
 
-fault_end : (room : ℕ) (s : List ℕ) (at : ℕ) → length s ≤ at → list_fault_from room s at ≡ Pass
+fault_end : (room : ℕ) (s : List ℕ) (at : ℕ) → length s ≤ at → list_fault_from room s at ≡ Ok tt
 fault_end zero s at h = rw (le-ltb at (length s) h)
 fault_end (suc room) s at h = rw (le-ltb at (length s) h)
 
-fault_next : (room : ℕ) (s : List ℕ) (at : ℕ) → at < length s → description_fault s at ≡ Pass
+fault_next : (room : ℕ) (s : List ℕ) (at : ℕ) → at < length s → description_fault s at ≡ Ok tt
     → list_fault_from (suc room) s at ≡ list_fault_from room s (at + description_bytes (get_or s at 0))
 fault_next room s at h e = rw (lt-ltb at (length s) h, e)
 
-fault_bad : (room : ℕ) (s : List ℕ) (at : ℕ) (r : Refusal) → at < length s → description_fault s at ≡ Refuse r → list_fault_from (suc room) s at ≡ Refuse r
+fault_bad : (room : ℕ) (s : List ℕ) (at : ℕ) (r : Refusal) → at < length s → description_fault s at ≡ Err r → list_fault_from (suc room) s at ≡ Err r
 fault_bad room s at r h e = rw (lt-ltb at (length s) h, e)
 
 columns_end : (room : ℕ) (s : List ℕ) (at : ℕ) → length s ≤ at → columns_from room s at ≡ []
@@ -60,7 +59,7 @@ start s none e = record { room = max_columns; read = []; counts = refl; long = r
 
 -- ---- the ways on from the head of a turn
 pub more : (s : List ℕ) (array : List Column) (count at : ℕ) (col : Column) (size : ℕ) → Turn s array count at → at < length s
-    → (count ≡ max_columns → ⊥) → description_fault s at ≡ Pass → col ≡ column_at s at → size ≡ description_bytes (get_or s at 0)
+    → (count ≡ max_columns → ⊥) → description_fault s at ≡ Ok tt → col ≡ column_at s at → size ≡ description_bytes (get_or s at 0)
     → Turn s (set array count col) (count + 1) (at + size)
 more s array count at col size t h left e is wide = step t.room t.read t.counts t.long t.made t.faults t.says
   where
@@ -82,25 +81,25 @@ more s array count at col size t h left e is wide = step t.room t.read t.counts 
               ∙ rw (wide, is, ← columns_next room s at h) says;
         }
 
-pub empty : (s : List ℕ) (r : Listed) → length s ≡ 0 → r.check ≡ Refuse (ListCut 0) → ListedAs (spelled s) r
+pub empty : (s : List ℕ) → length s ≡ 0 → ListedAs (spelled s) (Err (ListCut 0))
 unfolding spelled_fault
-empty s r e a = refused (spelled s) r (ListCut 0) a (rw (eq-eqb (length s) 0 e))
+empty s e = refused (spelled s) (ListCut 0) (rw (eq-eqb (length s) 0 e))
 
-module _ (s : List ℕ) (array : List Column) (count at : ℕ) (t : Turn s array count at) (r : Listed) where
-  pub full : at < length s → count ≡ max_columns → r.check ≡ Refuse (ManyColumns at) → ListedAs (spelled s) r
-  full h e a =
+module _ (s : List ℕ) (array : List Column) (count at : ℕ) (t : Turn s array count at) where
+  pub full : at < length s → count ≡ max_columns → ListedAs (spelled s) (Err (ManyColumns at))
+  full h e =
       let none : t.room ≡ 0 = omega (arith, t.counts) in
-      refused (spelled s) r (ManyColumns at) a (fault_all s (omega arith) ∙ sym t.faults ∙ rw (none, lt-ltb at (length s) h))
+      refused (spelled s) (ManyColumns at) (fault_all s (omega arith) ∙ sym t.faults ∙ rw (none, lt-ltb at (length s) h))
 
-  pub bad : (x : Refusal) → at < length s → (count ≡ max_columns → ⊥) → description_fault s at ≡ Refuse x → r.check ≡ Refuse x → ListedAs (spelled s) r
-  bad x h left e a = refused (spelled s) r x a (fault_all s (omega arith) ∙ sym t.faults ∙ step t.room t.counts)
+  pub bad : (x : Refusal) → at < length s → (count ≡ max_columns → ⊥) → description_fault s at ≡ Err x → ListedAs (spelled s) (Err x)
+  bad x h left e = refused (spelled s) x (fault_all s (omega arith) ∙ sym t.faults ∙ step t.room t.counts)
     where
-      step : (room : ℕ) → count + room ≡ max_columns → list_fault_from room s at ≡ Refuse x
+      step : (room : ℕ) → count + room ≡ max_columns → list_fault_from room s at ≡ Err x
       step zero counts = absurd (left (omega arith))
       step (suc room) counts = fault_bad room s at x h e
 
-  pub good : length s ≤ at → 0 < length s → r.check ≡ Pass → r.schema.columns ≡ array → r.schema.count ≡ count → ListedAs (spelled s) r
-  good h some a b c =
+  pub good : length s ≤ at → 0 < length s → ListedAs (spelled s) (Ok (record { columns = array; count = count }))
+  good h some =
       let all : t.read ≡ spelled_columns s = sym (append-nil t.read) ∙ ap (λ (l : List Column). t.read ++ l) (sym (columns_end t.room s at h)) ∙ t.says in
       let left : max_columns - length t.read ≡ t.room = omega (arith, t.counts, t.long) in
-      passed (spelled s) r a (fault_all s some ∙ sym t.faults ∙ fault_end t.room s at h) (b ∙ t.made ∙ rw (← left, all)) (c ∙ sym t.long ∙ ap length all)
+      passed (spelled s) array count (fault_all s some ∙ sym t.faults ∙ fault_end t.room s at h) (t.made ∙ rw (← left, all)) (sym t.long ∙ ap length all)

@@ -1,17 +1,19 @@
 -- What reading a column list says.
-use Rattle.std.specs.Prelude.{ℕ, ◌-◌, ◌≤◌, ◌≡◌, List, ◌++◌, length, take, replicate}
-use Rattle.format.specs.declared.Check.TheVariants.{Pass}
+use Rattle.std.specs.Prelude.{ℕ, ◌-◌, ◌≤◌, ◌≡◌, List, ◌++◌, length, take, replicate, Result}
 use Rattle.format.specs.declared.Column.{Column}
 use Rattle.format.specs.declared.Schema.{Schema}
+use Rattle.format.specs.declared.Refusal.{Refusal}
+use Rattle.format.specs.Check.{given}
 use Rattle.format.specs.Limits.{max_columns}
 use Rattle.format.specs.Schemas.{no_column, schema_of, cols_of, Limited}
 use Rattle.format.specs.Described.{ColumnList, list_fault, columns}
-use Rattle.list_reader.specs.declared.Listed.{Listed}
+
+abbrev pub Listed : Type 0
+Listed = Result Schema Refusal
 
 -- its first fault, and if it has none its columns
-pub record ListedAs (list : ColumnList) (r : Listed) : Type 0 where
-  pub check : r.check ≡ list_fault list
-  pub schema : list_fault list ≡ Pass → r.schema ≡ schema_of (columns list)
+abbrev pub ListedAs : ColumnList → Listed → Type 0
+ListedAs list r = r ≡ given (list_fault list) (schema_of (columns list))
 
 -- some list says so
 pub record OfList (r : Listed) : Type 0 where

@@ -9,15 +9,7 @@ ghost use Rattle.list_reader.specs.Listing.{ListedAs};
 
 use column_facts::no_column;
 use descriptions::{check_numbers, kind_of, options_of};
-use format::{Check, Column, Refusal, Schema};
-use words::join16;
-
-// What a list says: its first fault, and the columns of one that has none.
-#[derive(Clone, Copy)]
-pub struct Listed {
-    pub check: Check,
-    pub schema: Schema,
-}
+use format::{Column, Refusal, Schema};
 
 // The bytes of a description: kind and options, and for kind 15 also the width.
 fn description_bytes(b: u8) -> usize
@@ -38,11 +30,11 @@ fn width_at(list: &[u8], at: usize) -> u16
     if list[at] != 15 {
         return 0;
     }
-    join16(list[at + 2], list[at + 3])
+    u16::from_le_bytes([list[at + 2], list[at + 3]])
 }
 
 // The first fault of the description at `at`.
-fn check_description(list: &[u8], at: usize) -> Check
+fn check_description(list: &[u8], at: usize) -> Result<(), Refusal>
     requires { at < length list.now }
     ensures { result ≡ description_fault list.now at }
 {
@@ -66,22 +58,8 @@ fn column_at(list: &[u8], at: usize) -> Column
     }
 }
 
-// What was read, with the answer to it.
-pub fn answered(check: Check, columns: [Column; format::MAX_COLUMNS], count: usize) -> Listed
-    ensures { (result.check ≡ check) × (result.schema.columns ≡ columns) × (result.schema.count ≡ count) }
-{
-    let schema = Schema {
-        columns: columns,
-        count: count,
-    };
-    Listed {
-        check: check,
-        schema: schema,
-    }
-}
-
 // The list, left to right: at each column 5, then its own faults.
-pub fn read_list(list: &[u8]) -> Listed
+pub fn read_list(list: &[u8]) -> Result<Schema, Refusal>
     ensures { ListedAs (spelled list.now) result }
 {
     let none = no_column();
@@ -89,19 +67,17 @@ pub fn read_list(list: &[u8]) -> Listed
     let mut count: usize = 0;
     let mut at: usize = 0;
     if list.len() == 0 {
-        return answered(Check::Refuse(Refusal::ListCut(0)), columns, count);
+        return Err(Refusal::ListCut(0));
     }
+    // A `while`: a description has two or four bytes, as its kind says, so that no range has the places.
     while at < list.len() {
         if count == format::MAX_COLUMNS {
-            return answered(Check::Refuse(Refusal::ManyColumns(at)), columns, count);
+            return Err(Refusal::ManyColumns(at));
         }
-        let check = check_description(list, at);
-        if let Check::Refuse(r) = check {
-            return answered(Check::Refuse(r), columns, count);
-        }
+        check_description(list, at)?;
         columns[count] = column_at(list, at);
         count += 1;
         at += description_bytes(list[at]);
     }
-    answered(Check::Pass, columns, count)
+    Ok(Schema { columns, count })
 }

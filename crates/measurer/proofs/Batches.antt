@@ -3,60 +3,62 @@ use Prim.Native.Nat.{ℕ}
 use mathlib.Core.Path.{◌≡◌, refl, sym, ◌∙◌, ap}
 use mathlib.Core.List.{List}
 use Rattle.format.specs.declared.Refusal.{Refusal}
-use Rattle.format.specs.declared.Check.{Check}
-use Rattle.format.specs.declared.Check.TheVariants.{Pass, Refuse}
-use Rattle.format.specs.Check.{both}
+use Rattle.format.specs.declared.Schema.{Schema}
+use Rattle.format.specs.Check.{both, verdict}
+use Rattle.std.specs.declared.result.Result.TheVariants.{Ok, Err}
+use Rattle.std.specs.declared.result.Result.{Result}
 use Rattle.format.specs.Described.{ColumnList, list_fault, columns}
 use Rattle.format.specs.Schemas.{cols_of}
 use Rattle.format.specs.Sheet.{sheet_fault}
-use Rattle.format.specs.Entries.{row_count_fault, sheet_total, total_fault, measure_check, measure_answer, answer}
+use Rattle.format.specs.Entries.{row_count_fault, sheet_total, total_fault, measure_check, measure_answer}
 use Rattle.format.specs.Promises.{Measured}
 use Rattle.format.specs.Numbers.{numbers_of}
 use Rattle.basics.proofs.Checks.{refuse_pass}
-use Rattle.list_reader.specs.declared.Listed.{Listed}
+use Rattle.list_reader.specs.Listing.{Listed}
 use Rattle.checks.specs.Begun.{Begun}
-use Rattle.checks.proofs.Begun.{both_grouped}
+use Rattle.checks.proofs.Begun.{both_grouped, begun_refused, begun_passed, begun_sound}
 use Rattle.sheet_reader.specs.declared.sheet.Sheeted.{Sheeted}
 use Rattle.sheet_reader.specs.Sheets.{SheetedAs}
 use Rattle.measurer.specs.declared.Measuring.{Measuring}
-use Rattle.measurer.specs.Measuring.{batch_check, Measures}
+use Rattle.measurer.specs.Measuring.{batch_check, Found, Measures}
 
 -- ---- list, 6, sheet
 module _ (list : ColumnList) (n : ℕ) (sheet : List ℕ) where
-  -- a refusal of the batch says no more
-  refused : (m : Measuring) (x : Refusal) → batch_check list n sheet ≡ Refuse x → m.check ≡ Refuse x → Measures list n sheet m
-  refused m x e a = record { check = a ∙ sym e; found = λ p. absurd (refuse_pass (sym a ∙ p)) }
+  -- the refusal x is the first fault of the batch, and so it is answered
+  refused : (x : Refusal) → batch_check list n sheet ≡ Err x → Measures list n sheet (Err x)
+  refused x e = record { check = sym e; found = λ m p. absurd (refuse_pass (ap verdict p)) }
 
   module _ (b : Listed) (begun : Begun list n b) where
-    grouped : batch_check list n sheet ≡ both b.check (sheet_fault n (columns list) sheet)
-    grouped = both_grouped (list_fault list) (row_count_fault n) _ ∙ rw begun.check
+    grouped : batch_check list n sheet ≡ both (both (list_fault list) (row_count_fault n)) (sheet_fault n (columns list) sheet)
+    grouped = both_grouped (list_fault list) (row_count_fault n) _
 
-    pub bad_begin : (m : Measuring) (x : Refusal) → b.check ≡ Refuse x → m.check ≡ Refuse x → Measures list n sheet m
-    bad_begin m x e a = refused m x (grouped ∙ rw e) a
+    pub bad_begin : (x : Refusal) → b ≡ Err x → Measures list n sheet (Err x)
+    bad_begin x e = refused x (grouped ∙ rw (begun_refused list n b begun x e))
 
-    module _ (e : b.check ≡ Pass) (r : Sheeted) (s : SheetedAs n (cols_of b.schema) sheet r) where
-      cols : cols_of b.schema ≡ columns list
-      cols = (begun.sound e).cols
+    module _ (schema : Schema) (e : b ≡ Ok schema) (r : Result Sheeted Refusal) (s : SheetedAs n (cols_of schema) sheet r) where
+      cols : cols_of schema ≡ columns list
+      cols = (begun_sound list n b begun schema e).0.cols
 
-      fault : sheet_fault n (columns list) sheet ≡ r.check
-      fault = rw (← cols) (sym s.check)
+      fault : batch_check list n sheet ≡ verdict r
+      fault = grouped ∙ rw (begun_passed list n b begun schema e, ← cols) (sym s.check)
 
-      pub bad_sheet : (m : Measuring) (x : Refusal) → r.check ≡ Refuse x → m.check ≡ Refuse x → Measures list n sheet m
-      bad_sheet m x f a = refused m x (grouped ∙ rw (e, fault, f)) a
+      pub bad_sheet : (x : Refusal) → r ≡ Err x → Measures list n sheet (Err x)
+      bad_sheet x f = refused x (fault ∙ ap verdict f)
 
-      pub measured : r.check ≡ Pass → (total : ℕ) → total ≡ sheet_total n (cols_of b.schema) sheet
-          → Measures list n sheet (record { check = Pass; schema = b.schema; facts = r.facts; total = total; nulls = r.nulls })
-      measured f total t =
-          let whole : sheet_fault n (cols_of b.schema) sheet ≡ Pass = sym s.check ∙ f in
+      pub measured : (t : Sheeted) → r ≡ Ok t → (total : ℕ) → total ≡ sheet_total n (cols_of schema) sheet
+          → Measures list n sheet (Ok (record { schema = schema; facts = t.facts; total = total; nulls = t.nulls }))
+      measured t f total w =
+          let it : Measuring = record { schema = schema; facts = t.facts; total = total; nulls = t.nulls } in
+          let found : Found list n sheet it = record {
+            few = (begun_sound list n b begun schema e).1;
+            sound = (begun_sound list n b begun schema e).0;
+            known = s.facts t f;
+            total = rw (← cols) w;
+            nulls = rw (← cols) (s.nulls t f);
+          } in
           record {
-            check = sym (grouped ∙ rw (e, fault, f));
-            found = λ _. record {
-              few = begun.few e;
-              sound = begun.sound e;
-              known = s.facts whole;
-              total = rw (← cols) t;
-              nulls = rw (← cols) (s.nulls whole);
-            };
+            check = sym (fault ∙ ap verdict f);
+            found = λ m p. let q : it ≡ m = cc in rw (← q) found;
           }
 
 -- ---- then 12
@@ -70,12 +72,24 @@ batch_first list n sheet =
     let t = total_fault (sheet_total n (columns list) sheet) in
     rw (both_grouped (row_count_fault n) s t, both_grouped (list_fault list) (both (row_count_fault n) s) t) refl
 
--- what is measured is the answer
-pub answered : (list : ColumnList) (n : ℕ) (sheet : List ℕ) (m : Measuring) → Measures list n sheet m
-    → Measured list n sheet (answer (both m.check (total_fault m.total)) m.total m.nulls)
-unfolding measure_answer
-answered list n sheet m h = record { answers = ap numbers_of (cases m.check refl) }
-  where
-    cases : (x : Check) → m.check ≡ x → answer (both m.check (total_fault m.total)) m.total m.nulls ≡ measure_answer list n sheet
-    cases Pass e = rw (batch_first list n sheet, ← h.check, e, (h.found e).total, (h.found e).nulls) refl
-    cases (Refuse r) e = rw (batch_first list n sheet, ← h.check, e) refl
+-- what is measured is the answer: a refusal, 12, or the total and the null total
+module _ (list : ColumnList) (n : ℕ) (sheet : List ℕ) (r : Result Measuring Refusal) (h : Measures list n sheet r) where
+  pub bad_batch : (x : Refusal) → r ≡ Err x → Measured list n sheet (Err x)
+  unfolding measure_answer
+  bad_batch x e =
+      let says : measure_answer list n sheet ≡ Err x = rw (batch_first list n sheet, ← h.check, e) in
+      record { answers = ap numbers_of (sym says) }
+
+  module _ (m : Measuring) (e : r ≡ Ok m) where
+    pub heavy : (x : Refusal) → total_fault m.total ≡ Err x → Measured list n sheet (Err x)
+    unfolding measure_answer
+    heavy x t =
+        let says : measure_answer list n sheet ≡ Err x = rw (batch_first list n sheet, ← h.check, e, ← (h.found m e).total, t) in
+        record { answers = ap numbers_of (sym says) }
+
+    pub light : total_fault m.total ≡ Ok tt → Measured list n sheet (Ok (m.total, m.nulls))
+    unfolding measure_answer
+    light t =
+        let says : measure_answer list n sheet ≡ Ok (m.total, m.nulls) =
+        rw (batch_first list n sheet, ← h.check, e, ← (h.found m e).total, t, ← (h.found m e).nulls) refl in
+        record { answers = ap numbers_of (sym says) }

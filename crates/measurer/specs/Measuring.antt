@@ -1,9 +1,8 @@
 -- What measuring says, of which measure answers and with which encode goes on.
-use Rattle.std.specs.Prelude.{ℕ, ◌≤◌, ◌≡◌, List}
-use Rattle.format.specs.declared.Check.{Check}
-use Rattle.format.specs.declared.Check.TheVariants.{Pass}
+use Rattle.std.specs.Prelude.{ℕ, ◌≤◌, ◌≡◌, List, Result, Ok}
+use Rattle.format.specs.declared.Refusal.{Refusal}
+use Rattle.format.specs.Check.{Check, both, verdict}
 use Rattle.format.specs.Limits.{max_rows}
-use Rattle.format.specs.Check.{both}
 use Rattle.format.specs.Described.{ColumnList, list_fault, columns}
 use Rattle.format.specs.Schemas.{cols_of}
 use Rattle.format.specs.Sheet.{sheet_fault, sheet_slots, nulls}
@@ -25,6 +24,6 @@ pub record Found (list : ColumnList) (n : ℕ) (sheet : List ℕ) (m : Measuring
   pub nulls : m.nulls ≡ nulls (sheet_slots n (columns list) sheet)
 
 -- the first fault of list, 6 and sheet, and what is found where there is none
-pub record Measures (list : ColumnList) (n : ℕ) (sheet : List ℕ) (m : Measuring) : Type 0 where
-  pub check : m.check ≡ batch_check list n sheet
-  pub found : m.check ≡ Pass → Found list n sheet m
+pub record Measures (list : ColumnList) (n : ℕ) (sheet : List ℕ) (r : Result Measuring Refusal) : Type 0 where
+  pub check : verdict r ≡ batch_check list n sheet
+  pub found : (m : Measuring) → r ≡ Ok m → Found list n sheet m

@@ -12,7 +12,7 @@ ghost use Rattle.basics.specs.Wrote.{Wrote};
 
 use column_facts::null_sentinel;
 use format::SortOptions;
-use number::directed8;
+use number::directed;
 use runs::{put_byte, zeros};
 
 // Null: the null byte, which descending does not invert, then zeros to the length of a value.
@@ -31,6 +31,6 @@ pub fn encode_boolean(out: &mut [u8], at: usize, val: bool, options: SortOptions
     ensures { Wrote (fixed_field bool options (some (bool_byte val))) at out.old out.new result }
 {
     out[at] = 1;
-    out[at + 1] = directed8(options.descending, val as u8);
+    out[at + 1] = directed(options.descending, val as u8);
     at + 2
 }

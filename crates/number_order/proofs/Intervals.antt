@@ -1,7 +1,7 @@
 -- Intervals, part after part: each part decides unless it ties, in values that stand at places of two columns. Assumes nothing.
-use Prim.Native.Nat.{ℕ, ◌+◌, ◌-◌, ◌≤◌, Ordering}
+use Prim.Native.Nat.{ℕ, ◌+◌, ◌≤◌, Ordering}
 use mathlib.Core.Path.{◌≡◌, ap, ap₂, sym, ◌∙◌}
-use mathlib.Core.List.{List, [], ◌∷◌}
+use mathlib.Core.List.{List, ◌∷◌}
 use native.Mathlib.Omega.{arith}
 use lib.ListN.{length, take, drop, length-take, length-drop}
 use lib.Seq.{drop-drop}

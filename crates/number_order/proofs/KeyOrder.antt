@@ -1,5 +1,5 @@
 -- The keys of fixed values stand as the values do, for every shape. Assumes nothing.
-use Prim.Native.Nat.{ℕ, ◌+◌, ◌<◌, min}
+use Prim.Native.Nat.{ℕ, ◌+◌, min}
 use mathlib.Core.Path.{◌≡◌, refl, ap, ap₂, sym, ◌∙◌}
 use mathlib.Core.List.{List, [], ◌∷◌}
 use native.Mathlib.Omega.{arith}

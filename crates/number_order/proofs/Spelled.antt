@@ -11,19 +11,23 @@ use Rattle.format.specs.Kinds.{float}
 use Rattle.format.specs.Fold.{folded_bits, folded_value}
 use Rattle.number.proofs.Folds.{folded_spelled}
 use Rattle.number.proofs.Tops.{drop_take}
-use Rattle.number.proofs.Words.{read_back}
+use Rattle.number.proofs.Words.{read_back, read_fits}
 use Rattle.byte_order.proofs.Alike.{word_order}
 use Rattle.format.specs.CompareSheets.{rank}
 use Rattle.number_order.specs.Orders.{Spells, Ordered}
 
--- x is the number that stands at a place of s, f the same folded, y the word of its key, z what the key spells
-pub spelled : (n : ℕ) (key_of : List ℕ → List ℕ) (b : Bool) (s : List ℕ) (at : ℕ) → ((i : ℕ) → get_or s i 0 < 256) → at + n ≤ length s
-    → (x f y z : ℕ) → x < 256 ^ n → x ≡ low (take n (drop at s)) → f ≡ cond b (folded_bits n x) x
-    → low_bytes n y ≡ key_of (low_bytes n f) → low_bytes n z ≡ reverse (low_bytes n y)
-    → Spells n (key_of (folded_value (float n) b (take n (drop at s)))) z
-spelled n key_of b s at known inside x f y z small a e k t = record {
-  bytes = t ∙ ap reverse (k ∙ ap key_of (folded_spelled n x f small b e ∙ ap (folded_value (float n) b) (read_back n s at x known inside a)));
-}
+-- the number x that stands at a place of s, by its bytes there
+module _ (n : ℕ) (key_of : List ℕ → List ℕ) (s : List ℕ) (at : ℕ) (known : (i : ℕ) → get_or s i 0 < 256) (inside : at + n ≤ length s) (x z : ℕ) (a : x ≡ low (take n (drop at s))) where
+  pub spelled_at : Spells n (key_of (low_bytes n x)) z → Spells n (key_of (take n (drop at s))) z
+  spelled_at t = record { bytes = t.bytes ∙ ap (λ (v : List ℕ). reverse (key_of v)) (read_back n s at x known inside a) }
+
+-- and the same folded to f
+pub folded_at : (n : ℕ) (key_of : List ℕ → List ℕ) (b : Bool) (s : List ℕ) (at : ℕ) → ((i : ℕ) → get_or s i 0 < 256) → at + n ≤ length s
+    → (x f z : ℕ) → x ≡ low (take n (drop at s)) → f ≡ cond b (folded_bits n x) x
+    → Spells n (key_of (low_bytes n f)) z → Spells n (key_of (folded_value (float n) b (take n (drop at s)))) z
+folded_at n key_of b s at known inside x f z a e t =
+    spelled_at n (λ v. key_of (folded_value (float n) b v)) s at known inside x z a
+    (record { bytes = t.bytes ∙ ap (λ (v : List ℕ). reverse (key_of v)) (folded_spelled n x f (read_fits n s at x known inside a) b e) })
 
 -- two such words stand as the keys do
 pub spelled_order : {n : ℕ} {f g : List ℕ} {x y r : ℕ} → Spells n f x → Spells n g y → x < 256 ^ n → y < 256 ^ n → r ≡ rank (compareℕ x y) → Ordered f g r

@@ -1,7 +1,7 @@
 -- Numbers word by word, from the top down: the top word decides unless it ties. Over the count of words. Assumes nothing.
 use Prim.Native.Nat.{ℕ, ◌+◌, ◌*◌, ◌<◌, ◌≤◌, Ordering}
 use mathlib.Core.Path.{◌≡◌, ap, ap₂, sym, ◌∙◌}
-use mathlib.Core.List.{List, ◌++◌, reverse, reverse-append}
+use mathlib.Core.List.{List, ◌++◌, reverse-append}
 use native.Mathlib.Omega.{arith}
 use lib.ListN.{length, take, drop, length-drop, length-reverse}
 use lib.Seq.{length-take-le}

@@ -1,7 +1,6 @@
 -- A number's bytes in the sheet, from its value bytes in a row; whether a float is folded. Assumes nothing.
 use Prim.Native.Nat.{ℕ, ◌+◌, ◌^◌, ◌≤◌, ◌<◌}
 use mathlib.Core.Path.{◌≡◌, ap, ◌∙◌}
-use mathlib.Core.Logic.{inl, inr}
 use mathlib.Core.Bool.{Bool, true}
 use mathlib.Core.List.{List}
 use lib.Dec.{eqb}
@@ -15,13 +14,6 @@ use Rattle.number.specs.declared.Coding.{Coding}
 use Rattle.number.specs.Codings.{coding_unkey}
 use Rattle.number.proofs.Words.{read_back}
 use Rattle.number.proofs.Folds.{folded_same}
-use Rattle.number_reader.specs.Words.{WordWidth}
-
--- the width that is left
-pub eight : (w : ℕ) → WordWidth w → (w ≡ 2 → ⊥) → (w ≡ 4 → ⊥) → w ≡ 8
-eight w (inl e) a b = absurd (a e)
-eight w (inr (inl e)) a b = absurd (b e)
-eight w (inr (inr e)) a b = e
 
 -- x is the word in the row, y the same inverted back, z that of the number
 pub number_is : (n : ℕ) (c : Coding) (d : Bool) (row : List ℕ) (from : ℕ) → ((i : ℕ) → get_or row i 0 < 256) → from + n ≤ length row
@@ -29,11 +21,6 @@ pub number_is : (n : ℕ) (c : Coding) (d : Bool) (row : List ℕ) (from : ℕ) 
     → low_bytes n z ≡ coding_unkey c (directed d (take n (drop from row)))
 number_is n c d row from known inside x y z a t k = k ∙ ap (coding_unkey c) (t ∙ ap (directed d) (read_back n row from x known inside a))
 
--- z is the float, and f the same folded
-pub float_folded : (n : ℕ) (d : Bool) (row : List ℕ) (from : ℕ) → ((i : ℕ) → get_or row i 0 < 256) → from + n ≤ length row
-    → (x y z f : ℕ) → z < 256 ^ n → x ≡ low (take n (drop from row)) → low_bytes n y ≡ directed d (low_bytes n x)
-    → low_bytes n z ≡ float_unkey (low_bytes n y) → f ≡ folded_bits n z
-    → eqb f z ≡ is_folded (float n) true (float_unkey (directed d (take n (drop from row))))
-float_folded n d row from known inside x y z f small a t k e =
-    folded_same n z f small e
-    ∙ ap (is_folded (float n) true) (k ∙ ap float_unkey (t ∙ ap (directed d) (read_back n row from x known inside a)))
+-- z is the float, which stands so, and f the same folded
+pub float_folded : (n : ℕ) (b : List ℕ) (z f : ℕ) → z < 256 ^ n → low_bytes n z ≡ b → f ≡ folded_bits n z → eqb f z ≡ is_folded (float n) true b
+float_folded n b z f small t e = folded_same n z f small e ∙ ap (is_folded (float n) true) t

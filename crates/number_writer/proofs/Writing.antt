@@ -1,6 +1,6 @@
 -- What the writers share: a lead byte, and after it a run of bytes; a number's value bytes. Assumes nothing.
-use Prim.Native.Nat.{ℕ, ◌+◌, ◌^◌, ◌≤◌, ◌<◌}
-use mathlib.Core.Path.{◌≡◌, sym, ap, ◌∙◌, subst}
+use Prim.Native.Nat.{ℕ, ◌+◌, ◌≤◌, ◌<◌}
+use mathlib.Core.Path.{◌≡◌, ap, ◌∙◌, subst}
 use mathlib.Core.Bool.{Bool, cond}
 use mathlib.Core.List.{List, ◌∷◌}
 use native.Mathlib.Numerals.{add-one}
@@ -15,7 +15,7 @@ use Rattle.format.specs.Field.{directed}
 use Rattle.basics.specs.Wrote.{Wrote}
 use Rattle.number.proofs.Folds.{folded_spelled}
 use Rattle.basics.proofs.LowBytes.{length_low_bytes}
-use Rattle.number.proofs.Words.{read_back}
+use Rattle.number.proofs.Words.{read_back, read_fits}
 
 -- what is written, said another way
 pub wrote_as : {f g : List ℕ} {at : ℕ} {out last : List ℕ} {next : ℕ} → Wrote f at out last next → f ≡ g → Wrote g at out last next
@@ -42,9 +42,10 @@ module _ (n : ℕ) (key_of : List ℕ → List ℕ) (d : Bool) (s : List ℕ) (f
 
 -- the same of a float, which is folded to f
 pub float_wrote : (n : ℕ) (b d : Bool) (s : List ℕ) (from : ℕ) → ((i : ℕ) → get_or s i 0 < 256) → from + n ≤ length s
-    → (x f y z : ℕ) (out last : List ℕ) (at : ℕ) → x < 256 ^ n → x ≡ low (take n (drop from s)) → f ≡ cond b (folded_bits n x) x
+    → (x f y z : ℕ) (out last : List ℕ) (at : ℕ) → x ≡ low (take n (drop from s)) → f ≡ cond b (folded_bits n x) x
     → low_bytes n y ≡ float_key (low_bytes n f) → low_bytes n z ≡ directed d (low_bytes n y) → last ≡ sets out at (low_bytes n z)
     → Wrote (directed d (float_key (folded_value (float n) b (take n (drop from s))))) at out last (at + n)
-float_wrote n b d s from known inside x f y z out last at small a e k t =
+float_wrote n b d s from known inside x f y z out last at a e k t =
+    let small = read_fits n s from x known inside a in
     number_wrote n (λ v. float_key (folded_value (float n) b v)) d s from known inside x y z out last at a
     (k ∙ ap float_key (folded_spelled n x f small b e)) t

@@ -6,7 +6,7 @@ use native.Mathlib.Numerals.{add-one}
 use native.Mathlib.Omega.{arith}
 use lib.ListN.{length, get_or}
 use borrow.Author.Tests.{lt-ltb, le-ltb, eq-eqb, ne_eqb}
-use Rattle.format.specs.declared.Check.TheVariants.{Pass, Refuse}
+use Rattle.std.specs.declared.result.Result.TheVariants.{Ok, Err}
 use Rattle.format.specs.declared.Refusal.TheVariants.{ManyBytes, OffsetRoom, Offsets}
 use Rattle.format.specs.Limits.{max_total}
 use Rattle.format.specs.Entries.{fall_fault, offsets_fault}
@@ -24,10 +24,10 @@ begins n offsets = record { left = n; counts = omega arith; says = refl }
 
 module _ (n : ℕ) (offsets : List ℕ) (i : ℕ) (t : Falls n offsets i) where
   -- offset i + 1 is the first that falls
-  pub falls : i < n → get_or offsets (i + 1) 0 < get_or offsets i 0 → Refuse (Offsets (i + 1)) ≡ fall_fault offsets 0 n
+  pub falls : i < n → get_or offsets (i + 1) 0 < get_or offsets i 0 → Err (Offsets (i + 1)) ≡ fall_fault offsets 0 n
   falls h l = go t.left t.counts t.says
     where
-      go : (left : ℕ) → i + left ≡ n → fall_fault offsets i left ≡ fall_fault offsets 0 n → Refuse (Offsets (i + 1)) ≡ fall_fault offsets 0 n
+      go : (left : ℕ) → i + left ≡ n → fall_fault offsets i left ≡ fall_fault offsets 0 n → Err (Offsets (i + 1)) ≡ fall_fault offsets 0 n
       go zero counts says = absurd (omega arith)
       go (suc left) counts says = rw add-one (rw (lt-ltb (get_or offsets (suc i) 0) (get_or offsets i 0) (rw add-one at l)) at says)
 
@@ -44,40 +44,40 @@ module _ (n : ℕ) (offsets : List ℕ) (i : ℕ) (t : Falls n offsets i) where
       }
 
   -- none falls
-  pub risen : n ≤ i → fall_fault offsets 0 n ≡ Pass
+  pub risen : n ≤ i → fall_fault offsets 0 n ≡ Ok tt
   risen h = let z : t.left ≡ 0 = omega (arith, t.counts) in sym t.says ∙ ap (fall_fault offsets i) z
 
 -- ---- the ways out, in the order of the checks
 module _ (n : ℕ) (bytes offsets : List ℕ) where
   -- 14
-  pub few : length offsets < n + 1 → Refuse (OffsetRoom (n + 1)) ≡ offsets_fault n bytes offsets
+  pub few : length offsets < n + 1 → Err (OffsetRoom (n + 1)) ≡ offsets_fault n bytes offsets
   few h = rw (add-one, lt-ltb (length offsets) (suc n) (omega arith))
 
   module _ (there : n + 1 ≤ length offsets) where
     -- 15, the first
-    pub late : (get_or offsets 0 0 ≡ 0 → ⊥) → Refuse (Offsets 0) ≡ offsets_fault n bytes offsets
+    pub late : (get_or offsets 0 0 ≡ 0 → ⊥) → Err (Offsets 0) ≡ offsets_fault n bytes offsets
     late h = rw (le-ltb (length offsets) (suc n) (omega arith), ne_eqb (get_or offsets 0 0) 0 h)
 
     module _ (first : get_or offsets 0 0 ≡ 0) where
       -- 15, one that falls
-      pub fell : (i : ℕ) → Refuse (Offsets i) ≡ fall_fault offsets 0 n → Refuse (Offsets i) ≡ offsets_fault n bytes offsets
+      pub fell : (i : ℕ) → Err (Offsets i) ≡ fall_fault offsets 0 n → Err (Offsets i) ≡ offsets_fault n bytes offsets
       fell i e = rw (le-ltb (length offsets) (suc n) (omega arith), eq-eqb (get_or offsets 0 0) 0 first, ← e)
 
-      module _ (rose : fall_fault offsets 0 n ≡ Pass) where
+      module _ (rose : fall_fault offsets 0 n ≡ Ok tt) where
         -- 15, the last
-        pub past : length bytes < get_or offsets n 0 → Refuse (Offsets n) ≡ offsets_fault n bytes offsets
+        pub past : length bytes < get_or offsets n 0 → Err (Offsets n) ≡ offsets_fault n bytes offsets
         past h =
             rw (le-ltb (length offsets) (suc n) (omega arith), eq-eqb (get_or offsets 0 0) 0 first, rose, lt-ltb (length bytes) (get_or offsets n 0) h)
 
         module _ (inside : get_or offsets n 0 ≤ length bytes) where
           -- 12
-          pub heavy : max_total < get_or offsets n 0 → Refuse (ManyBytes (get_or offsets n 0) 0) ≡ offsets_fault n bytes offsets
+          pub heavy : max_total < get_or offsets n 0 → Err (ManyBytes (get_or offsets n 0) 0) ≡ offsets_fault n bytes offsets
           heavy h =
               rw (le-ltb (length offsets) (suc n) (omega arith), eq-eqb (get_or offsets 0 0) 0 first, rose)
               (rw (le-ltb (length bytes) (get_or offsets n 0) inside, lt-ltb max_total (get_or offsets n 0) h))
 
           -- none of them
-          pub sound : get_or offsets n 0 ≤ max_total → Pass ≡ offsets_fault n bytes offsets
+          pub sound : get_or offsets n 0 ≤ max_total → Ok tt ≡ offsets_fault n bytes offsets
           sound h =
               rw (le-ltb (length offsets) (suc n) (omega arith), eq-eqb (get_or offsets 0 0) 0 first, rose)
               (rw (le-ltb (length bytes) (get_or offsets n 0) inside, le-ltb max_total (get_or offsets n 0) h))

@@ -5,32 +5,30 @@ ghost use Rattle.std.specs.Prelude.{◌≡◌, ◌≤◌};
 ghost use Rattle.format.specs.Limits.{max_rows};
 ghost use Rattle.format.specs.Entries.{offsets_fault};
 
-use format::{Check, MAX_TOTAL, Refusal};
+use format::{MAX_TOTAL, Refusal};
 
 // 14, 15 (first, falling in order, last), 12: the first of these that the offsets break.
-pub fn check_offsets(n: usize, rows: &[u8], offsets: &[u64]) -> Check
+pub fn check_offsets(n: usize, rows: &[u8], offsets: &[u64]) -> Result<(), Refusal>
     requires { n ≤ max_rows }
     ensures { result ≡ offsets_fault n rows.now offsets.now }
 {
     if offsets.len() < n + 1 {
-        return Check::Refuse(Refusal::OffsetRoom((n + 1) as u64));
+        return Err(Refusal::OffsetRoom((n + 1) as u64));
     }
     if offsets[0] != 0 {
-        return Check::Refuse(Refusal::Offsets(0));
+        return Err(Refusal::Offsets(0));
     }
-    let mut i = 0;
-    while i < n {
+    for i in 0..n {
         if offsets[i + 1] < offsets[i] {
-            return Check::Refuse(Refusal::Offsets(i + 1));
+            return Err(Refusal::Offsets(i + 1));
         }
-        i += 1;
     }
     let last = offsets[n];
     if (rows.len() as u64) < last {
-        return Check::Refuse(Refusal::Offsets(n));
+        return Err(Refusal::Offsets(n));
     }
     if MAX_TOTAL < last {
-        return Check::Refuse(Refusal::ManyBytes(last, 0));
+        return Err(Refusal::ManyBytes(last, 0));
     }
-    Check::Pass
+    Ok(())
 }

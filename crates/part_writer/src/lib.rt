@@ -7,7 +7,7 @@ ghost use Rattle.format.specs.Key.{parts_key, signed_key};
 ghost use Rattle.basics.specs.Wrote.{Wrote};
 
 use number::Coding;
-use number_writer::{put_number32, put_number64};
+use number_writer::put_number;
 
 // Days and milliseconds, each as a signed number.
 pub fn encode_day_time(
@@ -22,8 +22,8 @@ pub fn encode_day_time(
     ensures { Wrote (directed descending (parts_key (4 ∷ 4 ∷ []) (take 8 (drop from values.now)))) at
         out.old out.new result }
 {
-    put_number32(out, at, values, from, Coding::Signed, descending);
-    put_number32(out, at + 4, values, from + 4, Coding::Signed, descending)
+    put_number::<u32>(out, at, values, from, Coding::Signed, descending);
+    put_number::<u32>(out, at + 4, values, from + 4, Coding::Signed, descending)
 }
 
 // Months, days and nanoseconds, each as a signed number.
@@ -39,9 +39,9 @@ pub fn encode_month_day_nano(
     ensures { Wrote (directed descending (parts_key (4 ∷ 4 ∷ 8 ∷ []) (take 16 (drop from values.now)))) at
         out.old out.new result }
 {
-    put_number32(out, at, values, from, Coding::Signed, descending);
-    put_number32(out, at + 4, values, from + 4, Coding::Signed, descending);
-    put_number64(out, at + 8, values, from + 8, Coding::Signed, descending)
+    put_number::<u32>(out, at, values, from, Coding::Signed, descending);
+    put_number::<u32>(out, at + 4, values, from + 4, Coding::Signed, descending);
+    put_number::<u64>(out, at + 8, values, from + 8, Coding::Signed, descending)
 }
 
 // A signed number of so many words of 64 bits: the top word, which has the sign, and then the others, from the highest down.
@@ -60,10 +60,11 @@ pub fn put_words(
         out.old out.new result }
 {
     let mut left = words - 1;
-    let mut next = put_number64(out, at, values, from + 8 * left, Coding::Signed, descending);
+    let mut next = put_number::<u64>(out, at, values, from + 8 * left, Coding::Signed, descending);
+    // To do: a `for`.
     while 0 < left {
         left -= 1;
-        next = put_number64(
+        next = put_number::<u64>(
             out,
             next,
             values,

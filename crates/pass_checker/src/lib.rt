@@ -7,36 +7,31 @@ ghost use Rattle.format.specs.Passed.{Cuts};
 ghost use Rattle.format.specs.Entries.{cut_rows};
 ghost use Rattle.format.specs.Batch.{order_fault, pass_fault};
 
-use format::{Check, Refusal};
+use format::Refusal;
 use offsets::check_offsets;
 use row_order::row_below;
 
 // 26: the first row of n that is below the one before it.
-pub fn check_order(pass: usize, n: usize, rows: &[u8], offsets: &[u64]) -> Check
+pub fn check_order(pass: usize, n: usize, rows: &[u8], offsets: &[u64]) -> Result<(), Refusal>
     requires n_le_max_rows { n ≤ max_rows }
     requires cuts { Cuts n rows.now offsets.now }
     ensures { result ≡ order_fault pass (cut_rows n rows.now offsets.now) }
 {
-    let mut r = 0;
-    while r + 1 < n {
-        if row_below(rows, offsets, r + 1, rows, offsets, r) {
-            return Check::Refuse(Refusal::OutOfOrder(pass, r + 1));
+    for r in 1..n {
+        if row_below(rows, offsets, r, rows, offsets, r - 1) {
+            return Err(Refusal::OutOfOrder(pass, r));
         }
-        r += 1;
     }
-    Check::Pass
+    Ok(())
 }
 
 // The row count, the offsets, then the order.
-pub fn check_pass(pass: usize, n: u64, rows: &[u8], offsets: &[u64]) -> Check
+pub fn check_pass(pass: usize, n: u64, rows: &[u8], offsets: &[u64]) -> Result<(), Refusal>
     ensures { result ≡ pass_fault pass n rows.now offsets.now }
 {
     if format::MAX_ROWS < n {
-        return Check::Refuse(Refusal::ManyRows(n));
+        return Err(Refusal::ManyRows(n));
     }
-    let check = check_offsets(n as usize, rows, offsets);
-    if let Check::Refuse(refusal) = check {
-        return Check::Refuse(refusal);
-    }
+    check_offsets(n as usize, rows, offsets)?;
     check_order(pass, n as usize, rows, offsets)
 }

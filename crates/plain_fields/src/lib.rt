@@ -11,7 +11,7 @@ ghost use Rattle.plain_fields.specs.Plain.{Lengthy, Opens};
 
 use column_facts::{null_lead, width};
 use format::{Column, Kind, MAX_COLUMNS, Schema, SortOptions};
-use number::{low32, low64};
+use number::Word;
 
 // The length of such a field, and 0 for a column of bools, of variable bytes or of folded floats.
 fn plain_length(column: Column) -> usize
@@ -38,11 +38,9 @@ pub fn plain_lengths(schema: Schema) -> [usize; MAX_COLUMNS]
     let count = schema.count;
     let columns = schema.columns;
     let mut lengths = [0usize; MAX_COLUMNS];
-    let mut c = 0;
-    while c < count {
+    for c in 0..count {
         let column = columns[c];
         lengths[c] = plain_length(column);
-        c += 1;
     }
     lengths
 }
@@ -77,12 +75,13 @@ fn clear(row: &[u8], from: usize, to: usize) -> bool
 {
     let mut zero = true;
     let mut i = from;
+    // A `while`: its steps are of eight, four or one byte, which a `for` takes three loops for.
     while i < to {
         if 8 <= to - i {
-            zero = zero & (low64(row, i) == 0);
+            zero = zero & (u64::low(row, i) == 0);
             i += 8;
         } else if 4 <= to - i {
-            zero = zero & (low32(row, i) == 0);
+            zero = zero & (u32::low(row, i) == 0);
             i += 4;
         } else {
             zero = zero & (row[i] == 0);

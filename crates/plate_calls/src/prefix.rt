@@ -6,8 +6,7 @@ ghost use Rattle.format.specs.Passed.{Lies};
 ghost use Rattle.demands.specs.Order.{batch};
 ghost use Rattle.plates.specs.Prefix.{FieldsAgree, front_end, KeyOrdered};
 
-use demands::order::Ordered;
-use format::{Answer, Check};
+use format::Refusal;
 use station::compare::compare;
 use station::encode::encode;
 
@@ -22,21 +21,15 @@ pub fn encode_agree(
     other: &[u8],
     others: &mut [u8],
     ends: &mut [u64],
-) -> Check
+) -> Result<(), Refusal>
     ensures { FieldsAgree (spelled list.now)
         (batch n sheet.now rows.old offsets.old rows.new offsets.new)
         (batch m other.now others.old ends.old others.new ends.new)
         result }
 {
-    let first = encode(list, n, sheet, rows, offsets);
-    if let Answer::Refused(x) = first {
-        return Check::Refuse(x);
-    }
-    let second = encode(list, m, other, others, ends);
-    if let Answer::Refused(x) = second {
-        return Check::Refuse(x);
-    }
-    Check::Pass
+    encode(list, n, sheet, rows, offsets)?;
+    encode(list, m, other, others, ends)?;
+    Ok(())
 }
 
 // Where what stands from `from` up to `to` ends if it is cut to `size`.
@@ -81,25 +74,19 @@ pub fn encode_key(
     keys: &mut [u8],
     ends: &mut [u64],
     q: u64,
-) -> Ordered
+) -> Result<Option<i32>, Refusal>
     ensures { KeyOrdered (spelled list.now) (spelled short.now)
         (batch n sheet.now rows.old offsets.old rows.new offsets.new)
         (batch m other.now keys.old ends.old keys.new ends.new)
         r q result }
 {
-    let first = encode(list, n, sheet, rows, offsets);
-    if let Answer::Refused(x) = first {
-        return Ordered::Refused(x);
-    }
-    let second = encode(short, m, other, keys, ends);
-    if let Answer::Refused(x) = second {
-        return Ordered::Refused(x);
-    }
+    encode(list, n, sheet, rows, offsets)?;
+    encode(short, m, other, keys, ends)?;
     if n <= r {
-        return Ordered::NoRow;
+        return Ok(None);
     }
     if m <= q {
-        return Ordered::NoRow;
+        return Ok(None);
     }
-    Ordered::Is(compare_front(rows, offsets, r as usize, keys, ends, q as usize))
+    Ok(Some(compare_front(rows, offsets, r as usize, keys, ends, q as usize)))
 }

@@ -8,7 +8,7 @@ use lib.Dec.{ltb, eqb}
 use lib.ListN.{length, get_or, take}
 use lib.Seq.{get_or-take, length-take-le}
 use borrow.Author.Tests.{lt-ltb, le-ltb, ltb-true, ne_eqb, eqb-true}
-use Rattle.format.specs.declared.Check.TheVariants.{Pass}
+use Rattle.std.specs.declared.result.Result.TheVariants.{Ok}
 use Rattle.format.specs.declared.Column.{Column}
 use Rattle.format.specs.declared.Refusal.TheVariants.{ListCut}
 use Rattle.format.specs.Limits.{max_columns}
@@ -39,7 +39,7 @@ module _ (s : List ℕ) (at p : ℕ) (whole : at + description_bytes (get_or s a
   column_same : column_at (take p s) at ≡ column_at s at
   column_same = rw (width_same, kind_same, options_same)
 
-  fault_same : description_fault s at ≡ Pass → description_fault (take p s) at ≡ Pass
+  fault_same : description_fault s at ≡ Ok tt → description_fault (take p s) at ≡ Ok tt
   fault_same e = rw (width_same, kind_same, options_same, short) e
     where
       short : ltb (length (take p s) - at) (description_bytes (get_or s at 0)) ≡ ltb (length s - at) (description_bytes (get_or s at 0))
@@ -53,14 +53,14 @@ module _ (s : List ℕ) (at p : ℕ) (whole : at + description_bytes (get_or s a
 record Front (room k : ℕ) (s : List ℕ) (at : ℕ) : Type 0 where
   after : at + k ≤ list_end k s at
   inside : list_end k s at ≤ length s
-  passes : list_fault_from room (take (list_end k s at) s) at ≡ Pass
+  passes : list_fault_from room (take (list_end k s at) s) at ≡ Ok tt
   first : columns_from room (take (list_end k s at) s) at ≡ take k (columns_from room s at)
 
 -- where the bytes end at `at`, there is nothing more
 ended : (s : List ℕ) (at : ℕ) → at ≤ length s → ltb at (length (take at s)) ≡ false
 ended s at l = le-ltb at (length (take at s)) (omega (arith, length-take-le at s l))
 
-front : (room k : ℕ) (s : List ℕ) (at : ℕ) → at ≤ length s → list_fault_from room s at ≡ Pass → k ≤ length (columns_from room s at) → Front room k s at
+front : (room k : ℕ) (s : List ℕ) (at : ℕ) → at ≤ length s → list_fault_from room s at ≡ Ok tt → k ≤ length (columns_from room s at) → Front room k s at
 front zero zero s at l e few = record { after = omega arith; inside = l; passes = rw (ended s at l); first = refl }
 front zero (suc k) s at l e few = absurd (omega arith)
 front (suc room) zero s at l e few = record { after = omega arith; inside = l; passes = rw (ended s at l); first = rw (ended s at l) }
@@ -69,9 +69,9 @@ front (suc room) (suc k) s at l e few = go (ltb at (length s)) refl e few (front
     next : ℕ
     next = at + description_bytes (get_or s at 0)
 
-    go : (t : Bool) → ltb at (length s) ≡ t → cond t (both (description_fault s at) (list_fault_from room s next)) Pass ≡ Pass
+    go : (t : Bool) → ltb at (length s) ≡ t → cond t (both (description_fault s at) (list_fault_from room s next)) (Ok tt) ≡ Ok tt
         → suc k ≤ length (cond t (column_at s at ∷ columns_from room s next) [])
-        → (next ≤ length s → list_fault_from room s next ≡ Pass → k ≤ length (columns_from room s next) → Front room k s next) → Front (suc room) (suc k) s at
+        → (next ≤ length s → list_fault_from room s next ≡ Ok tt → k ≤ length (columns_from room s next) → Front room k s next) → Front (suc room) (suc k) s at
     go false q h m ih = absurd (omega arith)
     go true q h m ih =
         let d = both_pass (description_fault s at) _ h in
@@ -86,16 +86,16 @@ front (suc room) (suc k) s at l e few = go (ltb at (length s)) refl e few (front
           inside = f.inside;
           passes = rw here
               (pass_both (description_fault (take p s) at) _ (fault_same s at p whole f.inside d.0)
-              (subst (λ (b : ℕ). list_fault_from room (take p s) (at + description_bytes b) ≡ Pass) (sym kind) f.passes));
+              (subst (λ (b : ℕ). list_fault_from room (take p s) (at + description_bytes b) ≡ Ok tt) (sym kind) f.passes));
           first = rw (here, q)
               (ap₂ {C = List Column} (λ c cs. c ∷ cs) (column_same s at p whole f.inside)
               (ap (λ (b : ℕ). columns_from room (take p s) (at + description_bytes b)) kind ∙ f.first));
         }
 
 -- with room for any number of columns, so that nothing computes through all of them
-first_within : (room : ℕ) (list : List ℕ) (k : ℕ) → fail_if (eqb (length list) 0) (ListCut 0) (list_fault_from room list 0) ≡ Pass → 1 ≤ k
+first_within : (room : ℕ) (list : List ℕ) (k : ℕ) → fail_if (eqb (length list) 0) (ListCut 0) (list_fault_from room list 0) ≡ Ok tt → 1 ≤ k
     → k ≤ length (columns_from room list 0)
-    → (fail_if (eqb (length (first_list k list)) 0) (ListCut 0) (list_fault_from room (first_list k list) 0) ≡ Pass)
+    → (fail_if (eqb (length (first_list k list)) 0) (ListCut 0) (list_fault_from room (first_list k list) 0) ≡ Ok tt)
     × (columns_from room (first_list k list) 0 ≡ take k (columns_from room list 0))
 first_within room list zero e some few = absurd (omega arith)
 first_within room list (suc k) e some few =
@@ -106,7 +106,7 @@ first_within room list (suc k) e some few =
     (rw filled f.passes, f.first)
 
 -- for every k from 1 to the column count
-pub first_list_lem : (list : List ℕ) (k : ℕ) → spelled_fault list ≡ Pass → 1 ≤ k → k ≤ length (spelled_columns list)
-    → (spelled_fault (first_list k list) ≡ Pass) × (spelled_columns (first_list k list) ≡ take k (spelled_columns list))
+pub first_list_lem : (list : List ℕ) (k : ℕ) → spelled_fault list ≡ Ok tt → 1 ≤ k → k ≤ length (spelled_columns list)
+    → (spelled_fault (first_list k list) ≡ Ok tt) × (spelled_columns (first_list k list) ≡ take k (spelled_columns list))
 unfolding spelled_fault spelled_columns
 first_list_lem list k e some few = first_within max_columns list k e some few

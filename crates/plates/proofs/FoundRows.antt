@@ -7,9 +7,8 @@ use mathlib.Core.Logic.{◌↔◌}
 use mathlib.Core.List.{List, []}
 use native.Mathlib.Omega.{arith}
 use lib.ListN.{length, get_or, take}
-use Rattle.format.specs.declared.Answer.{Answer}
-use Rattle.format.specs.declared.Answer.TheVariants.{Done}
-use Rattle.format.specs.declared.Check.TheVariants.{Pass}
+use Rattle.format.specs.Numbers.{Answer}
+use Rattle.std.specs.declared.result.Result.TheVariants.{Ok}
 use Rattle.format.specs.declared.Column.{Column}
 use Rattle.format.specs.Described.{ColumnList, list_fault, columns}
 use Rattle.format.specs.Fits.{RowFits}
@@ -42,11 +41,11 @@ turn p = (p.1, p.0)
 
 -- what passed before the search
 record Passed (list : ColumnList) (k : ℕ) (key : List ℕ) (n : ℕ) (bytes offsets : List ℕ) : Type 0 where
-  key_good : row_fault 0 (length key) 0 (take k (columns list)) key ≡ Pass
-  rows_good : rows_fault 0 (columns list) (cut_rows n bytes offsets) ≡ Pass
-  sorted : order_fault 0 (cut_rows n bytes offsets) ≡ Pass
+  key_good : row_fault 0 (length key) 0 (take k (columns list)) key ≡ Ok tt
+  rows_good : rows_fault 0 (columns list) (cut_rows n bytes offsets) ≡ Ok tt
+  sorted : order_fault 0 (cut_rows n bytes offsets) ≡ Ok tt
 
-checks_passed : (list : ColumnList) (k : ℕ) (key : List ℕ) (n : ℕ) (bytes offsets : List ℕ) → lookup_check list k key n bytes offsets ≡ Pass
+checks_passed : (list : ColumnList) (k : ℕ) (key : List ℕ) (n : ℕ) (bytes offsets : List ℕ) → lookup_check list k key n bytes offsets ≡ Ok tt
     → Passed list k key n bytes offsets
 unfolding lookup_check sorted_fault
 checks_passed list k key n bytes offsets e =
@@ -119,7 +118,7 @@ pub looked_up : (list : ColumnList) (k : ℕ) (key : List ℕ) (n : ℕ) (bytes 
 unfolding lookup_answer
 looked_up list k key n bytes offsets r key-bytes rows_are_bytes l = record { found = says }
   where
-    says : (first past : ℕ) → r ≡ Done first past → Found list k key n bytes offsets first past
+    says : (first past : ℕ) → r ≡ Ok (first, past) → Found list k key n bytes offsets first past
     says first past e =
         let d = answer_done (lookup_check list k key n bytes offsets) _ _ first past
         (sym (numbers_injective r (lookup_answer list k key n bytes offsets) l.answers) ∙ e) in

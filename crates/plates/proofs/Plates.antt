@@ -11,11 +11,11 @@ use lib.Dec.{ltb}
 use lib.IntN.{ℤ}
 use lib.ListN.{length, take, drop}
 use borrow.Author.Tests.{lt-ltb, le-ltb}
-use Rattle.format.specs.declared.Check.{Check}
-use Rattle.format.specs.declared.Check.TheVariants.{Pass, Refuse}
+use Rattle.format.specs.Check.{Check, both}
+use Rattle.std.specs.declared.result.Result.TheVariants.{Ok, Err}
+use Rattle.std.specs.declared.option.Option.TheVariants.{None, Some}
 use Rattle.format.specs.declared.Column.{Column}
 use Rattle.format.specs.declared.Refusal.{Refusal}
-use Rattle.format.specs.Check.{both}
 use Rattle.format.specs.Described.{ColumnList, columns}
 use Rattle.format.specs.Fits.{RowFits, HasValues}
 use Rattle.format.specs.Lists.{Bytes}
@@ -29,9 +29,7 @@ use Rattle.basics.proofs.Checks.{refuse_pass}
 use Rattle.basics.proofs.Lists.{each_at, length_each}
 use Rattle.laws.proofs.Cuts.{cut_bytes}
 use Rattle.laws.proofs.ReadRow.{rows_passed}
-use Rattle.demands.specs.declared.order.Ordered.{Ordered}
-use Rattle.demands.specs.declared.order.Ordered.TheVariants.{Refused as NotEncoded, NoRow, Is}
-use Rattle.demands.specs.Order.{Batch, batch_fault, row_in, values_in, ordered}
+use Rattle.demands.specs.Order.{Batch, batch_fault, row_in, values_in, ordered, Ordered}
 use Rattle.plates.specs.Prefix.{fields_in, first_values, Sorted, Together, Fields, FieldsAgree, key_order, KeyThere, KeyOrdered}
 use Rattle.demands.proofs.Accept.{decoded}
 use Rattle.demands.proofs.Exact.{row_valued}
@@ -104,7 +102,7 @@ module _ {list short : ColumnList} {b d : Batch} (v : Written list b) (w : Writt
       (λ h. rw (key_is, row_is v r lr) (p.0 h), λ h. p.1 (rw (key_is, row_is v r lr) at h))
 
 -- ---- rows that are accepted have values
-pub accepted_values : (cols : List Column) (n : ℕ) (bytes offsets : List ℕ) → Bytes bytes → rows_fault 0 cols (cut_rows n bytes offsets) ≡ Pass
+pub accepted_values : (cols : List Column) (n : ℕ) (bytes offsets : List ℕ) → Bytes bytes → rows_fault 0 cols (cut_rows n bytes offsets) ≡ Ok tt
     → (r : ℕ) → r < n → RowFits cols (row_slots cols (row_bytes bytes offsets r))
     × (row cols (row_slots cols (row_bytes bytes offsets r)) ≡ row_bytes bytes offsets r)
 accepted_values cols n bytes offsets h e r l =
@@ -114,7 +112,7 @@ accepted_values cols n bytes offsets h e r l =
     (row_valued cols rs t.0 t.1 r (omega (arith, length_each 0 n (row_bytes bytes offsets))))
 
 -- ---- rows that decode accepts, whoever sorted them
-pub accepted_together : (list : ColumnList) (n : ℕ) (bytes offsets : List ℕ) (room : ℕ) → Bytes bytes → decode_check list n bytes offsets room ≡ Pass
+pub accepted_together : (list : ColumnList) (n : ℕ) (bytes offsets : List ℕ) (room : ℕ) → Bytes bytes → decode_check list n bytes offsets room ≡ Ok tt
     → Sorted n (row_bytes bytes offsets) → (k : ℕ) → Together n (λ r. first_fields k (columns list) (row_bytes bytes offsets r))
 accepted_together list n bytes offsets room h e s k = side_by_side (columns list) n (row_bytes bytes offsets) values s k
   where
@@ -126,14 +124,14 @@ accepted_together list n bytes offsets room h e s k = side_by_side (columns list
 -- ---- what the functions of this crate answer
 
 -- what one of two checks refuses
-pub first_refused : (x y : Check) {r : Refusal} → x ≡ Refuse r → both x y ≡ Refuse r
+pub first_refused : (x y : Check) {r : Refusal} → x ≡ Err r → both x y ≡ Err r
 first_refused x y e = rw e
 
-pub second_refused : (x y : Check) {r : Refusal} → x ≡ Pass → y ≡ Refuse r → both x y ≡ Refuse r
+pub second_refused : (x y : Check) {r : Refusal} → x ≡ Ok tt → y ≡ Err r → both x y ≡ Err r
 second_refused x y p e = rw (p, e)
 
 module _ {list : ColumnList} {b d : Batch} where
-  pub agree_refused : (x : Refusal) → both (batch_fault list b) (batch_fault list d) ≡ Refuse x → FieldsAgree list b d (Refuse x)
+  pub agree_refused : (x : Refusal) → both (batch_fault list b) (batch_fault list d) ≡ Err x → FieldsAgree list b d (Err x)
   agree_refused x e = record {
     answers = sym e;
     agree = λ p. absurd (refuse_pass p);
@@ -141,7 +139,7 @@ module _ {list : ColumnList} {b d : Batch} where
     together = λ p. absurd (refuse_pass p);
   }
 
-  pub agree_both : Written list b → Written list d → FieldsAgree list b d Pass
+  pub agree_both : Written list b → Written list d → FieldsAgree list b d (Ok tt)
   agree_both v w = record {
     answers = rw (v.passes, w.passes);
     agree = λ p. written_agree v w;
@@ -155,19 +153,19 @@ module _ {list short : ColumnList} {b d : Batch} (r q : ℕ) where
       → ((k : ℕ) → KeyThere list short b d k r q → ⊥) → KeyOrdered list short b d r q x
   none x e never = record { answers = e; order = λ k t. absurd (never k t); shares = λ k t. absurd (never k t); begins = λ k t. absurd (never k t) }
 
-  pub key_refused : (x : Refusal) → both (batch_fault list b) (batch_fault short d) ≡ Refuse x → KeyOrdered list short b d r q (NotEncoded x)
-  key_refused x e = none (NotEncoded x) (rw e) (λ k t. refuse_pass (sym e ∙ t.passes))
+  pub key_refused : (x : Refusal) → both (batch_fault list b) (batch_fault short d) ≡ Err x → KeyOrdered list short b d r q (Err x)
+  key_refused x e = none (Err x) (rw e) (λ k t. refuse_pass (sym e ∙ t.passes))
 
   module _ (v : Written list b) (w : Written short d) where
-    pub no_row : b.n ≤ r → KeyOrdered list short b d r q NoRow
-    no_row l = none NoRow (rw (v.passes, w.passes, le-ltb r b.n l)) (λ k t. omega (arith, t.row))
+    pub no_row : b.n ≤ r → KeyOrdered list short b d r q (Ok None)
+    no_row l = none (Ok None) (rw (v.passes, w.passes, le-ltb r b.n l)) (λ k t. omega (arith, t.row))
 
-    pub no_key : r < b.n → d.n ≤ q → KeyOrdered list short b d r q NoRow
-    no_key h l = none NoRow (rw (v.passes, w.passes, lt-ltb r b.n h, le-ltb q d.n l)) (λ k t. omega (arith, t.key))
+    pub no_key : r < b.n → d.n ≤ q → KeyOrdered list short b d r q (Ok None)
+    no_key h l = none (Ok None) (rw (v.passes, w.passes, lt-ltb r b.n h, le-ltb q d.n l)) (λ k t. omega (arith, t.key))
 
-    pub key_ordered : r < b.n → q < d.n → (x y : ℤ) → x ≡ y → y ≡ key_order b d r q → KeyOrdered list short b d r q (Is x)
+    pub key_ordered : r < b.n → q < d.n → (x y : ℤ) → x ≡ y → y ≡ key_order b d r q → KeyOrdered list short b d r q (Ok (Some x))
     key_ordered h l x y s e = record {
-      answers = rw (v.passes, w.passes, lt-ltb r b.n h, lt-ltb q d.n l) (ap Is (s ∙ e));
+      answers = rw (v.passes, w.passes, lt-ltb r b.n h, lt-ltb q d.n l) (ap (λ o. Ok (Some o)) (s ∙ e));
       order = λ k t. written_key_order v w k r q h l t.first;
       shares = λ k t. written_key_shares v w k r q h l t.first;
       begins = λ k t. written_key_begins v w k r q h l t.first;

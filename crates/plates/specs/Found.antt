@@ -1,7 +1,6 @@
 -- What a look-up that is not refused says of the batch: by bytes, by fields and by values.
-use Rattle.std.specs.Prelude.{ℕ, ◌<◌, ◌≤◌, ◌≡◌, true, ◌↔◌, List, take}
-use Rattle.format.specs.declared.Answer.{Answer}
-use Rattle.format.specs.declared.Answer.TheVariants.{Done}
+use Rattle.std.specs.Prelude.{ℕ, ◌<◌, ◌≤◌, ◌≡◌, true, ◌↔◌, List, take, Ok}
+use Rattle.format.specs.Numbers.{Answer}
 use Rattle.format.specs.Described.{ColumnList, columns}
 use Rattle.format.specs.Order.{Begins}
 use Rattle.format.specs.Prefix.{first_fields}
@@ -27,4 +26,4 @@ pub record Found (list : ColumnList) (k : ℕ) (key : List ℕ) (n : ℕ) (bytes
 
 -- an answer says so, if it is no refusal
 pub record Finds (list : ColumnList) (k : ℕ) (key : List ℕ) (n : ℕ) (bytes offsets : List ℕ) (r : Answer) : Type 0 where
-  pub found : (first past : ℕ) → r ≡ Done first past → Found list k key n bytes offsets first past
+  pub found : (first past : ℕ) → r ≡ Ok (first, past) → Found list k key n bytes offsets first past

@@ -1,10 +1,8 @@
 -- The first k fields: two encoded rows share them exactly when they share the first k values, they are the row of these values under
 -- the first k columns, and in a sorted batch the rows that share them stand side by side. For every k; past the columns it is all.
 use Prim.Native.Nat.Ordering.{lt}
-use Rattle.std.specs.Prelude.{ℕ, zero, suc, ◌+◌, ◌-◌, ◌<◌, ◌≤◌, ◌≡◌, cond, ◌&&◌, ◌↔◌, List, ltb, ℤ, length, get_or, take}
-use Rattle.format.specs.declared.Check.{Check}
-use Rattle.format.specs.declared.Check.TheVariants.{Pass}
-use Rattle.format.specs.Check.{both}
+use Rattle.std.specs.Prelude.{ℕ, zero, suc, ◌+◌, ◌-◌, ◌<◌, ◌≤◌, ◌≡◌, cond, ◌&&◌, ◌↔◌, List, ltb, ℤ, length, get_or, take, Ok}
+use Rattle.format.specs.Check.{Check, both}
 use Rattle.format.specs.Kinds.{Slot}
 use Rattle.format.specs.Columns.{description_bytes}
 use Rattle.format.specs.Described.{ColumnList, columns}
@@ -13,8 +11,7 @@ use Rattle.format.specs.Prefix.{first_fields, values_length}
 use Rattle.format.specs.Row.{row}
 use Rattle.format.specs.Value.{row_order}
 use Rattle.format.specs.Entries.{sign, compare_answer}
-use Rattle.demands.specs.declared.order.Ordered.{Ordered}
-use Rattle.demands.specs.Order.{Batch, batch_fault, row_in, values_in, ordered}
+use Rattle.demands.specs.Order.{Batch, batch_fault, row_in, values_in, ordered, Ordered}
 
 -- the first k fields of row r of a batch, and the first k values of row r of its sheet
 abbrev pub fields_in : ColumnList → Batch → ℕ → ℕ → List ℕ
@@ -39,9 +36,9 @@ pub record Fields (list : ColumnList) (b : Batch) (k r : ℕ) : Type 0 where
 -- two sheets encoded under one list
 pub record FieldsAgree (list : ColumnList) (b d : Batch) (x : Check) : Type 0 where
   pub answers : x ≡ both (batch_fault list b) (batch_fault list d)
-  pub agree : x ≡ Pass → (k r q : ℕ) → r < b.n → q < d.n → first_values list b k r ≡ first_values list d k q ↔ fields_in list b k r ≡ fields_in list d k q
-  pub fields : x ≡ Pass → (k r : ℕ) → r < b.n → Fields list b k r
-  pub together : x ≡ Pass → Sorted b.n (row_in b) → (k : ℕ) → Together b.n (fields_in list b k)
+  pub agree : x ≡ Ok tt → (k r q : ℕ) → r < b.n → q < d.n → first_values list b k r ≡ first_values list d k q ↔ fields_in list b k r ≡ fields_in list d k q
+  pub fields : x ≡ Ok tt → (k r : ℕ) → r < b.n → Fields list b k r
+  pub together : x ≡ Ok tt → Sorted b.n (row_in b) → (k : ℕ) → Together b.n (fields_in list b k)
 
 -- ---- keys under the first k columns
 
@@ -64,7 +61,7 @@ key_order b d r q = compare_answer (take (length (row_in d q)) (row_in b r)) (ro
 
 -- both sheets are encoded, the second under the first k columns, and both rows are there
 pub record KeyThere (list short : ColumnList) (b d : Batch) (k r q : ℕ) : Type 0 where
-  pub passes : both (batch_fault list b) (batch_fault short d) ≡ Pass
+  pub passes : both (batch_fault list b) (batch_fault short d) ≡ Ok tt
   pub first : columns short ≡ take k (columns list)
   pub row : r < b.n
   pub key : q < d.n

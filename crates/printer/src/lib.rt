@@ -8,7 +8,7 @@ ghost use Rattle.sheet_text.specs.SheetText.{text_room};
 ghost use Rattle.printer.specs.Printed.{Printed};
 
 use format::Refusal;
-use number::low16;
+use number::Word;
 use sheet_text::print_sheet;
 use texts::put_refused;
 
@@ -30,12 +30,12 @@ fn print_input(input: &[u8], out: &mut [u8]) -> usize
     if input.len() < 2 {
         return put_refused(Refusal::Input, out);
     }
-    let list_end = 2 + low16(input, 0) as usize;
+    let list_end = 2 + u16::low(input, 0) as usize;
     let sheet_start = list_end + 2;
     if input.len() < sheet_start {
         return put_refused(Refusal::Input, out);
     }
-    let n = low16(input, list_end) as u64;
+    let n = u16::low(input, list_end) as u64;
     print_sheet(&input[2..list_end], n, &input[sheet_start..], out)
 }
 

@@ -5,10 +5,9 @@ use mathlib.Core.List.{List, ◌∷◌}
 use native.Mathlib.Numerals.{add-one}
 use native.Mathlib.Omega.{arith}
 use lib.ListN.{length}
-use Rattle.format.specs.declared.Check.{Check}
-use Rattle.format.specs.declared.Check.TheVariants.{Pass}
+use Rattle.format.specs.Check.{Check, both}
+use Rattle.std.specs.declared.result.Result.TheVariants.{Ok}
 use Rattle.format.specs.declared.Column.{Column}
-use Rattle.format.specs.Check.{both}
 use Rattle.format.specs.Limits.{max_rows}
 use Rattle.format.specs.Lists.{each}
 use Rattle.format.specs.Read.{row_fault, rows_fault}
@@ -41,7 +40,7 @@ module _ {cols : List Column} {f : ℕ → List ℕ} {n bytes₀ r : ℕ} {row :
       go (suc k) counts a = (k, refl, subst (λ (z : List ℕ). A (z ∷ each (suc r) k f)) (sym s.is) a)
 
   -- it is whole
-  pub passed : (bytes : ℕ) → row_fault r (length row) 0 cols row ≡ Pass → bytes ≡ bytes₀ + row_data cols row → bytes ≤ bytes₀ + most_row
+  pub passed : (bytes : ℕ) → row_fault r (length row) 0 cols row ≡ Ok tt → bytes ≡ bytes₀ + row_data cols row → bytes ≤ bytes₀ + most_row
       → Rows cols f n bytes (r + 1)
   passed bytes passes adds h =
       let k = first_left (λ rows. (rows_fault r cols rows ≡ rows_fault 0 cols (each 0 n f)) × (bytes₀ + data_bytes cols rows ≡ data_bytes cols (each 0 n f)))

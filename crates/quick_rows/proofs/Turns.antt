@@ -8,7 +8,7 @@ use native.Mathlib.Numerals.{add-one}
 use native.Mathlib.Omega.{arith}
 use lib.ListN.{length, get_or, set, take, drop, length-drop, drop_of_length-le}
 use lib.Seq.{drop-drop, get_or-drop, take_all}
-use Rattle.format.specs.declared.Check.TheVariants.{Pass}
+use Rattle.std.specs.declared.result.Result.TheVariants.{Ok}
 use Rattle.format.specs.declared.Column.{Column}
 use Rattle.format.specs.declared.Schema.{Schema}
 use Rattle.format.specs.Kinds.{Slot, column_shape}
@@ -66,7 +66,7 @@ module _ {cols : List Column} {row : List ℕ} {bytes₀ bytes at c : ℕ} (t : 
 
   -- no byte is left: the row is whole, and counted
   pub record Whole : Type 0 where
-    pub passes : (r : ℕ) → row_fault r (length row) 0 cols row ≡ Pass
+    pub passes : (r : ℕ) → row_fault r (length row) 0 cols row ≡ Ok tt
     pub adds : bytes ≡ bytes₀ + row_data cols row
 
   pub whole : length row ≤ at → Whole

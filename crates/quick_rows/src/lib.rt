@@ -33,16 +33,14 @@ pub fn pass_rows(schema: Schema, n: usize, rows: &[u8], offsets: &[u64]) -> Pass
     let lengths = plain_lengths(schema);
     let mut plain = lengths;
     let mut bytes: usize = 0;
-    let mut r = 0;
-    'rows: while r < n {
+    for r in 0..n {
         let start = offsets[r] as usize;
         let end = offsets[r + 1] as usize;
         let row = &rows[start..end];
         let mut good = true;
         let mut more: usize = 0;
         let mut at = 0;
-        let mut c = 0;
-        while c < count {
+        for c in 0..count {
             let len = plain[c];
             if plain_there(row, at, len) {
                 at += len;
@@ -56,22 +54,20 @@ pub fn pass_rows(schema: Schema, n: usize, rows: &[u8], offsets: &[u64]) -> Pass
                 } else {
                     let field = count_field(&row[at..], column);
                     if field.field == 0 {
-                        break 'rows;
+                        return Passed { rows: r, bytes };
                     }
                     at += field.field;
                     more += field.value;
                 }
             }
-            c += 1;
         }
         if !good {
-            break 'rows;
+            return Passed { rows: r, bytes };
         }
         if at < row.len() {
-            break 'rows;
+            return Passed { rows: r, bytes };
         }
         bytes += more;
-        r += 1;
     }
-    Passed { rows: r, bytes }
+    Passed { rows: n, bytes }
 }

@@ -8,9 +8,8 @@ use lib.ListN.{length, take, drop}
 use lib.Seq.{take_at}
 use borrow.Author.Tests.{le-ltb}
 use Rattle.format.specs.declared.Column.{Column}
-use Rattle.format.specs.declared.Answer.{Answer}
-use Rattle.format.specs.declared.Answer.TheVariants.{Done}
-use Rattle.format.specs.declared.Check.TheVariants.{Pass}
+use Rattle.format.specs.Numbers.{Answer}
+use Rattle.std.specs.declared.result.Result.TheVariants.{Ok}
 use Rattle.format.specs.Columns.{spelled_fault, spelled_columns}
 use Rattle.format.specs.Described.{held, column_of, codes, descriptions_in, descriptions_fault, ColumnList, spelled, described, coded, list_fault, columns}
 use Rattle.format.specs.Entries.{read_list_check, read_list_answer, read_list_columns, measure_check, encode_check, measure_answer, encode_answer, encode_rows, encode_offsets, decode_check, decode_answer, decode_sheet}
@@ -44,10 +43,10 @@ module _ (a b : ColumnList) (f : list_fault a ≡ list_fault b) (c : columns a �
 
 -- ---- a list that is accepted: its columns, and their codes with a tail that does not count
 
-pub columns_ways : (s : List ℕ) → spelled_fault s ≡ Pass → BothWays (spelled s) (described (spelled_columns s))
+pub columns_ways : (s : List ℕ) → spelled_fault s ≡ Ok tt → BothWays (spelled s) (described (spelled_columns s))
 columns_ways s e = alike (spelled s) (described (spelled_columns s)) (e ∙ sym (read_accepted s e)) refl
 
-pub codes_ways : (s t : List ℕ) → spelled_fault s ≡ Pass → length t < 4 → BothWays (spelled s) (coded (codes (spelled_columns s) ++ t))
+pub codes_ways : (s t : List ℕ) → spelled_fault s ≡ Ok tt → length t < 4 → BothWays (spelled s) (coded (codes (spelled_columns s) ++ t))
 codes_ways s t e l =
     let is : descriptions_in (codes (spelled_columns s) ++ t) ≡ map held (spelled_columns s) = codes_in (spelled_columns s) t (read_narrowed s e) l in
     alike (spelled s) (coded (codes (spelled_columns s) ++ t))
@@ -55,18 +54,18 @@ codes_ways s t e l =
     (sym (ap (map column_of) is ∙ columns_again (spelled_columns s)))
 
 -- ---- what reading says where it fills in k descriptions
-module _ (s : List ℕ) (room k z : ℕ) (done : read_list_answer s room ≡ Done k z) where
-  read : (read_list_check s room ≡ Pass) × (length (spelled_columns s) ≡ k) × (0 ≡ z)
+module _ (s : List ℕ) (room k z : ℕ) (done : read_list_answer s room ≡ Ok (k, z)) where
+  read : (read_list_check s room ≡ Ok tt) × (length (spelled_columns s) ≡ k) × (0 ≡ z)
   unfolding read_list_answer
   read = answer_done (read_list_check s room) (length (spelled_columns s)) 0 k z done
 
-  bytes_pass : spelled_fault s ≡ Pass
+  bytes_pass : spelled_fault s ≡ Ok tt
   unfolding read_list_check
   bytes_pass = (both_pass (spelled_fault s) _ read.0).0
 
 -- read_list: the descriptions that it filled in, as many as it answered
-module _ (s : List ℕ) (lent : List Column) (r : Answer) (lent' : List Column) (p : ListRead s lent r lent') (k z : ℕ) (e : r ≡ Done k z) where
-  done : read_list_answer s (length lent) ≡ Done k z
+module _ (s : List ℕ) (lent : List Column) (r : Answer) (lent' : List Column) (p : ListRead s lent r lent') (k z : ℕ) (e : r ≡ Ok (k, z)) where
+  done : read_list_answer s (length lent) ≡ Ok (k, z)
   done = sym (numbers_injective r (read_list_answer s (length lent)) p.answers) ∙ e
 
   pub handed_on : take k lent' ≡ spelled_columns s
@@ -81,7 +80,7 @@ module _ (s : List ℕ) (lent : List Column) (r : Answer) (lent' : List Column) 
 
 -- station_read_list: the same in four bytes each, where there was room for the answer
 module _ (s descriptions lent descriptions' lent' : List ℕ) (p : LentListRead s descriptions lent descriptions' lent') (k z : ℕ)
-    (done : read_list_answer s (code_room descriptions) ≡ Done k z) (there : answer_room ≤ length lent) where
+    (done : read_list_answer s (code_room descriptions) ≡ Ok (k, z)) (there : answer_room ≤ length lent) where
   pub codes_handed_on : take (4 * k) descriptions' ≡ codes (spelled_columns s)
   unfolding lent_read_list_codes
   codes_handed_on =

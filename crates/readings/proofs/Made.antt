@@ -7,7 +7,7 @@ use native.Mathlib.Omega.{arith}
 use lib.ListN.{length, get_or, drop, length-drop}
 use borrow.Author.Tests.{le-ltb, lt-ltb}
 use Rattle.format.specs.declared.Column.{Column}
-use Rattle.format.specs.declared.Check.TheVariants.{Pass}
+use Rattle.std.specs.declared.result.Result.TheVariants.{Ok}
 use Rattle.format.specs.Limits.{max_columns}
 use Rattle.format.specs.Lists.{Bytes}
 use Rattle.format.specs.Columns.{description_bytes, columns_from, spelled_fault, spelled_columns}
@@ -41,7 +41,7 @@ read_back : (ds : List Description) → Every Spellable ds → length ds ≤ max
 unfolding spelled_columns
 read_back ds h l = columns_from_lem max_columns 0 (spell_all ds) ds h refl l
 
-module _ (ds : List Description) (e : descriptions_fault ds ≡ Pass) where
+module _ (ds : List Description) (e : descriptions_fault ds ≡ Ok tt) where
   spellable : Every Spellable ds
   spellable = all_spellable ds (all_fine ds e)
 
@@ -52,14 +52,14 @@ module _ (ds : List Description) (e : descriptions_fault ds ≡ Pass) where
   reads_back = read_back ds spellable (descriptions_few ds e).1
 
 -- ---- columns
-pub described_made : (cols : List Column) → (list_fault (described cols) ≡ Pass) ↔ Made cols
+pub described_made : (cols : List Column) → (list_fault (described cols) ≡ Ok tt) ↔ Made cols
 described_made cols = (
   λ e. record {
     list = spell_all (map held cols);
     reading = reading (map held cols) e;
     is = sym (reads_back (map held cols) e ∙ columns_again cols);
   },
-  λ m. subst (λ (c : List Column). list_fault (described c) ≡ Pass) (sym m.is) (read_accepted m.list m.reading.passes),
+  λ m. subst (λ (c : List Column). list_fault (described c) ≡ Ok tt) (sym m.is) (read_accepted m.list m.reading.passes),
 )
 
 -- ---- coded descriptions
@@ -69,10 +69,10 @@ two_bytes : (cols : List Column) → AllFine (map held cols) → Narrowed cols
 two_bytes [] h = tt
 two_bytes (col ∷ cols) h = ((fine_spellable (held col) h.0).width, two_bytes cols h.1)
 
-pub read_narrowed : (s : List ℕ) → spelled_fault s ≡ Pass → Narrowed (spelled_columns s)
+pub read_narrowed : (s : List ℕ) → spelled_fault s ≡ Ok tt → Narrowed (spelled_columns s)
 read_narrowed s e = two_bytes (spelled_columns s) (all_fine (map held (spelled_columns s)) (read_accepted s e))
 
-pub coded_made : (c : List ℕ) → Bytes c → (list_fault (coded c) ≡ Pass) ↔ MadeCodes c
+pub coded_made : (c : List ℕ) → Bytes c → (list_fault (coded c) ≡ Ok tt) ↔ MadeCodes c
 coded_made c b = (
   λ e.
       let ds : List Description = descriptions_in c in

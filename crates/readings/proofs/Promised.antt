@@ -4,10 +4,9 @@ use Prim.Native.Nat.{ℕ, ◌/◌}
 use mathlib.Core.Path.{ap, ◌∙◌}
 use mathlib.Core.List.{List}
 use lib.ListN.{length}
-use Rattle.format.specs.declared.Answer.{Answer}
+use Rattle.format.specs.Numbers.{Answer, numbers_of}
 use Rattle.format.specs.declared.Cutter.{Cutter}
 use Rattle.format.specs.Described.{ColumnList}
-use Rattle.format.specs.Numbers.{numbers_of}
 use Rattle.format.specs.Lists.{over}
 use Rattle.format.specs.Lent.{eights, eight_bytes, answer_bytes, unless_short, lent_measure, lent_encode, lent_encode_rows, lent_encode_offsets, lent_decode, lent_decode_sheet, lent_lookup}
 use Rattle.format.specs.Promises.{Measured, Encoded, Decoded, LookedUp, Started, LentMeasured, LentEncoded, LentDecoded, LentLookedUp}

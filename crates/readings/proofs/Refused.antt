@@ -9,13 +9,12 @@ use native.Mathlib.Nat.{add-zero, zero-add}
 use lib.Dec.{ltb, eqb}
 use lib.ListN.{length, get_or, take, drop, length-append, length-drop}
 use borrow.Author.Tests.{le-ltb, lt-ltb, ne_eqb}
-use Rattle.format.specs.declared.Check.{Check}
-use Rattle.format.specs.declared.Check.TheVariants.{Pass, Refuse}
+use Rattle.format.specs.Check.{Check, both, fail_if}
+use Rattle.std.specs.declared.result.Result.TheVariants.{Ok, Err}
 use Rattle.format.specs.declared.Refusal.{Refusal}
 use Rattle.format.specs.declared.Refusal.TheVariants.{ListCut, UnknownKind, OptionBits, Width, ManyColumns}
 use Rattle.format.specs.declared.Returned.{Returned}
 use Rattle.format.specs.Limits.{max_columns}
-use Rattle.format.specs.Check.{both, fail_if}
 use Rattle.format.specs.Kinds.{last_kind}
 use Rattle.format.specs.Columns.{most_options, most_width, description_bytes, description_fault, list_fault_from, spelled_fault}
 use Rattle.format.specs.Described.{Description, held_fault, descriptions_fault_from, descriptions_fault}
@@ -28,13 +27,13 @@ use Rattle.readings.proofs.Spelled.{long, kind_at, fault_is, next_is, begins}
 -- two checks, of descriptions from index i on and of a list from `at` on: both pass, or both refuse by one number, the first with the index
 -- and the second with the place of description j
 pub data Faults (i at : ℕ) (ds : List Description) : Check → Check → Type 0 where
-  none : Faults i at ds Pass Pass
+  none : Faults i at ds (Ok tt) (Ok tt)
   one : (j k : ℕ) (x y : Refusal) → refusal_numbers x ≡ three k (i + j) 0 → refusal_numbers y ≡ three k (at + length (spell_all (take j ds))) 0
-      → Faults i at ds (Refuse x) (Refuse y)
+      → Faults i at ds (Err x) (Err y)
 
 -- ---- one description
 module _ (i at : ℕ) (ds : List Description) where
-  first : (k : ℕ) (x y : Refusal) → refusal_numbers x ≡ three k i 0 → refusal_numbers y ≡ three k at 0 → Faults i at ds (Refuse x) (Refuse y)
+  first : (k : ℕ) (x y : Refusal) → refusal_numbers x ≡ three k i 0 → refusal_numbers y ≡ three k at 0 → Faults i at ds (Err x) (Err y)
   first k x y p q =
       one 0 k x y (p ∙ ap (λ (n : ℕ). three k n 0) (sym (add-zero i))) (q ∙ ap (λ (n : ℕ). three k n 0) (sym (add-zero at)))
 
@@ -63,13 +62,13 @@ both_alike i at ds (one j k x y p q) g = one j k x y p q
 
 pub faults_from : (room i at : ℕ) (s : List ℕ) (ds : List Description) → Every Spellable ds → drop at s ≡ spell_all ds
     → Faults i at ds (descriptions_fault_from room i ds) (list_fault_from room s at)
-faults_from room i at s [] h e = subst (Faults i at [] Pass) (sym (go room (le-ltb at (length s) (omega (arith, sym (length-drop at s) ∙ ap length e))))) none
+faults_from room i at s [] h e = subst (Faults i at [] (Ok tt)) (sym (go room (le-ltb at (length s) (omega (arith, sym (length-drop at s) ∙ ap length e))))) none
   where
-    go : (room : ℕ) → ltb at (length s) ≡ false → list_fault_from room s at ≡ Pass
+    go : (room : ℕ) → ltb at (length s) ≡ false → list_fault_from room s at ≡ Ok tt
     go zero q = rw q
     go (suc room) q = rw q
 faults_from zero i at s (d ∷ ds) h e =
-    subst (λ (t : Bool). Faults i at (d ∷ ds) (Refuse (ManyColumns i)) (fail_if t (ManyColumns at) Pass))
+    subst (λ (t : Bool). Faults i at (d ∷ ds) (Err (ManyColumns i)) (fail_if t (ManyColumns at) (Ok tt)))
     (sym (lt-ltb at (length s) (begins s at d (spell_all ds) e h.0)))
     (first i at (d ∷ ds) 5 (ManyColumns i) (ManyColumns at) refl refl)
 faults_from (suc room) i at s (d ∷ ds) h e =
@@ -77,7 +76,7 @@ faults_from (suc room) i at s (d ∷ ds) h e =
     = subst (λ (b : ℕ). Faults (suc i) (at + description_bytes b) ds (descriptions_fault_from room (suc i) ds) (list_fault_from room s next))
     (kind_at s at d (spell_all ds) e h.0)
     (faults_from room (suc i) next s ds h.1 (next_is s at d (spell_all ds) e h.0)) in
-    subst (λ (t : Bool). Faults i at (d ∷ ds) (both (held_fault i d) (descriptions_fault_from room (suc i) ds)) (cond t bytes Pass))
+    subst (λ (t : Bool). Faults i at (d ∷ ds) (both (held_fault i d) (descriptions_fault_from room (suc i) ds)) (cond t bytes (Ok tt)))
     (sym (lt-ltb at (length s) (begins s at d (spell_all ds) e h.0)))
     (both_alike i at (d ∷ ds)
     (subst (Faults i at (d ∷ ds) (held_fault i d)) (sym (fault_is s at d (spell_all ds) e h.0)) (numbers_alike i at (d ∷ ds) d))
@@ -89,7 +88,7 @@ faults_from (suc room) i at s (d ∷ ds) h e =
     bytes : Check
     bytes = both (description_fault s at) (list_fault_from room s next)
 
-pub same_pass : (i at : ℕ) (ds : List Description) {c e : Check} → Faults i at ds c e → c ≡ Pass → e ≡ Pass
+pub same_pass : (i at : ℕ) (ds : List Description) {c e : Check} → Faults i at ds c e → c ≡ Ok tt → e ≡ Ok tt
 same_pass i at ds none h = refl
 same_pass i at ds (one j k x y p q) h = absurd (refuse_pass h)
 

@@ -1,9 +1,8 @@
 -- A column list read once: which descriptions some reading makes, under which lists the entries answer and write the same, and which
 -- descriptions have list bytes.
-use Rattle.std.specs.Prelude.{ℕ, ◌<◌, ◌≡◌, false, cond, List, [], ◌∷◌, ◌++◌, map, eqb, length, take}
+use Rattle.std.specs.Prelude.{ℕ, ◌<◌, ◌≡◌, false, cond, List, [], ◌∷◌, ◌++◌, map, eqb, length, take, Ok}
 use Rattle.format.specs.declared.Column.{Column}
-use Rattle.format.specs.declared.Check.{Check}
-use Rattle.format.specs.declared.Check.TheVariants.{Pass}
+use Rattle.format.specs.Check.{Check}
 use Rattle.format.specs.declared.Returned.{Returned}
 use Rattle.format.specs.Lists.{Bytes, joined, low_bytes}
 use Rattle.format.specs.Columns.{spelled_fault, spelled_columns}
@@ -18,7 +17,7 @@ use Rattle.format.specs.Cutter.{start_answer, start_state}
 -- bytes that reading accepts
 pub record Reading (list : List ℕ) : Type 0 where
   pub bytes : Bytes list
-  pub passes : spelled_fault list ≡ Pass
+  pub passes : spelled_fault list ≡ Ok tt
 
 -- columns that some reading fills in
 pub record Made (cols : List Column) : Type 0 where

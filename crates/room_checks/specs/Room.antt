@@ -1,9 +1,7 @@
 -- What encode and decode ask of their room.
-use Rattle.std.specs.Prelude.{ℕ, ltb}
-use Rattle.format.specs.declared.Check.{Check}
-use Rattle.format.specs.declared.Check.TheVariants.{Pass}
+use Rattle.std.specs.Prelude.{ℕ, ltb, Ok}
+use Rattle.format.specs.Check.{Check, fail_if}
 use Rattle.format.specs.declared.Refusal.TheVariants.{RowRoom, SheetRoom}
-use Rattle.format.specs.Check.{fail_if}
 use Rattle.format.specs.Entries.{offset_room_fault}
 
 -- 13, 14
@@ -12,4 +10,4 @@ room_fault total row_room n offset_room = fail_if (ltb row_room total) (RowRoom 
 
 -- 24
 abbrev pub sheet_room_fault : ℕ → ℕ → Check
-sheet_room_fault bytes room = fail_if (ltb room bytes) (SheetRoom bytes) Pass
+sheet_room_fault bytes room = fail_if (ltb room bytes) (SheetRoom bytes) (Ok tt)

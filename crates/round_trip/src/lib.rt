@@ -6,7 +6,7 @@
 ghost use Rattle.format.specs.Described.{spelled};
 ghost use Rattle.demands.specs.RoundTrip.{CameBack, CameAgain};
 
-use format::Answer;
+use format::Refusal;
 use station::decode::decode;
 use station::encode::encode;
 
@@ -18,14 +18,11 @@ pub fn encode_decode(
     rows: &mut [u8],
     offsets: &mut [u64],
     back: &mut [u8],
-) -> Answer
+) -> Result<(u64, u64), Refusal>
     ensures { CameBack (spelled list.now) n sheet.now rows.old offsets.old back.old
         result back.new }
 {
-    let encoded = encode(list, n, sheet, rows, offsets);
-    if let Answer::Refused(x) = encoded {
-        return Answer::Refused(x);
-    }
+    encode(list, n, sheet, rows, offsets)?;
     decode(list, n, rows, offsets, back)
 }
 
@@ -38,16 +35,10 @@ pub fn decode_encode(
     sheet: &mut [u8],
     again: &mut [u8],
     ends: &mut [u64],
-) -> Answer
+) -> Result<(u64, u64), Refusal>
     ensures { CameAgain (spelled list.now) n rows.now offsets.now sheet.old again.old ends.old
         result again.new ends.new }
 {
-    let decoded = decode(list, n, rows, offsets, sheet);
-    match decoded {
-        Answer::Done(bytes, _) => {
-            let size = bytes as usize;
-            encode(list, n, &sheet[..size], again, ends)
-        }
-        Answer::Refused(x) => Answer::Refused(x),
-    }
+    let (bytes, _) = decode(list, n, rows, offsets, sheet)?;
+    encode(list, n, &sheet[..bytes as usize], again, ends)
 }

@@ -9,7 +9,7 @@ use native.Mathlib.Omega.{arith}
 use lib.Dec.{leb}
 use lib.ListN.{length, get_or, take, drop, length-append}
 use borrow.Author.Tests.{leb-false, le-leb, lt-leb}
-use Rattle.format.specs.declared.Check.TheVariants.{Pass, Refuse}
+use Rattle.std.specs.declared.result.Result.TheVariants.{Ok, Err}
 use Rattle.format.specs.declared.Refusal.TheVariants.{SheetRow}
 use Rattle.format.specs.Check.{both}
 use Rattle.format.specs.Lists.{low}
@@ -47,7 +47,7 @@ module _ (n₀ n₁ : ℕ) (rows : List ℕ) (n : ℕ) where
   checking_begin = record { within = omega arith; says = ap (pairs_fault n₀ n₁ rows 0) (sub-zero n) }
 
   -- none is left
-  pub checking_end : (k : ℕ) → Checking k → n ≤ k → Pass ≡ pairs_fault n₀ n₁ rows 0 n
+  pub checking_end : (k : ℕ) → Checking k → n ≤ k → Ok tt ≡ pairs_fault n₀ n₁ rows 0 n
   checking_end k t h = ap (pairs_fault n₀ n₁ rows k) (let z : 0 ≡ n - k = omega arith in z) ∙ t.says
 
   module _ (k : ℕ) (t : Checking k) (l : k < n) (i j : ℕ) (ei : i ≡ first_row rows k) (ej : j ≡ second_row rows k) where
@@ -56,10 +56,10 @@ module _ (n₀ n₁ : ℕ) (rows : List ℕ) (n : ℕ) where
         ap₂ (λ (x y : ℕ). both (pair_fault n₀ x n₁ y) (pairs_fault n₀ n₁ rows (suc k) (n - suc k))) ei ej
         ∙ ap (pairs_fault n₀ n₁ rows k) (let z : suc (n - suc k) ≡ n - k = omega arith in z) ∙ t.says
 
-    pub first_past : n₀ ≤ i → Refuse (SheetRow 0 i) ≡ pairs_fault n₀ n₁ rows 0 n
+    pub first_past : n₀ ≤ i → Err (SheetRow 0 i) ≡ pairs_fault n₀ n₁ rows 0 n
     first_past h = rw (← from) (rw (le-leb n₀ i h))
 
-    pub second_past : i < n₀ → n₁ ≤ j → Refuse (SheetRow 1 j) ≡ pairs_fault n₀ n₁ rows 0 n
+    pub second_past : i < n₀ → n₁ ≤ j → Err (SheetRow 1 j) ≡ pairs_fault n₀ n₁ rows 0 n
     second_past h g = rw (← from) (rw (lt-leb n₀ i h, le-leb n₁ j g))
 
     pub checking_more : i < n₀ → j < n₁ → Checking (k + 1)
@@ -69,26 +69,26 @@ module _ (n₀ n₁ : ℕ) (rows : List ℕ) (n : ℕ) where
     }
 
 -- pairs that pass are of rows that the sheets have
-passed : (n₀ n₁ : ℕ) (rows : List ℕ) (i k : ℕ) → pairs_fault n₀ n₁ rows i k ≡ Pass → (p : ℕ) → i ≤ p → p < i + k
+passed : (n₀ n₁ : ℕ) (rows : List ℕ) (i k : ℕ) → pairs_fault n₀ n₁ rows i k ≡ Ok tt → (p : ℕ) → i ≤ p → p < i + k
     → (first_row rows p < n₀) × (second_row rows p < n₁)
 passed n₀ n₁ rows i zero e p a b = absurd (omega arith)
 passed n₀ n₁ rows i (suc k) e p a b = go (choose i p) (λ h. passed n₀ n₁ rows (suc i) k halves.1 p (omega arith) (omega arith))
   where
-    halves : (pair_fault n₀ (first_row rows i) n₁ (second_row rows i) ≡ Pass) × (pairs_fault n₀ n₁ rows (suc i) k ≡ Pass)
+    halves : (pair_fault n₀ (first_row rows i) n₁ (second_row rows i) ≡ Ok tt) × (pairs_fault n₀ n₁ rows (suc i) k ≡ Ok tt)
     halves = both_pass (pair_fault n₀ (first_row rows i) n₁ (second_row rows i)) (pairs_fault n₀ n₁ rows (suc i) k) e
 
     here : (first_row rows i < n₀) × (second_row rows i < n₁)
     here =
         let q = both_pass (sheet_row_fault 0 (first_row rows i) n₀) (sheet_row_fault 1 (second_row rows i) n₁) halves.0 in (
-          leb-false n₀ (first_row rows i) (fail_if_pass (leb n₀ (first_row rows i)) (SheetRow 0 (first_row rows i)) Pass q.0).0,
-          leb-false n₁ (second_row rows i) (fail_if_pass (leb n₁ (second_row rows i)) (SheetRow 1 (second_row rows i)) Pass q.1).0,
+          leb-false n₀ (first_row rows i) (fail_if_pass (leb n₀ (first_row rows i)) (SheetRow 0 (first_row rows i)) (Ok tt) q.0).0,
+          leb-false n₁ (second_row rows i) (fail_if_pass (leb n₁ (second_row rows i)) (SheetRow 1 (second_row rows i)) (Ok tt) q.1).0,
         )
 
     go : (i < p) ⊎ (p ≤ i) → (i < p → (first_row rows p < n₀) × (second_row rows p < n₁)) → (first_row rows p < n₀) × (second_row rows p < n₁)
     go (inl h) later = later h
     go (inr h) later = let z : i ≡ p = omega arith in subst (λ (q : ℕ). (first_row rows q < n₀) × (second_row rows q < n₁)) z here
 
-pub pairs_passed : (n₀ n₁ : ℕ) (rows : List ℕ) → pairs_fault n₀ n₁ rows 0 (pair_count rows) ≡ Pass → InSheets n₀ n₁ rows
+pub pairs_passed : (n₀ n₁ : ℕ) (rows : List ℕ) → pairs_fault n₀ n₁ rows 0 (pair_count rows) ≡ Ok tt → InSheets n₀ n₁ rows
 pairs_passed n₀ n₁ rows e = record {
   first = λ k l. (passed n₀ n₁ rows 0 (pair_count rows) e k (omega arith) (omega arith)).0;
   second = λ k l. (passed n₀ n₁ rows 0 (pair_count rows) e k (omega arith) (omega arith)).1;

@@ -5,8 +5,8 @@ ghost use Rattle.std.specs.Prelude.{◌≡◌, ◌<◌, length, get_or};
 ghost use Rattle.format.specs.CompareSheets.{pair_count, pairs_fault};
 ghost use Rattle.row_pairs.specs.Pairs.{pair_rows};
 
-use format::{Check, Refusal};
-use number::low64;
+use format::Refusal;
+use number::Word;
 
 // Row number k of those that are lent: the numbers, and after them those in the bytes, eight a number.
 pub fn row_at(numbers: &[u64], bytes: &[u8], k: usize) -> u64
@@ -17,7 +17,7 @@ pub fn row_at(numbers: &[u64], bytes: &[u8], k: usize) -> u64
     if k < count {
         return numbers[k];
     }
-    low64(bytes, 8 * (k - count))
+    u64::low(bytes, 8 * (k - count))
 }
 
 // How many pairs they make: an odd last number does not count.
@@ -29,22 +29,20 @@ pub fn pair_count(numbers: &[u64], bytes: &[u8]) -> usize
 
 // 32: the first pair with a row that its sheet does not have, of n rows the first sheet and of m rows the second.
 #[tactic(auto, using(crate::proofs::Pairs::rows_many))]
-pub fn check_pairs(n: u64, m: u64, numbers: &[u64], bytes: &[u8]) -> Check
+pub fn check_pairs(n: u64, m: u64, numbers: &[u64], bytes: &[u8]) -> Result<(), Refusal>
     ensures { result ≡ pairs_fault n m (pair_rows numbers.now bytes.now) 0
         (pair_count (pair_rows numbers.now bytes.now)) }
 {
     let pairs = pair_count(numbers, bytes);
-    let mut k: usize = 0;
-    while k < pairs {
+    for k in 0..pairs {
         let i = row_at(numbers, bytes, 2 * k);
         let j = row_at(numbers, bytes, 2 * k + 1);
         if n <= i {
-            return Check::Refuse(Refusal::SheetRow(0, i));
+            return Err(Refusal::SheetRow(0, i));
         }
         if m <= j {
-            return Check::Refuse(Refusal::SheetRow(1, j));
+            return Err(Refusal::SheetRow(1, j));
         }
-        k += 1;
     }
-    Check::Pass
+    Ok(())
 }

@@ -6,15 +6,20 @@ ghost use Rattle.format.specs.Passed.{AllLie};
 ghost use Rattle.format.specs.Entries.{cut_rows};
 ghost use Rattle.row_reader.specs.Walk.{Finds};
 
-use crate::Checked;
 use field_reader::{added_bytes, read_field};
-use format::{Check, FieldRead, Refusal, RowFault, Schema};
+use format::{FieldRead, Refusal, RowFault, Schema};
 use quick_rows::pass_rows;
 
 // The first fault in row order, then column order, looked for from the first row on that the quick check did not pass; each field is
 // read from the part of the row that the previous one left.
-// A fault's place in the row is the row's length less the bytes left from the bad byte on.
-pub fn check_fields(schema: Schema, n: usize, rows: &[u8], offsets: &[u64]) -> Checked
+// A fault's place in the row is the row's length less the bytes left from the bad byte on. Of rows without one, the bytes of the values in
+// variable columns are counted.
+pub fn check_fields(
+    schema: Schema,
+    n: usize,
+    rows: &[u8],
+    offsets: &[u64],
+) -> Result<usize, Refusal>
     requires n_le_max_rows { n ≤ max_rows }
     requires limited { Limited schema }
     requires all_lie { AllLie n rows.now offsets.now }
@@ -23,16 +28,14 @@ pub fn check_fields(schema: Schema, n: usize, rows: &[u8], offsets: &[u64]) -> C
     let count = schema.count;
     let columns = schema.columns;
     let passed = pass_rows(schema, n, rows, offsets);
-    let mut check = Check::Pass;
+    let mut check = Ok(());
     let mut bytes: usize = passed.bytes;
-    let mut r = passed.rows;
-    'rows: while r < n {
+    'rows: for r in passed.rows..n {
         let start = offsets[r] as usize;
         let end = offsets[r + 1] as usize;
         let row = &rows[start..end];
         let mut at = 0;
-        let mut c = 0;
-        while c < count {
+        for c in 0..count {
             let column = columns[c];
             let rest = &row[at..];
             let read = read_field(rest, column);
@@ -46,17 +49,15 @@ pub fn check_fields(schema: Schema, n: usize, rows: &[u8], offsets: &[u64]) -> C
                 }
                 FieldRead::Fault(fault, left) => {
                     let place = row.len() - left;
-                    check = Check::Refuse(Refusal::Row(fault, r, c, place));
+                    check = Err(Refusal::Row(fault, r, c, place));
                     break 'rows;
                 }
             }
-            c += 1;
         }
         if at < row.len() {
-            check = Check::Refuse(Refusal::Row(RowFault::Extra, r, count, at));
+            check = Err(Refusal::Row(RowFault::Extra, r, count, at));
             break 'rows;
         }
-        r += 1;
     }
-    Checked { check, bytes }
+    check.and(Ok(bytes))
 }

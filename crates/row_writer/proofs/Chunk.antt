@@ -137,3 +137,10 @@ module _ {row : ℕ → List ℕ} {n : ℕ} {rows₀ xs rows now : List ℕ} {fr
             ∙ t.says;
         moved = moved_on t.moved w.moved (omega arith) l;
       }
+
+-- no row is left
+pub chunks_end : {row : ℕ → List ℕ} {n : ℕ} {rows₀ xs rows now : List ℕ} → Chunks row n rows₀ xs rows now n → WroteEach row 0 n rows₀ xs rows now
+chunks_end {row} {n} {xs = xs} {rows = rows} t = record {
+  bytes = ap (λ (k : ℕ). placed (cursor xs) row n k rows) {x = 0} {y = n - n} (omega arith) ∙ t.says;
+  moved = t.moved;
+}

@@ -4,7 +4,7 @@ use mathlib.Core.Path.{◌≡◌, refl, sym, ap, ap₂, ◌∙◌}
 use mathlib.Core.List.{List, [], ◌∷◌, ◌++◌}
 use mathlib.Core.Logic.{◌⊎◌, inl, inr}
 use native.Mathlib.Omega.{arith}
-use lib.ListN.{length, get_or, set, length-append}
+use lib.ListN.{length, set, length-append}
 use lib.Seq.{sets, set_comm}
 use Rattle.format.specs.Lists.{each, joined}
 use Rattle.basics.proofs.Append.{sets_append}

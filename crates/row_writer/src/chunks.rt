@@ -1,5 +1,5 @@
 // The rows at their starts: some rows at a time, column by column.
-ghost use Rattle.std.specs.Prelude.{◌<◌, ◌≤◌, length};
+ghost use Rattle.std.specs.Prelude.{◌≡◌, ◌+◌, ◌<◌, ◌≤◌, length, min};
 ghost use Rattle.format.specs.Limits.{max_columns, max_rows};
 ghost use Rattle.chunk_writer.specs.Cursors.{WroteEach};
 ghost use Rattle.row_writer.specs.Rows.{AllStand, row_at, rows_total};
@@ -14,7 +14,7 @@ const CHUNK: usize = 64;
 // The row after the chunk that begins with `from`.
 fn chunk_end(from: usize, n: usize) -> usize
     requires { from < n }
-    ensures { (from < result) × (result ≤ n) }
+    ensures { result ≡ min (from + 64) n }
 {
     if n - from < CHUNK {
         return n;
@@ -38,16 +38,12 @@ pub fn write_chunks(
     ensures { WroteEach (row_at n sheet.now facts count) 0 n rows.old offsets.old
         rows.new offsets.new }
 {
-    let mut from: usize = 0;
-    while from < n {
+    for from in (0..n).step_by(CHUNK) {
         let to = chunk_end(from, n);
-        let mut c: usize = 0;
-        while c < count {
+        for c in 0..count {
             let f = facts[c];
             let base = f.base;
             write_column(f.column, n, &sheet[base..], from, to, rows, offsets);
-            c += 1;
         }
-        from = to;
     }
 }

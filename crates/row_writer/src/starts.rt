@@ -15,11 +15,7 @@ fn clear(n: usize, offsets: &mut [u64])
     requires { n < length offsets.old }
     ensures { CursorsAt (λ r. 0) n offsets.old offsets.new }
 {
-    let mut r: usize = 0;
-    while r < n {
-        offsets[r + 1] = 0;
-        r += 1;
-    }
+    offsets[1..n + 1].fill(0);
 }
 
 // The lengths of the fields in the column of variable bytes in front of the part.
@@ -29,10 +25,8 @@ fn add_lengths(part: &[u8], n: usize, offsets: &mut [u64])
     requires grown_fits { GrownFits n part.now offsets.old }
     ensures { CursorsAt (grown n part.now offsets.old) n offsets.old offsets.new }
 {
-    let mut r: usize = 0;
-    while r < n {
+    for r in 0..n {
         offsets[r + 1] = offsets[r + 1] + variable_length(part, n, r);
-        r += 1;
     }
 }
 
@@ -60,12 +54,10 @@ fn add_up(n: usize, fixed: u64, offsets: &mut [u64])
     ensures { CursorsAt (start_of fixed offsets.old) n offsets.old offsets.new }
 {
     let mut at: u64 = 0;
-    let mut r: usize = 0;
-    while r < n {
+    for r in 0..n {
         let length = offsets[r + 1];
         offsets[r + 1] = at;
         at += fixed + length;
-        r += 1;
     }
 }
 
@@ -84,12 +76,10 @@ pub fn write_starts(
 {
     clear(n, offsets);
     let mut fixed: u64 = 0;
-    let mut c: usize = 0;
-    while c < count {
+    for c in 0..count {
         let f = facts[c];
         let base = f.base;
         fixed = add_column(f.column, n, &sheet[base..], fixed, offsets);
-        c += 1;
     }
     add_up(n, fixed, offsets);
 }

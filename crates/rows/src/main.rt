@@ -15,6 +15,7 @@ fn read_full<R: Read>(reader: &mut R, buffer: &mut [u8]) -> usize
     ensures { result ≤ length buffer.new }
 {
     let mut done = 0;
+    // No `for`: each read says how far it came.
     while done < buffer.len() {
         match reader.read(&mut buffer[done..]) {
             Ok(n) if n > 0 => done += n,

@@ -6,7 +6,7 @@ ghost use Rattle.std.specs.Prelude.{◌≡◌, [], ◌∷◌, ◌+◌, ◌%◌, 
 ghost use Rattle.std.proofs.lemmas.List.Edits.{sets};
 ghost use Rattle.format.specs.Field.{directed};
 
-use number::{directed8, directed64, low64, put64};
+use number::{Word, directed};
 
 // A byte as a number.
 pub fn wide(x: u8) -> usize
@@ -20,7 +20,7 @@ pub fn put_byte(out: &mut [u8], at: usize, byte: u8, descending: bool)
     requires { at < length out.old }
     ensures { out.new ≡ sets out.old at (directed descending (byte ∷ [])) }
 {
-    out[at] = directed8(descending, byte);
+    out[at] = directed(descending, byte);
 }
 
 // The byte of a row at a place, inverted back.
@@ -28,7 +28,7 @@ pub fn byte_at(row: &[u8], i: usize, descending: bool) -> u8
     requires { i < length row.now }
     ensures { result ≡ get_or (directed descending row.now) i 0 }
 {
-    directed8(descending, row[i])
+    directed(descending, row[i])
 }
 
 // m zeros from a place on.
@@ -36,11 +36,7 @@ pub fn zeros(out: &mut [u8], at: usize, m: usize)
     requires { at + m ≤ length out.old }
     ensures { out.new ≡ sets out.old at (replicate m 0) }
 {
-    let mut i = 0;
-    while i < m {
-        out[at + i] = 0;
-        i += 1;
-    }
+    out[at..at + m].fill(0);
 }
 
 // Bytes of src from a place on, as many as whole words hold: of a value into a row, or of a row back into the sheet.
@@ -57,11 +53,9 @@ pub fn copy_words(
     requires count_in_bounds_2 { at + count ≤ length out.old }
     ensures { out.new ≡ sets out.old at (directed descending (take count (drop from src.now))) }
 {
-    let mut i = 0;
-    while i < count {
-        let word = low64(src, from + i);
-        put64(out, at + i, directed64(descending, word));
-        i += 8;
+    for k in 0..count / 8 {
+        let word = u64::low(src, from + 8 * k);
+        directed(descending, word).put(out, at + 8 * k);
     }
 }
 
@@ -71,10 +65,8 @@ fn copy_rest(out: &mut [u8], at: usize, src: &[u8], from: usize, count: usize, d
     requires count_in_bounds_2 { at + count ≤ length out.old }
     ensures { out.new ≡ sets out.old at (directed descending (take count (drop from src.now))) }
 {
-    let mut i = 0;
-    while i < count {
+    for i in 0..count {
         out[at + i] = byte_at(src, from + i, descending);
-        i += 1;
     }
 }
 

@@ -5,72 +5,58 @@ ghost use Rattle.std.specs.Prelude.{◌≡◌, false, ◌≤◌, length, take};
 ghost use Rattle.format.specs.Limits.{max_rows, max_width};
 ghost use Rattle.format.specs.Kinds.{value_bytes, shape};
 ghost use Rattle.format.specs.Sheet.{Layout, layout_for, packed as packedFor, spare_set, bits_fault, required_fault, variable_fault, values_fault, values_bytes, layout, column_fault, column_bytes, column_slots, nulls_in};
-ghost use Rattle.format.specs.Check.{both};
 
 use bits::packed;
-use format::{Check, Column, Kind, Refusal};
+use format::{Column, Kind, Refusal};
 use sheet_ends::{check_ends, end_at};
 
 // Packed bits in front of the part: 7, 8.
-fn check_bits(part: &[u8], n: usize, c: usize) -> Check
+fn check_bits(part: &[u8], n: usize, c: usize) -> Result<(), Refusal>
     requires { n ≤ max_rows }
     ensures { result ≡ bits_fault n c part.now }
 {
     if part.len() < packed(n) {
-        return Check::Refuse(Refusal::ColumnCut(c));
+        return Err(Refusal::ColumnCut(c));
     }
     if bits::spare(part, n) {
-        return Check::Refuse(Refusal::SpareBit(c));
+        return Err(Refusal::SpareBit(c));
     }
-    Check::Pass
+    Ok(())
 }
 
 // The validity bits of a required column, which are there: 27 at the first null row.
-fn check_required(required: bool, part: &[u8], n: usize, c: usize) -> Check
+fn check_required(required: bool, part: &[u8], n: usize, c: usize) -> Result<(), Refusal>
     requires { packedFor n ≤ length part.now }
     ensures { result ≡ required_fault required n c part.now }
 {
     if !required {
-        return Check::Pass;
+        return Ok(());
     }
     let row = bits::first_clear(part, n);
     if row < n {
-        return Check::Refuse(Refusal::Missing(c, row));
+        return Err(Refusal::Missing(c, row));
     }
-    Check::Pass
-}
-
-// The first fault of two checks.
-fn first_fault(first: Check, second: Check) -> Check
-    ensures { result ≡ both first second }
-{
-    if let Check::Refuse(r) = first {
-        return Check::Refuse(r);
-    }
-    second
+    Ok(())
 }
 
 // Variable bytes: ends cut 7, row by row 9, 10, then bytes 7; the first end is any.
-fn check_variable(part: &[u8], n: usize, c: usize) -> Check
+fn check_variable(part: &[u8], n: usize, c: usize) -> Result<(), Refusal>
     requires { n ≤ max_rows }
     ensures { result ≡ variable_fault n c part.now }
 {
     let ends = 4 * (n + 1);
     if part.len() < ends {
-        return Check::Refuse(Refusal::ColumnCut(c));
+        return Err(Refusal::ColumnCut(c));
     }
-    let check = check_ends(part, n, c);
-    if let Check::Refuse(r) = check {
-        return Check::Refuse(r);
-    }
+    check_ends(part, n, c)?;
     if part.len() < ends + end_at(part, n) {
-        return Check::Refuse(Refusal::ColumnCut(c));
+        return Err(Refusal::ColumnCut(c));
     }
-    Check::Pass
+    Ok(())
 }
 
 // The values of a column in front of the part: 7, 8 for bool, 7 for fixed, and variable bytes as above.
-fn check_values(kind: Kind, part: &[u8], n: usize, c: usize) -> Check
+fn check_values(kind: Kind, part: &[u8], n: usize, c: usize) -> Result<(), Refusal>
     requires n_le_max_rows { n ≤ max_rows }
     requires kind_bound { value_bytes kind ≤ max_width }
     ensures { result ≡ values_fault (layout_for (shape kind)) n c part.now }
@@ -80,29 +66,26 @@ fn check_values(kind: Kind, part: &[u8], n: usize, c: usize) -> Check
         Kind::Variable => check_variable(part, n, c),
         _ => {
             if part.len() < n * column_facts::width(kind) {
-                return Check::Refuse(Refusal::ColumnCut(c));
+                return Err(Refusal::ColumnCut(c));
             }
-            Check::Pass
+            Ok(())
         }
     }
 }
 
 // Column c in front of the part: validity 7, 8, of a required column then 27, then its values.
-pub fn check_column(column: Column, part: &[u8], n: usize, c: usize) -> Check
+pub fn check_column(column: Column, part: &[u8], n: usize, c: usize) -> Result<(), Refusal>
     requires n_le_max_rows { n ≤ max_rows }
     requires kind_bound { value_bytes column.kind ≤ max_width }
     ensures { result ≡ column_fault column.options.required (layout column) n c part.now }
 {
-    let check = check_bits(part, n, c);
-    if let Check::Refuse(r) = check {
-        return Check::Refuse(r);
-    }
+    check_bits(part, n, c)?;
     let required = column.options.required;
     let kind = column.kind;
     let valid = packed(n);
     let missing = check_required(required, part, n, c);
     let values = check_values(kind, &part[valid..], n, c);
-    first_fault(missing, values)
+    missing.and(values)
 }
 
 // The bytes of a column's values, which are there.

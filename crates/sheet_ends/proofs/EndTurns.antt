@@ -1,7 +1,7 @@
 -- The loops over ends: what holds at their heads, and what each way out of a turn gives. Assumes nothing.
 use Rattle.std.proofs.Common.{◌≡◌, ℕ, zero, suc, ◌+◌, ◌-◌, ◌*◌, ◌/◌, ◌%◌, ◌^◌, ◌<◌, ◌≤◌, ◌⊎◌, List, sym, refl, ap, ◌∙◌, subst, inl, inr, add-one, arith, le-ltb, lt-ltb}
 use Rattle.format.specs.declared.Refusal.TheVariants.{Ends, LongSlot}
-use Rattle.format.specs.declared.Check.TheVariants.{Pass, Refuse}
+use Rattle.std.specs.declared.result.Result.TheVariants.{Ok, Err}
 use Rattle.format.specs.Limits.{max_rows, max_slot}
 use Rattle.format.specs.Passed.{Step}
 use Rattle.format.specs.Sheet.{end, ends_fault}
@@ -9,11 +9,11 @@ use Rattle.basics.proofs.Compare.{choose}
 use Rattle.sheet_ends.specs.Steps.{Steps}
 
 -- ---- one turn of the definition
-fall : (c : ℕ) (s : List ℕ) (i k : ℕ) → end s (suc i) < end s i → ends_fault c s i (suc k) ≡ Refuse (Ends c i)
+fall : (c : ℕ) (s : List ℕ) (i k : ℕ) → end s (suc i) < end s i → ends_fault c s i (suc k) ≡ Err (Ends c i)
 fall c s i k h = rw (lt-ltb (end s (suc i)) (end s i) h)
 
 over : (c : ℕ) (s : List ℕ) (i k : ℕ) → end s i ≤ end s (suc i) → max_slot < end s (suc i) - end s i
-    → ends_fault c s i (suc k) ≡ Refuse (LongSlot c i)
+    → ends_fault c s i (suc k) ≡ Err (LongSlot c i)
 over c s i k g h = rw (le-ltb (end s (suc i)) (end s i) g, lt-ltb max_slot (end s (suc i) - end s i) h)
 
 pass : (c : ℕ) (s : List ℕ) (i k : ℕ) → end s i ≤ end s (suc i) → end s (suc i) - end s i ≤ max_slot
@@ -30,7 +30,7 @@ pub start : (c : ℕ) (s : List ℕ) (n last : ℕ) → last ≡ end s 0 → Tur
 start c s n last e = record { here = omega arith; ends = e; says = ap (ends_fault c s 0) (let z : n - 0 ≡ n = omega arith in z) }
 
 -- ---- the ways on from the head of a turn
-pub done : (c : ℕ) (s : List ℕ) (n row last : ℕ) → Turn c s n row last → n ≤ row → Pass ≡ ends_fault c s 0 n
+pub done : (c : ℕ) (s : List ℕ) (n row last : ℕ) → Turn c s n row last → n ≤ row → Ok tt ≡ ends_fault c s 0 n
 done c s n row last t h = ap (ends_fault c s row) (let z : 0 ≡ n - row = omega arith in z) ∙ t.says
 
 module _ (c : ℕ) (s : List ℕ) (n row last next : ℕ) (t : Turn c s n row last) (l : row < n) (e : next ≡ end s (row + 1)) where
@@ -43,10 +43,10 @@ module _ (c : ℕ) (s : List ℕ) (n row last next : ℕ) (t : Turn c s n row la
   end_next : next ≡ end s (suc row)
   end_next = rw add-one at e
 
-  pub falls : next < last → Refuse (Ends c row) ≡ ends_fault c s 0 n
+  pub falls : next < last → Err (Ends c row) ≡ ends_fault c s 0 n
   falls h = sym (fall c s row (n - (row + 1)) (rw (end_next, t.ends) at h)) ∙ from
 
-  pub long : last ≤ next → max_slot < next - last → Refuse (LongSlot c row) ≡ ends_fault c s 0 n
+  pub long : last ≤ next → max_slot < next - last → Err (LongSlot c row) ≡ ends_fault c s 0 n
   long g h = sym (over c s row (n - (row + 1)) (rw (end_next, t.ends) at g) (rw (end_next, t.ends) at h)) ∙ from
 
   pub more : last ≤ next → next - last ≤ max_slot → Turn c s n (row + 1) next
@@ -60,13 +60,13 @@ module _ (c : ℕ) (s : List ℕ) (n row last next : ℕ) (t : Turn c s n row la
 -- ---- the sum of what the steps have beyond the limit
 
 -- ends that all step so pass
-pass_from : (c : ℕ) (s : List ℕ) (k i : ℕ) → ((j : ℕ) → i ≤ j → j < i + k → Step s j) → ends_fault c s i k ≡ Pass
+pass_from : (c : ℕ) (s : List ℕ) (k i : ℕ) → ((j : ℕ) → i ≤ j → j < i + k → Step s j) → ends_fault c s i k ≡ Ok tt
 pass_from c s zero i h = refl
 pass_from c s (suc k) i h =
     let t = h i (omega arith) (omega arith) in
     pass c s i k t.rises t.short ∙ pass_from c s k (suc i) (λ j p q. h j (omega arith) (omega arith))
 
-pub steps_pass : (c : ℕ) (s : List ℕ) (n : ℕ) → Steps n s → ends_fault c s 0 n ≡ Pass
+pub steps_pass : (c : ℕ) (s : List ℕ) (n : ℕ) → Steps n s → ends_fault c s 0 n ≡ Ok tt
 steps_pass c s n h = pass_from c s n 0 (λ j p q. h j (omega arith))
 
 -- at the head of a turn: a sum of 0 says that the rows so far do

@@ -40,10 +40,8 @@ fn measure_variable(part: &[u8], n: usize) -> u64
     ensures upper_bound { result ≤ max_rows * max_field }
 {
     let mut total: u64 = 0;
-    let mut row: usize = 0;
-    while row < n {
+    for row in 0..n {
         total += variable_length(part, n, row);
-        row += 1;
     }
     total
 }

@@ -5,7 +5,7 @@ use mathlib.Core.List.{List}
 use native.Mathlib.Omega.{arith}
 use lib.ListN.{length, get_or, drop}
 use Rattle.format.specs.declared.Column.{Column}
-use Rattle.format.specs.declared.Check.TheVariants.{Pass}
+use Rattle.std.specs.declared.result.Result.TheVariants.{Ok}
 use Rattle.format.specs.Lists.{Bytes, each, sum}
 use Rattle.format.specs.Sheet.{sheet_fault, place}
 use Rattle.format.specs.Schemas.{no_column}
@@ -20,7 +20,7 @@ abbrev pub facts_total : ℕ → List ℕ → List Facts → ℕ → ℕ
 facts_total n sheet facts c = column_total (get_or facts c no_facts).column n (drop (get_or facts c no_facts).base sheet)
 
 -- the facts of all columns give the total
-pub known_total : (n : ℕ) (cols : List Column) (sheet : List ℕ) (facts : List Facts) → Bytes sheet → sheet_fault n cols sheet ≡ Pass → Known n cols sheet facts
+pub known_total : (n : ℕ) (cols : List Column) (sheet : List ℕ) (facts : List Facts) → Bytes sheet → sheet_fault n cols sheet ≡ Ok tt → Known n cols sheet facts
     → sum (each 0 (length cols) (facts_total n sheet facts)) ≡ sheet_total n cols sheet
 known_total n cols sheet facts b e k =
     ap sum (each_same 0 (length cols) (facts_total n sheet facts) (λ c. column_total (get_or cols c no_column) n (drop (place n cols sheet c) sheet)) (λ c x y.

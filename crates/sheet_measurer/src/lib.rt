@@ -1,8 +1,7 @@
 // The measuring walk: the total row bytes of a checked sheet, column by column.
 #![tactic(auto)]
 
-ghost use Rattle.std.specs.Prelude.{◌≡◌, ◌≤◌};
-ghost use Rattle.format.specs.declared.Check.TheVariants.{Pass};
+ghost use Rattle.std.specs.Prelude.{◌≡◌, ◌≤◌, Ok};
 ghost use Rattle.format.specs.Limits.{max_rows};
 ghost use Rattle.format.specs.Sheet.{sheet_fault};
 ghost use Rattle.format.specs.Schemas.{cols_of, Limited};
@@ -22,19 +21,14 @@ pub fn measure_sheet(
 ) -> u64
     requires n_le_max_rows { n ≤ max_rows }
     requires limited { Limited schema }
-    requires sheet_value { sheet_fault n (cols_of schema) sheet.now ≡ Pass }
+    requires sheet_value { sheet_fault n (cols_of schema) sheet.now ≡ Ok tt }
     requires known { Known n (cols_of schema) sheet.now facts }
     ensures { result ≡ sheet_total n (cols_of schema) sheet.now }
 {
-    let count = schema.count;
     let mut total: u64 = 0;
-    let mut c: usize = 0;
-    while c < count {
-        let f = facts[c];
-        let base = f.base;
+    for f in &facts[..schema.count] {
         let column = f.column;
-        total += measure_column(column, &sheet[base..], n);
-        c += 1;
+        total += measure_column(column, &sheet[f.base..], n);
     }
     total
 }

@@ -1,5 +1,5 @@
 -- The loop of `check_sheet`: what holds at its head, and what each way out of a turn gives. Assumes nothing.
-use Prim.Native.Nat.{ℕ, suc, ◌+◌, ◌-◌, ◌*◌, ◌<◌, ◌≤◌}
+use Prim.Native.Nat.{ℕ, suc, ◌+◌, ◌*◌, ◌<◌, ◌≤◌}
 use mathlib.Core.Path.{◌≡◌, refl, sym, ap, ◌∙◌}
 use mathlib.Core.List.{List, [], ◌∷◌}
 use native.Mathlib.Numerals.{add-one}
@@ -10,7 +10,7 @@ use borrow.Author.Tests.{lt-ltb, le-ltb}
 use Rattle.format.specs.declared.Column.{Column}
 use Rattle.format.specs.declared.Refusal.{Refusal}
 use Rattle.format.specs.declared.Refusal.TheVariants.{BytesAfter}
-use Rattle.format.specs.declared.Check.TheVariants.{Pass, Refuse}
+use Rattle.std.specs.declared.result.Result.TheVariants.{Ok, Err}
 use Rattle.format.specs.Limits.{max_columns, max_rows}
 use Rattle.format.specs.Sheet.{layout, column_fault, column_bytes, column_slots, nulls_in, sheet_fault_from, sheet_fault, sheet_slots, nulls, place}
 use Rattle.format.specs.Kinds.{column_shape}
@@ -20,7 +20,7 @@ use Rattle.laws.proofs.Parts.{below_set}
 use Rattle.laws.proofs.Places.{place_next, past_column, column_stands}
 use Rattle.laws.proofs.Sheets.{column_room}
 use Rattle.sheet_reader.specs.declared.sheet.Facts.{Facts}
-use Rattle.sheet_reader.specs.declared.sheet.Sheeted.{Sheeted}
+use Rattle.format.specs.Check.{verdict}
 use Rattle.format.specs.Schemas.{no_column}
 use Rattle.sheet_reader.specs.Sheets.{no_facts, Known, SheetedAs}
 
@@ -52,13 +52,12 @@ start n cols sheet blank = record {
 
 -- ---- the ways on from the head of a turn
 
--- the refusal x is the sheet's first fault, and so it was answered
-refused : (n : ℕ) (cols : List Column) (sheet : List ℕ) (r : Sheeted) (x : Refusal) → r.check ≡ Refuse x → sheet_fault n cols sheet ≡ Refuse x
-    → SheetedAs n cols sheet r
-refused n cols sheet r x e f = record {
-  check = e ∙ sym f;
-  facts = λ p. absurd (refuse_pass (sym f ∙ p));
-  nulls = λ p. absurd (refuse_pass (sym f ∙ p));
+-- the refusal x is the sheet's first fault, and so it is answered
+refused : (n : ℕ) (cols : List Column) (sheet : List ℕ) (x : Refusal) → sheet_fault n cols sheet ≡ Err x → SheetedAs n cols sheet (Err x)
+refused n cols sheet x f = record {
+  check = sym f;
+  facts = λ s e. absurd (refuse_pass (ap verdict e));
+  nulls = λ s e. absurd (refuse_pass (ap verdict e));
 }
 
 module _ (n : ℕ) (cols : List Column) (sheet : List ℕ) (facts : List Facts) (total at c : ℕ) (t : Turn n cols sheet facts total at c) where
@@ -73,11 +72,10 @@ module _ (n : ℕ) (cols : List Column) (sheet : List ℕ) (facts : List Facts) 
     abbrev bytes : ℕ
     bytes = column_bytes (layout col) n part
 
-    pub bad : (r : Sheeted) (x : Refusal) → column_fault col.options.required (layout col) n c part ≡ Refuse x → r.check ≡ Refuse x
-        → SheetedAs n cols sheet r
-    bad r x e a = refused n cols sheet r x a (sym t.faults ∙ rw (next, e))
+    pub bad : (x : Refusal) → column_fault col.options.required (layout col) n c part ≡ Err x → SheetedAs n cols sheet (Err x)
+    bad x e = refused n cols sheet x (sym t.faults ∙ rw (next, e))
 
-    module _ (e : column_fault col.options.required (layout col) n c part ≡ Pass) where
+    module _ (e : column_fault col.options.required (layout col) n c part ≡ Ok tt) where
       -- the column ends within the sheet
       fits : bytes ≤ length part
       fits = column_room col.options.required (layout col) n c part e
@@ -115,21 +113,21 @@ module _ (n : ℕ) (cols : List Column) (sheet : List ℕ) (facts : List Facts) 
     none : drop c cols ≡ []
     none = drop_of_length-le cols {i = c} l
 
-    pub after : (r : Sheeted) → at < length sheet → r.check ≡ Refuse (BytesAfter at) → SheetedAs n cols sheet r
-    after r h a =
+    pub after : at < length sheet → SheetedAs n cols sheet (Err (BytesAfter at))
+    after h =
         let more = lt-ltb 0 (length (drop at sheet)) (omega (arith, length-drop at sheet)) in
-        refused n cols sheet r (BytesAfter at) a (sym t.faults ∙ rw (none, more))
+        refused n cols sheet (BytesAfter at) (sym t.faults ∙ rw (none, more))
 
-    pub good : (r : Sheeted) → length sheet ≤ at → r.check ≡ Pass → r.facts ≡ facts → r.nulls ≡ total → SheetedAs n cols sheet r
-    good r h a b d =
-        let p : sheet_fault n cols sheet ≡ Pass = sym t.faults ∙ rw (none, le-ltb 0 (length (drop at sheet)) (omega (arith, length-drop at sheet))) in
+    pub good : length sheet ≤ at → SheetedAs n cols sheet (Ok (record { facts = facts; nulls = total }))
+    good h =
+        let p : sheet_fault n cols sheet ≡ Ok tt = sym t.faults ∙ rw (none, le-ltb 0 (length (drop at sheet)) (omega (arith, length-drop at sheet))) in
         record {
-          check = a ∙ sym p;
-          facts = λ _ k m. rw b (known p k m);
-          nulls = λ _. d ∙ total_is;
+          check = sym p;
+          facts = λ s e k m. let q : record { facts = facts; nulls = total } ≡ s = cc in rw (← q) (known p k m);
+          nulls = λ s e. let q : record { facts = facts; nulls = total } ≡ s = cc in rw (← q) total_is;
         }
       where
-        known : sheet_fault n cols sheet ≡ Pass → Known n cols sheet facts
+        known : sheet_fault n cols sheet ≡ Ok tt → Known n cols sheet facts
         known p k m =
             let col = t.columns k (omega arith) in
             let base = t.places k (omega arith) in

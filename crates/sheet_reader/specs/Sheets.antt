@@ -1,7 +1,8 @@
 -- What is known of a sheet that was checked.
-use Rattle.std.specs.Prelude.{ℕ, ◌<◌, ◌≡◌, List, length, get_or}
+use Rattle.std.specs.Prelude.{ℕ, ◌<◌, ◌≡◌, List, length, get_or, Result, Ok}
 use Rattle.format.specs.declared.Column.{Column}
-use Rattle.format.specs.declared.Check.TheVariants.{Pass}
+use Rattle.format.specs.declared.Refusal.{Refusal}
+use Rattle.format.specs.Check.{verdict}
 use Rattle.format.specs.Sheet.{sheet_fault, sheet_slots, nulls, place}
 use Rattle.sheet_reader.specs.declared.sheet.Facts.{Facts}
 use Rattle.sheet_reader.specs.declared.sheet.Sheeted.{Sheeted}
@@ -23,7 +24,7 @@ abbrev pub Known : ℕ → List Column → List ℕ → List Facts → Type 0
 Known n cols sheet facts = (c : ℕ) → c < length cols → FactsOf n cols sheet c (get_or facts c no_facts)
 
 -- what checking a sheet says: its first fault, and if it has none the facts of its columns and the null total
-pub record SheetedAs (n : ℕ) (cols : List Column) (sheet : List ℕ) (r : Sheeted) : Type 0 where
-  pub check : r.check ≡ sheet_fault n cols sheet
-  pub facts : sheet_fault n cols sheet ≡ Pass → Known n cols sheet r.facts
-  pub nulls : sheet_fault n cols sheet ≡ Pass → r.nulls ≡ nulls (sheet_slots n cols sheet)
+pub record SheetedAs (n : ℕ) (cols : List Column) (sheet : List ℕ) (r : Result Sheeted Refusal) : Type 0 where
+  pub check : verdict r ≡ sheet_fault n cols sheet
+  pub facts : (s : Sheeted) → r ≡ Ok s → Known n cols sheet s.facts
+  pub nulls : (s : Sheeted) → r ≡ Ok s → s.nulls ≡ nulls (sheet_slots n cols sheet)

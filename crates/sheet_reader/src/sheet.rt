@@ -6,7 +6,7 @@ ghost use Rattle.format.specs.Schemas.{cols_of, Limited};
 ghost use Rattle.sheet_reader.specs.Sheets.{SheetedAs};
 
 use column_facts::no_column;
-use format::{Check, Column, Refusal, Schema};
+use format::{Column, Refusal, Schema};
 use sheet_columns::{check_column, column_bytes, null_rows};
 
 // What is known of a checked column: what it is, and where it stands in the sheet.
@@ -16,27 +16,15 @@ pub struct Facts {
     pub base: usize,
 }
 
-// What a sheet says: its first fault, and of one that has none the facts of each column and the null total.
+// What is known of a sheet that passes: the facts of each column and the null total.
 #[derive(Clone, Copy)]
 pub struct Sheeted {
-    pub check: Check,
     pub facts: [Facts; format::MAX_COLUMNS],
     pub nulls: u64,
 }
 
-// What was found, with the answer to it.
-fn found(check: Check, facts: [Facts; format::MAX_COLUMNS], nulls: u64) -> Sheeted
-    ensures { (result.check ≡ check) × (result.facts ≡ facts) × (result.nulls ≡ nulls) }
-{
-    Sheeted {
-        check: check,
-        facts: facts,
-        nulls: nulls,
-    }
-}
-
 // The sheet, column by column, and at the end 11.
-pub fn check_sheet(schema: Schema, n: usize, sheet: &[u8]) -> Sheeted
+pub fn check_sheet(schema: Schema, n: usize, sheet: &[u8]) -> Result<Sheeted, Refusal>
     requires n_le_max_rows { n ≤ max_rows }
     requires limited { Limited schema }
     ensures { SheetedAs n (cols_of schema) sheet.now result }
@@ -51,15 +39,11 @@ pub fn check_sheet(schema: Schema, n: usize, sheet: &[u8]) -> Sheeted
     let mut facts = [blank; format::MAX_COLUMNS];
     let mut nulls: u64 = 0;
     let mut at: usize = 0;
-    let mut c: usize = 0;
-    while c < count {
+    for c in 0..count {
         let column = columns[c];
         let kind = column.kind;
         let part = &sheet[at..];
-        let check = check_column(column, part, n, c);
-        if let Check::Refuse(r) = check {
-            return found(Check::Refuse(r), facts, 0);
-        }
+        check_column(column, part, n, c)?;
         let next = at + column_bytes(kind, part, n);
         facts[c] = Facts {
             column: column,
@@ -67,10 +51,9 @@ pub fn check_sheet(schema: Schema, n: usize, sheet: &[u8]) -> Sheeted
         };
         nulls += null_rows(part, n);
         at = next;
-        c += 1;
     }
     if at < sheet.len() {
-        return found(Check::Refuse(Refusal::BytesAfter(at)), facts, 0);
+        return Err(Refusal::BytesAfter(at));
     }
-    found(Check::Pass, facts, nulls)
+    Ok(Sheeted { facts, nulls })
 }

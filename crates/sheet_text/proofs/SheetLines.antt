@@ -5,15 +5,13 @@ use mathlib.Core.List.{List, ◌++◌}
 use native.Mathlib.Omega.{arith}
 use lib.ListN.{length, drop, replicate, length-replicate}
 use Rattle.format.specs.declared.Refusal.{Refusal}
-use Rattle.format.specs.declared.Check.{Check}
-use Rattle.format.specs.declared.Check.TheVariants.{Pass, Refuse}
-use Rattle.format.specs.declared.Answer.{Answer}
-use Rattle.format.specs.declared.Answer.TheVariants.{Done, Refused}
+use Rattle.format.specs.Check.{Check}
+use Rattle.std.specs.declared.result.Result.TheVariants.{Ok, Err}
+use Rattle.format.specs.Numbers.{Answer, refusal_numbers}
 use Rattle.format.specs.Limits.{max_rows}
 use Rattle.format.specs.Lists.{joined, ends_from}
 use Rattle.format.specs.Described.{ColumnList, columns}
 use Rattle.format.specs.Sheet.{sheet_slots}
-use Rattle.format.specs.Numbers.{refusal_numbers}
 use Rattle.format.specs.Entries.{answer, sheet_rows, sheet_total, measure_check, encode_check, encode_answer, cut_rows}
 use Rattle.format.specs.Promises.{Encoded}
 use Rattle.format.specs.Program.{row_room, offset_room, hex_lines, refused_line, lines}
@@ -28,7 +26,7 @@ use Rattle.texts.proofs.Refused.{refused_short}
 use Rattle.sheet_text.specs.SheetText.{text_room, sheet_text}
 
 -- one that passes has few rows, and few bytes in them
-rows_few : (list : ColumnList) (n : ℕ) (sheet : List ℕ) (k m : ℕ) → encode_check list n sheet k m ≡ Pass
+rows_few : (list : ColumnList) (n : ℕ) (sheet : List ℕ) (k m : ℕ) → encode_check list n sheet k m ≡ Ok tt
     → (n ≤ max_rows) × (sheet_total n (columns list) sheet ≤ k)
 unfolding encode_check
 rows_few list n sheet k m e = (
@@ -40,14 +38,14 @@ pub sheet_short : (list : ColumnList) (n : ℕ) (sheet : List ℕ) → length (s
 sheet_short list n sheet = by_check (encode_check list n sheet row_room offset_room) refl
   where
     by_check : (k : Check) → encode_check list n sheet row_room offset_room ≡ k → length (lines k (sheet_rows n (columns list) sheet)) ≤ text_room
-    by_check Pass e =
+    by_check (Ok tt) e =
         let f = rows_few list n sheet row_room offset_room e in
         omega (arith, length_lines (sheet_rows n (columns list) sheet), rows_many n (columns list) (sheet_slots n (columns list) sheet), f.0, f.1)
-    by_check (Refuse x) e = omega (arith, refused_short (refusal_numbers x))
+    by_check (Err x) e = omega (arith, refused_short (refusal_numbers x))
 
-lines_refused : (k : Check) (a b : ℕ) (rows : List (List ℕ)) (x : Refusal) → answer k a b ≡ Refused x → lines k rows ≡ refused_line (refusal_numbers x)
-lines_refused Pass a b rows x e = absurd (let z : ◌≡◌ {A = ℕ} 0 1 = cc in omega arith)
-lines_refused (Refuse y) a b rows x e = ap (λ (z : Refusal). refused_line (refusal_numbers z)) {x = y} {y = x} (cc)
+lines_refused : (k : Check) (a b : ℕ) (rows : List (List ℕ)) (x : Refusal) → answer k a b ≡ Err x → lines k rows ≡ refused_line (refusal_numbers x)
+lines_refused (Ok tt) a b rows x e = absurd (let z : ◌≡◌ {A = ℕ} 0 1 = cc in omega arith)
+lines_refused (Err y) a b rows x e = ap (λ (z : Refusal). refused_line (refusal_numbers z)) {x = y} {y = x} (cc)
 
 -- as encode answers it, and leaves the buffers that were zeros
 abbrev rows : List ℕ
@@ -70,15 +68,15 @@ module _ (list : ColumnList) (n : ℕ) (sheet : List ℕ) (given : Answer) (rows
   told : given ≡ encode_answer list n sheet row_room offset_room
   told = answers ∙ ap₂ (encode_answer list n sheet) rows_long offsets_long
 
-  pub refused_text : (x : Refusal) → given ≡ Refused x → refused_line (refusal_numbers x) ≡ sheet_text list n sheet
+  pub refused_text : (x : Refusal) → given ≡ Err x → refused_line (refusal_numbers x) ≡ sheet_text list n sheet
   unfolding encode_answer
   refused_text x e = sym (lines_refused (encode_check list n sheet row_room offset_room) _ _ (sheet_rows n (columns list) sheet) x (sym told ∙ e))
 
-  module _ (x y : ℕ) (e : given ≡ Done x y) where
+  module _ (x y : ℕ) (e : given ≡ Ok (x, y)) where
     abbrev encodedRows : List (List ℕ)
     encodedRows = sheet_rows n (columns list) sheet
 
-    passes : encode_check list n sheet (length rows) (length offsets) ≡ Pass
+    passes : encode_check list n sheet (length rows) (length offsets) ≡ Ok tt
     passes = (encode_done list n sheet (length rows) (length offsets) x y (sym answers ∙ e)).0
 
     many : length encodedRows ≡ n

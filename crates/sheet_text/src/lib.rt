@@ -6,7 +6,6 @@ ghost use Rattle.basics.specs.Wrote.{Wrote};
 ghost use Rattle.format.specs.Described.{spelled};
 ghost use Rattle.sheet_text.specs.SheetText.{text_room, sheet_text};
 
-use format::Answer;
 use texts::{put_refused, put_rows};
 
 // The row buffer.
@@ -20,7 +19,8 @@ pub fn print_sheet(list: &[u8], n: u64, sheet: &[u8], out: &mut [u8]) -> usize
     let mut rows = [0u8; ROW_ROOM];
     let mut offsets = [0u64; format::MAX_OFFSETS];
     let answer = station::encode::encode(list, n, sheet, &mut rows, &mut offsets);
-    if let Answer::Refused(r) = answer {
+    // No `?`: a refusal is printed here.
+    if let Err(r) = answer {
         return put_refused(r, out);
     }
     put_rows(&rows, &offsets, n as usize, out)

@@ -7,8 +7,8 @@ use mathlib.Core.List.{List, [], ◌∷◌, ◌++◌, map, map-map, tail, append
 use native.Mathlib.Numerals.{add-one}
 use native.Mathlib.Omega.{arith}
 use lib.ListN.{length, get_or, take, drop, take-append-drop, drop_of_length-le, length-drop, length-map}
-use lib.Seq.{take_at, drop-drop, length-take-le, get_or-take}
-use Rattle.format.specs.declared.Check.TheVariants.{Pass}
+use lib.Seq.{drop-drop, length-take-le, get_or-take}
+use Rattle.std.specs.declared.result.Result.TheVariants.{Ok}
 use Rattle.format.specs.declared.Column.{Column}
 use Rattle.format.specs.Lists.{Bytes, each}
 use Rattle.format.specs.Kinds.{Slot, column_shape}
@@ -118,7 +118,7 @@ row_before (col ∷ cols) (y ∷ ys) t h b =
 
 module _ (cols : List Column) (rows offsets : List ℕ) (b : Bytes rows) where
   -- a row that passes, from its offset on
-  row_stands : (r : ℕ) → row_fault r (length (row_bytes rows offsets r)) 0 cols (row_bytes rows offsets r) ≡ Pass
+  row_stands : (r : ℕ) → row_fault r (length (row_bytes rows offsets r)) 0 cols (row_bytes rows offsets r) ≡ Ok tt
       → Fields cols (drop (get_or offsets r 0) rows) × (slots_from cols rows (get_or offsets r 0) ≡ row_slots cols (row_bytes rows offsets r))
   row_stands r e =
       let s : List ℕ = drop (get_or offsets r 0) rows in
@@ -129,7 +129,7 @@ module _ (cols : List Column) (rows offsets : List ℕ) (b : Bytes rows) where
       let t = row_before cols (row_slots cols (take m s)) (drop m s) p.1 (bytes_drop m s bs) in
       (subst (Fields cols) q t.0, ap (row_slots cols) (sym q) ∙ t.1)
 
-  rows_stand : (i k : ℕ) → rows_fault i cols (each i k (row_bytes rows offsets)) ≡ Pass
+  rows_stand : (i k : ℕ) → rows_fault i cols (each i k (row_bytes rows offsets)) ≡ Ok tt
       → Every (λ p. Fields cols (drop p rows)) (each i k (λ r. get_or offsets r 0))
       × (map (slots_from cols rows) (each i k (λ r. get_or offsets r 0)) ≡ map (row_slots cols) (each i k (row_bytes rows offsets)))
   rows_stand i zero e = (tt, refl)
@@ -139,7 +139,7 @@ module _ (cols : List Column) (rows offsets : List ℕ) (b : Bytes rows) where
       let later = rows_stand (suc i) k p.1 in
       ((now.0, later.0), ap₂ {C = List (List Slot)} (λ x y. x ∷ y) now.1 later.1)
 
-  module _ (n : ℕ) (there : n ≤ length offsets) (passes : rows_fault 0 cols (cut_rows n rows offsets) ≡ Pass) where
+  module _ (n : ℕ) (there : n ≤ length offsets) (passes : rows_fault 0 cols (cut_rows n rows offsets) ≡ Ok tt) where
     firsts_are : each 0 n (λ r. get_or offsets r 0) ≡ take n offsets
     firsts_are = each_is (take n offsets) 0 n (λ r. get_or offsets r 0) (length-take-le n offsets there) (λ i l. sym (get_or-take n offsets i 0 l))
 
@@ -152,17 +152,6 @@ module _ (cols : List Column) (rows offsets : List ℕ) (b : Bytes rows) where
     -- and the slots to come are all
     pub start_slots : slots_to_come cols rows (take n offsets) ≡ rows_slots cols (cut_rows n rows offsets)
     start_slots = ap (turned (length cols)) (ap (map (slots_from cols rows)) (sym firsts_are) ∙ (rows_stand 0 n passes).1)
-
--- the front of an array xs, stored and lent again, is what was stored
-module _ (n : ℕ) (xs v offsets : List ℕ) (room : n ≤ length xs) (there : n ≤ length offsets) (e : v ≡ take (length (take n xs)) offsets) where
-  stored : v ≡ take n offsets
-  stored = e ∙ ap (λ (m : ℕ). take m offsets) (length-take-le n xs room)
-
-  pub front_long : length v ≡ n
-  front_long = ap length stored ∙ length-take-le n offsets there
-
-  pub front_is : take n (v ++ drop n xs) ≡ take n offsets
-  front_is = take_at v (drop n xs) n front_long ∙ stored
 
 -- ---- the walk over the columns
 

@@ -1,6 +1,5 @@
 -- The columns of a sheet, written from the fields at the cursors.
-use Rattle.std.specs.Prelude.{ℕ, ◌<◌, ◌≤◌, ◌≡◌, List, [], ◌∷◌, map, length, get_or, drop}
-use Rattle.format.specs.declared.Check.TheVariants.{Pass}
+use Rattle.std.specs.Prelude.{ℕ, ◌<◌, ◌≤◌, ◌≡◌, List, [], ◌∷◌, map, length, get_or, drop, Ok}
 use Rattle.format.specs.declared.Column.{Column}
 use Rattle.format.specs.declared.Schema.{Schema}
 use Rattle.format.specs.Limits.{max_rows}
@@ -44,8 +43,8 @@ pub record Writable (schema : Schema) (rows cursors sheet : List ℕ) : Type 0 w
 pub record Decodable (schema : Schema) (n : ℕ) (rows offsets sheet : List ℕ) : Type 0 where
   pub few : n ≤ max_rows
   pub limited : Limited schema
-  pub cuts : offsets_fault n rows offsets ≡ Pass
-  pub passes : rows_fault 0 (cols_of schema) (cut_rows n rows offsets) ≡ Pass
+  pub cuts : offsets_fault n rows offsets ≡ Ok tt
+  pub passes : rows_fault 0 (cols_of schema) (cut_rows n rows offsets) ≡ Ok tt
   pub room : length (decoded_sheet n (cols_of schema) (cut_rows n rows offsets)) ≤ length sheet
 
 -- the cleared sheet of n rows of slots is written in front; its bytes and its null slots are returned

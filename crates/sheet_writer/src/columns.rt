@@ -11,7 +11,8 @@ use crate::Written;
 use bits::count_ones;
 use end_mover::move_ended;
 use flag_packer::{Flag, pack};
-use format::{Column, Kind, MAX_ROWS, Schema};
+use format::{Column, Kind, Schema};
+use local_numbers::with_numbers;
 use value_mover::{advance, move_wide};
 
 // The values of a column, by their layout, and its cursors past the fields.
@@ -28,20 +29,14 @@ fn write_values(
     ensures wrote { Wrote (values_at column rows.now cursors.old) at sheet.old sheet.new result }
     ensures cursors_after { cursors.new ≡ nexts_at column rows.now cursors.old }
 {
-    let kind = column.kind;
-    let options = column.options;
-    match kind {
+    match column.kind {
         Kind::Bool => {
             let end = pack(rows, cursors, column, Flag::True, sheet, at);
             advance(cursors, 2);
-            return end;
+            end
         }
-        Kind::Variable => {
-            return move_ended(rows, cursors, options, sheet, at);
-        }
-        _ => {
-            return move_wide(rows, cursors, column, sheet, at);
-        }
+        Kind::Variable => move_ended(rows, cursors, column.options, sheet, at),
+        _ => move_wide(rows, cursors, column, sheet, at),
     }
 }
 
@@ -51,18 +46,14 @@ fn write_columns(schema: Schema, rows: &[u8], cursors: &mut [usize], sheet: &mut
     ensures { Clears (length cursors.old) (cols_of schema) (slots_to_come (cols_of schema) rows.now cursors.old)
         sheet.old sheet.new result }
 {
-    let count = schema.count;
-    let columns = schema.columns;
     let n = cursors.len();
     let mut nulls: u64 = 0;
     let mut at = 0;
-    let mut c = 0;
-    while c < count {
-        let column = columns[c];
+    for c in 0..schema.count {
+        let column = schema.columns[c];
         let values = pack(rows, cursors, column, Flag::Valid, sheet, at);
         nulls += (n - count_ones(&sheet[at..values])) as u64;
         at = write_values(rows, cursors, column, sheet, values);
-        c += 1;
     }
     Written { bytes: at, nulls }
 }
@@ -72,14 +63,12 @@ fn start(offsets: &[u64], cursors: &mut [usize])
     requires { length cursors.old ≤ length offsets.now }
     ensures { cursors.new ≡ take (length cursors.old) offsets.now }
 {
-    let mut r = 0;
-    while r < cursors.len() {
-        cursors[r] = offsets[r] as usize;
-        r += 1;
+    for (r, cursor) in cursors.iter_mut().enumerate() {
+        *cursor = offsets[r] as usize;
     }
 }
 
-// The cleared sheet of n rows that passed the checks, written in front of the lent sheet, with the cursors that are lent.
+// The cleared sheet of n rows that passed the checks, written in front of the lent sheet, with a cursor for each of them.
 fn write_rows(
     schema: Schema,
     n: usize,
@@ -88,96 +77,16 @@ fn write_rows(
     cursors: &mut [usize],
     sheet: &mut [u8],
 ) -> Written
-    requires n_in_bounds { n ≤ length cursors.old }
+    requires cursors_len { length cursors.old ≡ n }
     requires decodable { Decodable schema n rows.now offsets.now sheet.old }
     ensures { Clears n (cols_of schema) (rows_slots (cols_of schema) (cut_rows n rows.now offsets.now))
         sheet.old sheet.new result }
 {
-    start(offsets, &mut cursors[..n]);
-    write_columns(schema, rows, &mut cursors[..n], sheet)
+    start(offsets, cursors);
+    write_columns(schema, rows, cursors, sheet)
 }
 
-// The same in an array of 8 cursors.
-fn write_8(schema: Schema, n: usize, rows: &[u8], offsets: &[u64], sheet: &mut [u8]) -> Written
-    requires n_bound { n ≤ 8 }
-    requires decodable { Decodable schema n rows.now offsets.now sheet.old }
-    ensures { Clears n (cols_of schema) (rows_slots (cols_of schema) (cut_rows n rows.now offsets.now))
-        sheet.old sheet.new result }
-{
-    let mut cursors = [0usize; 8];
-    write_rows(schema, n, rows, offsets, &mut cursors, sheet)
-}
-
-// The same in an array of 32 cursors.
-fn write_32(schema: Schema, n: usize, rows: &[u8], offsets: &[u64], sheet: &mut [u8]) -> Written
-    requires n_bound { n ≤ 32 }
-    requires decodable { Decodable schema n rows.now offsets.now sheet.old }
-    ensures { Clears n (cols_of schema) (rows_slots (cols_of schema) (cut_rows n rows.now offsets.now))
-        sheet.old sheet.new result }
-{
-    let mut cursors = [0usize; 32];
-    write_rows(schema, n, rows, offsets, &mut cursors, sheet)
-}
-
-// The same in an array of 64 cursors.
-fn write_64(schema: Schema, n: usize, rows: &[u8], offsets: &[u64], sheet: &mut [u8]) -> Written
-    requires n_bound { n ≤ 64 }
-    requires decodable { Decodable schema n rows.now offsets.now sheet.old }
-    ensures { Clears n (cols_of schema) (rows_slots (cols_of schema) (cut_rows n rows.now offsets.now))
-        sheet.old sheet.new result }
-{
-    let mut cursors = [0usize; 64];
-    write_rows(schema, n, rows, offsets, &mut cursors, sheet)
-}
-
-// The same in an array of 128 cursors.
-fn write_128(schema: Schema, n: usize, rows: &[u8], offsets: &[u64], sheet: &mut [u8]) -> Written
-    requires n_bound { n ≤ 128 }
-    requires decodable { Decodable schema n rows.now offsets.now sheet.old }
-    ensures { Clears n (cols_of schema) (rows_slots (cols_of schema) (cut_rows n rows.now offsets.now))
-        sheet.old sheet.new result }
-{
-    let mut cursors = [0usize; 128];
-    write_rows(schema, n, rows, offsets, &mut cursors, sheet)
-}
-
-// The same in an array of 512 cursors.
-fn write_512(schema: Schema, n: usize, rows: &[u8], offsets: &[u64], sheet: &mut [u8]) -> Written
-    requires n_bound { n ≤ 512 }
-    requires decodable { Decodable schema n rows.now offsets.now sheet.old }
-    ensures { Clears n (cols_of schema) (rows_slots (cols_of schema) (cut_rows n rows.now offsets.now))
-        sheet.old sheet.new result }
-{
-    let mut cursors = [0usize; 512];
-    write_rows(schema, n, rows, offsets, &mut cursors, sheet)
-}
-
-// The same in an array of 2,048 cursors, which stays out of the caller's frame.
-#[inline(never)]
-fn write_2048(schema: Schema, n: usize, rows: &[u8], offsets: &[u64], sheet: &mut [u8]) -> Written
-    requires n_bound { n ≤ 2048 }
-    requires decodable { Decodable schema n rows.now offsets.now sheet.old }
-    ensures { Clears n (cols_of schema) (rows_slots (cols_of schema) (cut_rows n rows.now offsets.now))
-        sheet.old sheet.new result }
-{
-    let mut cursors = [0usize; 2048];
-    write_rows(schema, n, rows, offsets, &mut cursors, sheet)
-}
-
-// The same in an array of 4,096 cursors, likewise.
-#[inline(never)]
-fn write_4096(schema: Schema, n: usize, rows: &[u8], offsets: &[u64], sheet: &mut [u8]) -> Written
-    requires n_le_max_rows { n ≤ max_rows }
-    requires decodable { Decodable schema n rows.now offsets.now sheet.old }
-    ensures { Clears n (cols_of schema) (rows_slots (cols_of schema) (cut_rows n rows.now offsets.now))
-        sheet.old sheet.new result }
-{
-    let mut cursors = [0usize; MAX_ROWS as usize];
-    write_rows(schema, n, rows, offsets, &mut cursors, sheet)
-}
-
-// The same with the smallest array of cursors that will do: each size has a function of its own, so that a call clears no more. Six tests stand
-// before the arrays of more than 512, so that the optimiser takes these calls for rare and leaves the arrays out of the caller's frame.
+// The same with local cursors.
 pub fn write_sheet(
     schema: Schema,
     n: usize,
@@ -189,23 +98,8 @@ pub fn write_sheet(
     ensures { Clears n (cols_of schema) (rows_slots (cols_of schema) (cut_rows n rows.now offsets.now))
         sheet.old sheet.new result }
 {
-    if n <= 8 {
-        return write_8(schema, n, rows, offsets, sheet);
-    }
-    if n <= 32 {
-        return write_32(schema, n, rows, offsets, sheet);
-    }
-    if n <= 64 {
-        return write_64(schema, n, rows, offsets, sheet);
-    }
-    if n <= 128 {
-        return write_128(schema, n, rows, offsets, sheet);
-    }
-    if n <= 512 {
-        return write_512(schema, n, rows, offsets, sheet);
-    }
-    if n <= 2048 {
-        return write_2048(schema, n, rows, offsets, sheet);
-    }
-    write_4096(schema, n, rows, offsets, sheet)
+    with_numbers(
+        n,
+        &mut |cursors| write_rows(schema, n, rows, offsets, cursors, sheet),
+    )
 }

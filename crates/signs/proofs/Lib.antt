@@ -1,3 +1,3 @@
--- Laws of keys and of signed numbers, over the width.
+-- Laws of keys, of the top bit and of the bits below it, over the count of bytes.
 pub mod Keys
 pub mod Signed

@@ -10,14 +10,11 @@ use lib.ListN.{length, drop_of_length-le}
 use borrow.Author.Tests.{lt-ltb, le-ltb}
 use Rattle.format.specs.declared.Refusal.{Refusal}
 use Rattle.format.specs.declared.Refusal.TheVariants.{ManyRows, OffsetRoom}
-use Rattle.format.specs.declared.Check.{Check}
-use Rattle.format.specs.declared.Check.TheVariants.{Pass, Refuse}
-use Rattle.format.specs.declared.Answer.{Answer}
-use Rattle.format.specs.declared.Answer.TheVariants.{Done, Refused}
+use Rattle.format.specs.Check.{Check, both, fail_if}
+use Rattle.std.specs.declared.result.Result.TheVariants.{Ok, Err}
+use Rattle.format.specs.Numbers.{Answer, numbers_of}
 use Rattle.format.specs.Limits.{max_rows}
-use Rattle.format.specs.Check.{both, fail_if}
 use Rattle.format.specs.Lists.{Bytes, over}
-use Rattle.format.specs.Numbers.{numbers_of}
 use Rattle.format.specs.Entries.{answer, written, row_count_fault, row_bytes, cut_rows}
 use Rattle.format.specs.Batch.{pass_fault}
 use Rattle.format.specs.Join.{join_order, join_check, join_answer, join_list}
@@ -54,14 +51,14 @@ module _ (n₀ : ℕ) (rows₀ offsets₀ : List ℕ) (n₁ : ℕ) (rows₁ offs
   new = join_order (cut_rows n₀ rows₀ offsets₀) (cut_rows n₁ rows₁ offsets₁)
 
   -- a refusal stores nothing
-  pub no_entries : (x : Refusal) → r ≡ Refused x → JoinedBytes n₀ rows₀ offsets₀ n₁ rows₁ offsets₁ order (length list) r order
+  pub no_entries : (x : Refusal) → r ≡ Err x → JoinedBytes n₀ rows₀ offsets₀ n₁ rows₁ offsets₁ order (length list) r order
   unfolding join_answer
   no_entries x e =
       let refuses = answer_refused (join_check n₀ rows₀ offsets₀ n₁ rows₁ offsets₁ (length list)) _ _ x (sym (numbers_injective _ _ h.answers) ∙ e) in
       record { answers = h.answers; entries = rw refuses }
 
   -- a success stores the order: there is room for no more entries
-  pub entries_stored : (x y : ℕ) → r ≡ Done x y → length list ≤ n₀ + n₁ → (order' : List ℕ) → order' ≡ over (eight_bytes list') order
+  pub entries_stored : (x y : ℕ) → r ≡ Ok (x, y) → length list ≤ n₀ + n₁ → (order' : List ℕ) → order' ≡ over (eight_bytes list') order
       → JoinedBytes n₀ rows₀ offsets₀ n₁ rows₁ offsets₁ order (length list) r order'
   unfolding join_answer join_list
   entries_stored x y e most order' w =
@@ -90,19 +87,19 @@ pass_enough p n bytes bs k u =
     rw (offsets_fault_lem n bytes (first_eights k bs) (eights bs) a, cuts n bytes (first_eights k bs) (eights bs) a))
     (λ h. rw (lt-ltb max_rows n h)) (le_or_lt n max_rows)
 
-pass_few : (p n : ℕ) (bytes offsets : List ℕ) → pass_fault p n bytes offsets ≡ Pass → n ≤ max_rows
+pass_few : (p n : ℕ) (bytes offsets : List ℕ) → pass_fault p n bytes offsets ≡ Ok tt → n ≤ max_rows
 unfolding pass_fault
-pass_few p n bytes offsets e = (enough max_rows n (ManyRows n) Pass (both_pass (row_count_fault n) _ e).0).0
+pass_few p n bytes offsets e = (enough max_rows n (ManyRows n) (Ok tt) (both_pass (row_count_fault n) _ e).0).0
 
 -- what follows a refusal does not count
-both_same : (x y a b : Check) → (x ≡ Pass → y ≡ Pass → a ≡ b) → both x (both y a) ≡ both x (both y b)
-both_same Pass Pass a b h = h refl refl
-both_same Pass (Refuse s) a b h = refl
-both_same (Refuse r) y a b h = refl
+both_same : (x y a b : Check) → (x ≡ Ok tt → y ≡ Ok tt → a ≡ b) → both x (both y a) ≡ both x (both y b)
+both_same (Ok _) (Ok _) a b h = h refl refl
+both_same (Ok tt) (Err s) a b h = refl
+both_same (Err r) y a b h = refl
 
-written_same : (x : Check) (new new' old : List ℕ) → (x ≡ Pass → new ≡ new') → written x new old ≡ written x new' old
-written_same Pass new new' old h = ap (λ (z : List ℕ). over z old) (h refl)
-written_same (Refuse r) new new' old h = refl
+written_same : (x : Check) (new new' old : List ℕ) → (x ≡ Ok tt → new ≡ new') → written x new old ≡ written x new' old
+written_same (Ok tt) _ _ old h = ap (λ (z : List ℕ). over z old) (h refl)
+written_same (Err r) _ _ old h = refl
 
 -- k entries reach the last row just where all do
 reach : (n₀ n₁ room k : ℕ) → UsedEntries n₀ n₁ room k → n₀ ≤ max_rows → n₁ ≤ max_rows → ltb k (n₀ + n₁) ≡ ltb room (n₀ + n₁)
@@ -119,12 +116,12 @@ module _ (n₀ : ℕ) (rows₀ bs₀ : List ℕ) (k₀ : ℕ) (u₀ : Used n₀ 
   allCheck room = join_check n₀ rows₀ (eights bs₀) n₁ rows₁ (eights bs₁) room
 
   -- what is known of a join that is not refused
-  passed : (room : ℕ) → allCheck room ≡ Pass → (n₀ ≤ max_rows) × (n₁ ≤ max_rows) × (n₀ + n₁ ≤ room)
+  passed : (room : ℕ) → allCheck room ≡ Ok tt → (n₀ ≤ max_rows) × (n₁ ≤ max_rows) × (n₀ + n₁ ≤ room)
   unfolding join_check
   passed room e =
       let p = both_pass (pass_fault 0 n₀ rows₀ (eights bs₀)) _ e in
       let q = both_pass (pass_fault 1 n₁ rows₁ (eights bs₁)) _ p.1 in
-      (pass_few 0 n₀ rows₀ (eights bs₀) p.0, pass_few 1 n₁ rows₁ (eights bs₁) q.0, (enough room (n₀ + n₁) (OffsetRoom (n₀ + n₁)) Pass q.1).0)
+      (pass_few 0 n₀ rows₀ (eights bs₀) p.0, pass_few 1 n₁ rows₁ (eights bs₁) q.0, (enough room (n₀ + n₁) (OffsetRoom (n₀ + n₁)) (Ok tt) q.1).0)
 
   module _ (room k : ℕ) (u : UsedEntries n₀ n₁ room k) where
     check_enough : fewCheck k ≡ allCheck room
@@ -133,7 +130,7 @@ module _ (n₀ : ℕ) (rows₀ bs₀ : List ℕ) (k₀ : ℕ) (u₀ : Used n₀ 
         rw (pass_enough 0 n₀ rows₀ bs₀ k₀ u₀, pass_enough 1 n₁ rows₁ bs₁ k₁ u₁)
         (both_same (pass_fault 0 n₀ rows₀ (eights bs₀)) (pass_fault 1 n₁ rows₁ (eights bs₁)) _ _
         (λ e f.
-        ap (λ (t : Bool). fail_if t (OffsetRoom (n₀ + n₁)) Pass)
+        ap (λ (t : Bool). fail_if t (OffsetRoom (n₀ + n₁)) (Ok tt))
         (reach n₀ n₁ room k u (pass_few 0 n₀ rows₀ (eights bs₀) e) (pass_few 1 n₁ rows₁ (eights bs₁) f))))
 
     answer_enough : join_answer n₀ rows₀ (first_eights k₀ bs₀) n₁ rows₁ (first_eights k₁ bs₁) k ≡ join_answer n₀ rows₀ (eights bs₀) n₁ rows₁ (eights bs₁) room

@@ -1,7 +1,6 @@
 -- Join on lent bytes, of which a call uses the first few only.
 use Rattle.std.specs.Prelude.{ℕ, ◌+◌, ◌*◌, ◌/◌, ◌≤◌, ◌≡◌, List, length}
-use Rattle.format.specs.declared.Answer.{Answer}
-use Rattle.format.specs.Numbers.{numbers_of}
+use Rattle.format.specs.Numbers.{Answer, numbers_of}
 use Rattle.format.specs.Entries.{written, cut_rows}
 use Rattle.format.specs.Join.{join_order, join_check, join_answer}
 use Rattle.format.specs.Lent.{eight_bytes, answer_room}

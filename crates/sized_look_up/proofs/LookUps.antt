@@ -5,12 +5,11 @@ use mathlib.Core.Logic.{⊎_elim}
 use mathlib.Core.List.{List}
 use lib.ListN.{length, take}
 use borrow.Author.Tests.{lt-ltb}
-use Rattle.format.specs.declared.Answer.{Answer}
-use Rattle.format.specs.declared.Check.{Check}
-use Rattle.format.specs.declared.Check.TheVariants.{Pass, Refuse}
+use Rattle.format.specs.Numbers.{Answer, numbers_of}
+use Rattle.format.specs.Check.{Check}
+use Rattle.std.specs.declared.result.Result.TheVariants.{Ok, Err}
 use Rattle.format.specs.Limits.{max_rows}
 use Rattle.format.specs.Described.{ColumnList, list_fault, columns}
-use Rattle.format.specs.Numbers.{numbers_of}
 use Rattle.format.specs.Read.{row_fault}
 use Rattle.format.specs.Entries.{answer}
 use Rattle.format.specs.Batch.{sorted_fault}
@@ -24,9 +23,9 @@ use Rattle.lent_calls.proofs.Enough.{le_or_lt, agree, offsets_fault_lem, cuts}
 use Rattle.lent_calls.proofs.Entries.{short_answer, long_answer}
 
 -- the numbers of a success do not count in a refusal
-refused_answer : (c : Check) (a b a' b' : ℕ) → (c ≡ Pass → ⊥) → answer c a b ≡ answer c a' b'
-refused_answer Pass a b a' b' f = absurd (f refl)
-refused_answer (Refuse r) a b a' b' f = refl
+refused_answer : (c : Check) (a b a' b' : ℕ) → (c ≡ Ok tt → ⊥) → answer c a b ≡ answer c a' b'
+refused_answer (Ok tt) a b a' b' f = absurd (f refl)
+refused_answer (Err r) a b a' b' f = refl
 
 module _ (list : ColumnList) (k : ℕ) (key : List ℕ) (n : ℕ) (bytes bs : List ℕ) (used : ℕ) (u : Used n (length bs / 8) used) where
   abbrev few : List ℕ
@@ -42,7 +41,7 @@ module _ (list : ColumnList) (k : ℕ) (key : List ℕ) (n : ℕ) (bytes bs : Li
       (λ h. rw (lt-ltb max_rows n h)) (le_or_lt n max_rows)
 
   -- over 4,096 rows are refused, whatever the offsets are
-  many : max_rows < n → (os : List ℕ) → lookup_check list k key n bytes os ≡ Pass → ⊥
+  many : max_rows < n → (os : List ℕ) → lookup_check list k key n bytes os ≡ Ok tt → ⊥
   unfolding lookup_check sorted_fault
   many h os e =
       let a = both_pass (list_fault list) _ e in
@@ -56,25 +55,20 @@ module _ (list : ColumnList) (k : ℕ) (key : List ℕ) (n : ℕ) (bytes bs : Li
       ⊎_elim (λ h. rw (check, cuts n bytes few all (agree bs n (length bs / 8) used u h)))
       (λ h. rw check (refused_answer (lookup_check list k key n bytes all) _ _ _ _ (many h all))) (le_or_lt n max_rows)
 
--- ---- look-up with the offsets that were read
-pub bytes_looked_up : (list : ColumnList) (k : ℕ) (key : List ℕ) (n : ℕ) (rows offsets : List ℕ) (used : ℕ) (os : List ℕ) (r : Answer)
-    → os ≡ first_eights used offsets → LookedUp list k key n rows os r → LookedUp list k key n rows (first_eights used offsets) r
-bytes_looked_up list k key n rows offsets used os r e h = subst (λ (x : List ℕ). LookedUp list k key n rows x r) e h
-
 -- ---- an answer that cannot hold the four numbers
 pub look_up_short : (lent : List ℕ) → length lent < answer_room → (list : ColumnList) (k : ℕ) (key : List ℕ) (n : ℕ) (rows offsets : List ℕ)
     → LentLookedUp list k key n rows offsets lent lent
 unfolding lent_lookup
 look_up_short lent short list k key n rows offsets = record { answers = short_answer lent short (lookup_answer list k key n rows (eights offsets)) }
 
--- ---- one that can, and holds those of r
+-- ---- one that can, and holds those of r, which is the answer with the offsets that were read
 pub look_up_long : (lent lent' : List ℕ) (r : Answer) → answer_room ≤ length lent → lent' ≡ over (number_bytes (numbers_of r)) lent
-    → (list : ColumnList) (k : ℕ) (key : List ℕ) (n : ℕ) (rows offsets : List ℕ) (used m : ℕ) → Used n (length offsets / 8) used → used ≡ m
-    → LookedUp list k key n rows (first_eights m offsets) r → LentLookedUp list k key n rows offsets lent lent'
+    → (list : ColumnList) (k : ℕ) (key : List ℕ) (n : ℕ) (rows offsets : List ℕ) (used : ℕ) (read : List ℕ) → Used n (length offsets / 8) used
+    → read ≡ first_eights used offsets → LookedUp list k key n rows read r → LentLookedUp list k key n rows offsets lent lent'
 unfolding lent_lookup
-look_up_long lent lent' r long put list k key n rows offsets used m u e h =
-    let v : Used n (length offsets / 8) m = subst (Used n (length offsets / 8)) e u in
+look_up_long lent lent' r long put list k key n rows offsets used read u e d =
+    let h = subst (λ (os : List ℕ). LookedUp list k key n rows os r) e d in
     record {
       answers = long_answer lent lent' r long put (lookup_answer list k key n rows (eights offsets))
-          (h.answers ∙ ap numbers_of (look_up_answer list k key n rows offsets m v));
+          (h.answers ∙ ap numbers_of (look_up_answer list k key n rows offsets used u));
     }

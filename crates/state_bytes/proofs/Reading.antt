@@ -7,17 +7,17 @@ use native.Mathlib.Omega.{arith}
 use lib.Dec.{leb}
 use lib.ListN.{length, get_or, set, take, drop, replicate, length-drop}
 use lib.Seq.{take_all, take-take, take-add, drop_at, length-take-le, get_or-take, get_or-drop, set_at, append_snoc}
-use borrow.Author.Tests.{leb-true, eqb-true}
+use borrow.Author.Tests.{eqb-true}
 use borrow.Rule.Slice.PartMut.{mid_of}
 use Rattle.format.specs.declared.Column.{Column}
 use Rattle.format.specs.declared.Schema.{Schema}
-use Rattle.format.specs.declared.Check.{Check}
+use Rattle.format.specs.Check.{Check}
 use Rattle.format.specs.declared.Spot.{Spot}
 use Rattle.format.specs.declared.Cutter.{Cutter}
 use Rattle.format.specs.Limits.{max_columns}
 use Rattle.format.specs.Lists.{each, low, low_bytes}
 use Rattle.format.specs.Schemas.{no_column, schema_of}
-use Rattle.format.specs.Described.{Description, code_at, column_of}
+use Rattle.format.specs.Described.{code_at, column_of}
 use Rattle.format.specs.Lent.{eights}
 use Rattle.format.specs.CutterBytes.{numbers_size, state_size, check_of, spot_of, columns_of, state_of, same}
 use Rattle.basics.proofs.Lists.{each_at, each_same, length_each}

@@ -9,8 +9,8 @@ use lib.Seq.{sets, sets-eq, drop-drop, take_all, take_at}
 use borrow.Rule.Slice.PartMut.{mid_of, post_of, put_mid}
 use Rattle.format.specs.declared.Schema.{Schema}
 use Rattle.format.specs.declared.Refusal.{Refusal}
-use Rattle.format.specs.declared.Check.{Check}
-use Rattle.format.specs.declared.Check.TheVariants.{Refuse}
+use Rattle.format.specs.Check.{Check}
+use Rattle.std.specs.declared.result.Result.TheVariants.{Err}
 use Rattle.format.specs.declared.Returned.{Returned}
 use Rattle.format.specs.Limits.{max_columns}
 use Rattle.format.specs.Lists.{over, low_bytes}
@@ -166,6 +166,6 @@ module _ (check : Check) (p : Place) (schema : Schema) (l m : List ℕ) (room : 
       (ap (put_mid numbers_size (length m - numbers_size) m) b ∙ part_put numbers_size (column_bytes schema) m (omega (arith, long, length_first)))
 
 -- a refused state
-pub refused_put : (r : Refusal) (l m n : List ℕ) → state_size ≤ length l → m ≡ over (eight_bytes (place_numbers (Refuse r) (place_of (refused r)) 0)) l
+pub refused_put : (r : Refusal) (l m n : List ℕ) → state_size ≤ length l → m ≡ over (eight_bytes (place_numbers (Err r) (place_of (refused r)) 0)) l
     → n ≡ sets m numbers_size (replicate (4 * max_columns) 0) → n ≡ over (state_bytes (refused r)) l
-refused_put r l m n room a b = numbers_then (Refuse r) (place_of (refused r)) (schema_of []) l m room a refl n b
+refused_put r l m n room a b = numbers_then (Err r) (place_of (refused r)) (schema_of []) l m room a refl n b

@@ -1,7 +1,7 @@
 -- A state as it is written, part by part.
 use Rattle.std.specs.Prelude.{ℕ, ◌-◌, ◌*◌, List, [], ◌∷◌, ◌++◌, replicate}
 use Rattle.format.specs.declared.Schema.{Schema}
-use Rattle.format.specs.declared.Check.{Check}
+use Rattle.format.specs.Check.{Check}
 use Rattle.format.specs.declared.Cutter.{Cutter}
 use Rattle.format.specs.declared.Returned.{Returned}
 use Rattle.format.specs.Limits.{max_columns}

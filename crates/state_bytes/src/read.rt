@@ -12,32 +12,32 @@ use crate::{NUMBER_BYTES, STATE_BYTES};
 use code_reader::coded_column;
 use column_facts::no_column;
 use cutter_step::Place;
-use format::{Check, Cutter, MAX_COLUMNS, Refusal, RowFault, Schema, Spot};
-use number::low64;
+use format::{Cutter, MAX_COLUMNS, Refusal, RowFault, Schema, Spot};
+use number::Word;
 
 // The refusal of four numbers; any that a state cannot hold is 33.
-fn check_of(a: u64, b: u64, c: u64, d: u64) -> Check
+fn check_of(a: u64, b: u64, c: u64, d: u64) -> Result<(), Refusal>
     ensures { result ≡ check_of a b c d }
 {
     let second = b as usize;
     let third = c as usize;
     let fourth = d as usize;
     match a {
-        0 => Check::Pass,
-        1 => Check::Refuse(Refusal::ListCut(second)),
-        2 => Check::Refuse(Refusal::UnknownKind(second)),
-        3 => Check::Refuse(Refusal::OptionBits(second)),
-        4 => Check::Refuse(Refusal::Width(second)),
-        5 => Check::Refuse(Refusal::ManyColumns(second)),
-        12 => Check::Refuse(Refusal::ManyBytes(b, c)),
-        17 => Check::Refuse(Refusal::Row(RowFault::Lead, second, third, fourth)),
-        18 => Check::Refuse(Refusal::Row(RowFault::NullRest, second, third, fourth)),
-        19 => Check::Refuse(Refusal::Row(RowFault::BoolByte, second, third, fourth)),
-        20 => Check::Refuse(Refusal::Row(RowFault::EndByte, second, third, fourth)),
-        21 => Check::Refuse(Refusal::Row(RowFault::Padding, second, third, fourth)),
-        23 => Check::Refuse(Refusal::Row(RowFault::TooLong, second, third, fourth)),
-        28 => Check::Refuse(Refusal::Row(RowFault::Unfolded, second, third, fourth)),
-        _ => Check::Refuse(Refusal::BrokenState),
+        0 => Ok(()),
+        1 => Err(Refusal::ListCut(second)),
+        2 => Err(Refusal::UnknownKind(second)),
+        3 => Err(Refusal::OptionBits(second)),
+        4 => Err(Refusal::Width(second)),
+        5 => Err(Refusal::ManyColumns(second)),
+        12 => Err(Refusal::ManyBytes(b, c)),
+        17 => Err(Refusal::Row(RowFault::Lead, second, third, fourth)),
+        18 => Err(Refusal::Row(RowFault::NullRest, second, third, fourth)),
+        19 => Err(Refusal::Row(RowFault::BoolByte, second, third, fourth)),
+        20 => Err(Refusal::Row(RowFault::EndByte, second, third, fourth)),
+        21 => Err(Refusal::Row(RowFault::Padding, second, third, fourth)),
+        23 => Err(Refusal::Row(RowFault::TooLong, second, third, fourth)),
+        28 => Err(Refusal::Row(RowFault::Unfolded, second, third, fourth)),
+        _ => Err(Refusal::BrokenState),
     }
 }
 
@@ -70,10 +70,8 @@ fn read_columns(codes: &[u8], count: usize) -> Schema
 {
     let none = no_column();
     let mut columns = [none; MAX_COLUMNS];
-    let mut i: usize = 0;
-    while i < count {
+    for i in 0..count {
         columns[i] = coded_column(codes, i);
-        i += 1;
     }
     Schema {
         columns: columns,
@@ -87,26 +85,26 @@ pub fn read_state(state: &[u8]) -> Cutter
     ensures { result ≡ state_of (take state_size state.now) }
 {
     let from = NUMBER_BYTES;
-    let schema = read_columns(&state[from..], columns_said(low64(state, 96)));
+    let schema = read_columns(&state[from..], columns_said(u64::low(state, 96)));
     let refusal = check_of(
-        low64(state, 0),
-        low64(state, 8),
-        low64(state, 16),
-        low64(state, 24),
+        u64::low(state, 0),
+        u64::low(state, 8),
+        u64::low(state, 16),
+        u64::low(state, 24),
     );
     let spot = spot_of(
-        low64(state, 64),
-        low64(state, 72),
-        low64(state, 80),
-        low64(state, 88),
+        u64::low(state, 64),
+        u64::low(state, 72),
+        u64::low(state, 80),
+        u64::low(state, 88),
     );
     Cutter {
         schema: schema,
         refusal: refusal,
-        rows: low64(state, 32),
-        bytes: low64(state, 40),
-        row: low64(state, 48),
-        column: low64(state, 56) as usize,
+        rows: u64::low(state, 32),
+        bytes: u64::low(state, 40),
+        row: u64::low(state, 48),
+        column: u64::low(state, 56) as usize,
         spot: spot,
     }
 }
@@ -117,18 +115,16 @@ fn same_bytes(a: &[u8], b: &[u8]) -> bool
     requires state_size_in_bounds_2 { state_size ≤ length b.now }
     ensures { result ≡ same (take state_size a.now) (take state_size b.now) }
 {
-    let mut i: usize = 0;
-    while i < STATE_BYTES / 8 {
-        if low64(a, 8 * i) != low64(b, 8 * i) {
+    for i in 0..STATE_BYTES / 8 {
+        if u64::low(a, 8 * i) != u64::low(b, 8 * i) {
             return false;
         }
-        i += 1;
     }
     true
 }
 
 // Whether these bytes are those that a state is written as, by its parts.
-pub fn written_as(state: &[u8], check: Check, place: Place, schema: Schema) -> bool
+pub fn written_as(state: &[u8], check: Result<(), Refusal>, place: Place, schema: Schema) -> bool
     requires count_le_max_columns { schema.count ≤ max_columns }
     requires state_size_in_bounds { state_size ≤ length state.now }
     ensures { result ≡ same (state_bytes (state_with check place schema)) (take state_size state.now) }

@@ -12,17 +12,17 @@ use crate::NUMBER_BYTES;
 use answers::refusal_numbers;
 use code_writer::put_codes;
 use cutter_step::Place;
-use format::{Check, MAX_COLUMNS, Refusal, Returned, Schema, Spot};
-use number::put64;
+use format::{MAX_COLUMNS, Refusal, Returned, Schema, Spot};
+use number::Word;
 use runs::zeros;
 
 // Numbers 0 to 3: those of the refusal that stands, or zeros.
-fn check_numbers(check: Check) -> Returned
+fn check_numbers(check: Result<(), Refusal>) -> Returned
     ensures { result ≡ check_numbers check }
 {
     match check {
-        Check::Pass => Returned(0, 0, 0, 0),
-        Check::Refuse(r) => refusal_numbers(r),
+        Ok(()) => Returned(0, 0, 0, 0),
+        Err(r) => refusal_numbers(r),
     }
 }
 
@@ -43,14 +43,14 @@ fn put_four(out: &mut [u8], at: usize, numbers: Returned)
     requires { at + 32 ≤ length out.old }
     ensures { out.new ≡ sets out.old at (number_bytes numbers) }
 {
-    put64(out, at, numbers.0);
-    put64(out, at + 8, numbers.1);
-    put64(out, at + 16, numbers.2);
-    put64(out, at + 24, numbers.3);
+    numbers.0.put(out, at);
+    numbers.1.put(out, at + 8);
+    numbers.2.put(out, at + 16);
+    numbers.3.put(out, at + 24);
 }
 
 // The thirteen numbers, in front of the lent bytes.
-pub fn put_numbers(out: &mut [u8], check: Check, place: Place, count: usize)
+pub fn put_numbers(out: &mut [u8], check: Result<(), Refusal>, place: Place, count: usize)
     requires { numbers_size ≤ length out.old }
     ensures { out.new ≡ over (eight_bytes (place_numbers check place count)) out.old }
 {
@@ -62,7 +62,7 @@ pub fn put_numbers(out: &mut [u8], check: Check, place: Place, count: usize)
         Returned(place.rows, place.bytes, place.row, place.column as u64),
     );
     put_four(out, 64, spot_numbers(spot));
-    put64(out, 96, count as u64);
+    (count as u64).put(out, 96);
 }
 
 // The columns in use, and zeros for those that are not there.
@@ -88,12 +88,12 @@ pub fn put_refused(out: &mut [u8], refusal: Refusal)
         column: 0,
         spot: Spot::Start,
     };
-    put_numbers(out, Check::Refuse(refusal), place, 0);
+    put_numbers(out, Err(refusal), place, 0);
     zeros(out, NUMBER_BYTES, 4 * MAX_COLUMNS);
 }
 
 // Any state, by its parts.
-pub fn put_state(out: &mut [u8], check: Check, place: Place, schema: Schema)
+pub fn put_state(out: &mut [u8], check: Result<(), Refusal>, place: Place, schema: Schema)
     requires count_le_max_columns { schema.count ≤ max_columns }
     requires state_size_in_bounds { state_size ≤ length out.old }
     ensures { out.new ≡ over (state_bytes (state_with check place schema)) out.old }

@@ -2,7 +2,7 @@
 ghost use Rattle.format.specs.Described.{spelled};
 ghost use Rattle.format.specs.Promises.{SheetsCompared, PairsCompared};
 
-use format::Answer;
+use format::Refusal;
 use list_reader::read_list;
 use pairs::{compare_numbers_listed, compare_sheets_listed};
 
@@ -15,7 +15,7 @@ pub fn compare_sheets(
     n1: u64,
     sheet1: &[u8],
     row1: u64,
-) -> Answer
+) -> Result<(u64, u64), Refusal>
     ensures { SheetsCompared (spelled list.now) n0 sheet0.now row0 n1 sheet1.now row1 result }
 {
     compare_sheets_listed(read_list(list), n0, sheet0, row0, n1, sheet1, row1)
@@ -30,7 +30,7 @@ pub fn compare_pairs(
     sheet1: &[u8],
     pairs: &[u64],
     answers: &mut [u8],
-) -> Answer
+) -> Result<(u64, u64), Refusal>
     ensures { PairsCompared (spelled list.now) n0 sheet0.now n1 sheet1.now pairs.now answers.old
         result answers.new }
 {

@@ -1,7 +1,7 @@
 // Joining: the order of the rows of two sorted passes.
 ghost use Rattle.format.specs.Promises.{Joined};
 
-use format::{Answer, Check, Refusal};
+use format::Refusal;
 use joiner::{check_pass, merge};
 
 // Each pass 6, 14, 15, 12, 26, pass 0 first; then the list, 14; then the order: the rows of both and 0, or the refusal, which
@@ -14,21 +14,15 @@ pub fn join(
     rows1: &[u8],
     offsets1: &[u64],
     order: &mut [u64],
-) -> Answer
+) -> Result<(u64, u64), Refusal>
     ensures { Joined n0 rows0.now offsets0.now n1 rows1.now offsets1.now order.old
         result order.new }
 {
-    let first = check_pass(0, n0, rows0, offsets0);
-    if let Check::Refuse(r) = first {
-        return Answer::Refused(r);
-    }
-    let second = check_pass(1, n1, rows1, offsets1);
-    if let Check::Refuse(r) = second {
-        return Answer::Refused(r);
-    }
+    check_pass(0, n0, rows0, offsets0)?;
+    check_pass(1, n1, rows1, offsets1)?;
     let count = n0 + n1;
     if (order.len() as u64) < count {
-        return Answer::Refused(Refusal::OffsetRoom(count));
+        return Err(Refusal::OffsetRoom(count));
     }
     merge(
         n0 as usize,
@@ -39,5 +33,5 @@ pub fn join(
         offsets1,
         order,
     );
-    Answer::Done(count, 0)
+    Ok((count, 0))
 }

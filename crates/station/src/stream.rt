@@ -4,7 +4,7 @@ ghost use Rattle.format.specs.Described.{spelled};
 ghost use Rattle.format.specs.Promises.{Started, PieceCut, Finished};
 
 use cutter::{Cutting, start_listed};
-use format::{Answer, Cutter};
+use format::{Cutter, Refusal};
 use list_reader::read_list;
 
 // The column count and 0, or the refusal; and the state before the first byte, which holds the refusal if there is one.
@@ -23,7 +23,7 @@ pub fn cut(state: Cutter, piece: &[u8], ends: &mut [u64]) -> Cutting
 }
 
 // 33, the refusal that stands, 16 within a row; or the rows in all, and 0.
-pub fn finish(state: Cutter) -> Answer
+pub fn finish(state: Cutter) -> Result<(u64, u64), Refusal>
     ensures { Finished state result }
 {
     cutter::finish(state)

@@ -5,11 +5,10 @@ use mathlib.Core.Bool.{cond}
 use mathlib.Core.List.{List}
 use lib.ListN.{length}
 use Rattle.format.specs.declared.Refusal.TheVariants.{BrokenState}
-use Rattle.format.specs.declared.Answer.{Answer}
-use Rattle.format.specs.declared.Answer.TheVariants.{Refused}
+use Rattle.format.specs.Numbers.{Answer, numbers_of}
+use Rattle.std.specs.declared.result.Result.TheVariants.{Err}
 use Rattle.format.specs.Lists.{over}
 use Rattle.format.specs.Described.{ColumnList}
-use Rattle.format.specs.Numbers.{numbers_of}
 use Rattle.format.specs.Lent.{eights, eight_bytes, number_bytes, answer_room}
 use Rattle.format.specs.Cutter.{start_answer, start_state, cut_answer, cut_state, cut_ends, finish_answer}
 use Rattle.format.specs.CutterBytes.{state_bytes, no_room, lent_keeps, lent_state, lent_start, lent_start_state, lent_cut, lent_cut_state, lent_cut_ends, lent_finish}
@@ -22,7 +21,7 @@ module _ (lent : List ℕ) (short : length lent < answer_room) where
   pub start_short : (list : ColumnList) (state : List ℕ) → LentStarted list state lent state lent
   unfolding lent_start lent_start_state
   start_short list state = record {
-    answers = short_answer lent short (cond (no_room state) (Refused BrokenState) (start_answer list));
+    answers = short_answer lent short (cond (no_room state) (Err BrokenState) (start_answer list));
     states = short_kept lent short (cond (no_room state) state (over (state_bytes (start_state list)) state)) state;
   }
 
@@ -43,7 +42,7 @@ module _ (lent lent' : List ℕ) (r : Answer) (long : answer_room ≤ length len
   pub start_long : (list : ColumnList) (state state' : List ℕ) → StartedLent list state r state' → LentStarted list state lent state' lent'
   unfolding lent_start lent_start_state
   start_long list state state' h = record {
-    answers = long_answer lent lent' r long put (cond (no_room state) (Refused BrokenState) (start_answer list)) h.answers;
+    answers = long_answer lent lent' r long put (cond (no_room state) (Err BrokenState) (start_answer list)) h.answers;
     states = long_new lent lent' r long put state' _ state h.states;
   }
 

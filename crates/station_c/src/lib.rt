@@ -1,5 +1,6 @@
 // The C entries: a slice is a pointer and a length, offsets and answers are lent as bytes, eight a number, low byte first, and
-// descriptions as four bytes a column. Thin over crate `station` and those below it; include/station.h says how to call them.
+// descriptions as four bytes a column. Thin over crate `station` and those below it; include/station.h says how to call them. An entry on
+// list bytes and the same under descriptions are two names over one function: the C interface.
 #![tactic(auto)]
 
 ghost use Rattle.format.specs.Described.{spelled, coded};

@@ -1,4 +1,5 @@
-// The public entries on lent columns: those of crate station, with exactly the columns handed on in place of list bytes.
+// The public entries on lent columns: those of crate station, with exactly the columns handed on in place of list bytes. README names both; each
+// is one call of one function.
 #![tactic(auto)]
 
 ghost use Rattle.format.specs.Described.{described as described·};
@@ -7,14 +8,14 @@ ghost use Rattle.format.specs.Promises.{Measured, Encoded, Decoded, LookedUp, St
 use cutter::{Cutting, start_listed};
 use decoder::decode_listed;
 use encoder::encode_listed;
-use format::{Answer, Column};
+use format::{Column, Refusal};
 use lent_columns::described;
 use measurer::measure_listed;
 use pairs::{compare_numbers_listed, compare_sheets_listed};
 use searcher::look_up_listed;
 
 // Total row bytes and the null total, or the refusal.
-pub fn measure_read(columns: &[Column], n: u64, sheet: &[u8]) -> Answer
+pub fn measure_read(columns: &[Column], n: u64, sheet: &[u8]) -> Result<(u64, u64), Refusal>
     ensures { Measured (described· columns.now) n sheet.now result }
 {
     measure_listed(described(columns), n, sheet)
@@ -27,7 +28,7 @@ pub fn encode_read(
     sheet: &[u8],
     rows: &mut [u8],
     offsets: &mut [u64],
-) -> Answer
+) -> Result<(u64, u64), Refusal>
     ensures { Encoded (described· columns.now) n sheet.now rows.old offsets.old
         result rows.new offsets.new }
 {
@@ -41,7 +42,7 @@ pub fn decode_read(
     rows: &[u8],
     offsets: &[u64],
     sheet: &mut [u8],
-) -> Answer
+) -> Result<(u64, u64), Refusal>
     ensures { Decoded (described· columns.now) n rows.now offsets.now sheet.old result sheet.new }
 {
     decode_listed(described(columns), n, rows, offsets, sheet)
@@ -55,7 +56,7 @@ pub fn look_up_read(
     n: u64,
     rows: &[u8],
     offsets: &[u64],
-) -> Answer
+) -> Result<(u64, u64), Refusal>
     ensures { LookedUp (described· columns.now) k key.now n rows.now offsets.now result }
 {
     look_up_listed(described(columns), k, key, n, rows, offsets)
@@ -70,7 +71,7 @@ pub fn compare_sheets_read(
     n1: u64,
     sheet1: &[u8],
     row1: u64,
-) -> Answer
+) -> Result<(u64, u64), Refusal>
     ensures { SheetsCompared (described· columns.now) n0 sheet0.now row0 n1 sheet1.now row1 result }
 {
     compare_sheets_listed(described(columns), n0, sheet0, row0, n1, sheet1, row1)
@@ -85,7 +86,7 @@ pub fn compare_pairs_read(
     sheet1: &[u8],
     pairs: &[u64],
     answers: &mut [u8],
-) -> Answer
+) -> Result<(u64, u64), Refusal>
     ensures { PairsCompared (described· columns.now) n0 sheet0.now n1 sheet1.now pairs.now answers.old
         result answers.new }
 {

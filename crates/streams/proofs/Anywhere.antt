@@ -9,12 +9,10 @@ use lib.Seq.{take_all}
 use borrow.Author.Tests.{le-ltb}
 use Rattle.format.specs.declared.Refusal.{Refusal}
 use Rattle.format.specs.declared.Refusal.TheVariants.{BrokenState}
-use Rattle.format.specs.declared.Check.{Check}
-use Rattle.format.specs.declared.Check.TheVariants.{Pass, Refuse}
-use Rattle.format.specs.declared.Answer.{Answer}
-use Rattle.format.specs.declared.Answer.TheVariants.{Refused}
+use Rattle.format.specs.Check.{Check, both}
+use Rattle.std.specs.declared.result.Result.TheVariants.{Ok, Err}
+use Rattle.format.specs.Numbers.{Answer}
 use Rattle.format.specs.declared.Cutter.{Cutter}
-use Rattle.format.specs.Check.{both}
 use Rattle.format.specs.Lists.{Bytes, over}
 use Rattle.format.specs.Entries.{answer}
 use Rattle.format.specs.CutterRule.{keeps}
@@ -41,7 +39,7 @@ said : {s : Cutter} {piece ends : List ℕ} {a : Answer} {s' : Cutter} {ends' : 
 said c = let u = cut_unique c (record { answers = refl; state = refl; row_ends = refl }) in record { answers = u.0; state = u.1; list = u.2 }
 
 -- on a state that breaks the rule nothing changes
-broken : (s : Cutter) (size room : ℕ) → keeps s ≡ false → cut_fault s size room ≡ Refuse BrokenState
+broken : (s : Cutter) (size room : ℕ) → keeps s ≡ false → cut_fault s size room ≡ Err BrokenState
 broken s size room e = rw e
 
 -- on one that keeps it, with a list that is long enough, the answer is that of its bytes
@@ -51,27 +49,27 @@ unfolding cut_answer
 call_answer s h piece room l = rw (h, le-ltb room (length piece) l) (go s.refusal refl)
   where
     go : (c : Check) → s.refusal ≡ c
-        → answer (both (both c Pass) (fed s piece).refusal) (length (ends_in s piece)) 0 ≡ answer (fed s piece).refusal (length (ends_in s piece)) 0
-    go Pass e = refl
-    go (Refuse r) e =
+        → answer (both (both c (Ok tt)) (fed s piece).refusal) (length (ends_in s piece)) 0 ≡ answer (fed s piece).refusal (length (ends_in s piece)) 0
+    go (Ok tt) e = refl
+    go (Err r) e =
         sym (ap (λ (t : Cutter). answer t.refusal (length (ends_in s piece)) 0) (fed_refused s r e piece) ∙ ap (λ (c : Check). answer c (length (ends_in s piece)) 0) e)
 
 -- ---- what an answer says
 
 answer_refusal : (c : Check) (a b : ℕ) → refusal_in (answer c a b) ≡ c
-answer_refusal Pass a b = refl
-answer_refusal (Refuse r) a b = refl
+answer_refusal (Ok tt) a b = refl
+answer_refusal (Err r) a b = refl
 
-answer_rows : (c : Check) (a b : ℕ) → c ≡ Pass → rows_in (answer c a b) ≡ a
+answer_rows : (c : Check) (a b : ℕ) → c ≡ Ok tt → rows_in (answer c a b) ≡ a
 answer_rows c a b e = ap (λ (x : Check). rows_in (answer x a b)) e
 
 -- a stream that is not refused was not refused before
-unrefused : (s : Cutter) (q : List ℕ) → (fed s q).refusal ≡ Pass → s.refusal ≡ Pass
+unrefused : (s : Cutter) (q : List ℕ) → (fed s q).refusal ≡ Ok tt → s.refusal ≡ Ok tt
 unrefused s q e = go s.refusal refl
   where
-    go : (c : Check) → s.refusal ≡ c → s.refusal ≡ Pass
-    go Pass h = h
-    go (Refuse r) h = ap (λ (t : Cutter). t.refusal) (sym (fed_refused s r h q)) ∙ e
+    go : (c : Check) → s.refusal ≡ c → s.refusal ≡ Ok tt
+    go (Ok tt) h = h
+    go (Err r) h = ap (λ (t : Cutter). t.refusal) (sym (fed_refused s r h q)) ∙ e
 
 module _ (s : Cutter) (held : Whole s) (piece : List ℕ) (bytes : Bytes piece) (k : ℕ) (whole first second : Lent) (r : TwoWays)
     (one : PieceCut s piece whole.entry r.whole.answer r.whole.state whole.exit)
@@ -92,7 +90,7 @@ module _ (s : Cutter) (held : Whole s) (piece : List ℕ) (bytes : Bytes piece) 
 
   -- ---- the state breaks the rule
   module _ (e : keeps s ≡ false) where
-    stays₀ : (x ends : List ℕ) → (cut_answer s x (length ends) ≡ Refused BrokenState) × (cut_state s x (length ends) ≡ s) × (cut_ends s x ends ≡ ends)
+    stays₀ : (x ends : List ℕ) → (cut_answer s x (length ends) ≡ Err BrokenState) × (cut_state s x (length ends) ≡ s) × (cut_ends s x ends ≡ ends)
     stays₀ x ends = cut_refused s x ends BrokenState (broken s (length x) (length ends) e)
 
     middle₀ : r.front.state ≡ s
@@ -104,11 +102,11 @@ module _ (s : Cutter) (held : Whole s) (piece : List ℕ) (bytes : Bytes piece) 
     same_answer₀ : r.whole.answer ≡ r.rest.answer
     same_answer₀ = (said one).answers ∙ (stays₀ piece whole.entry).0 ∙ sym (last₀.answers ∙ (stays₀ q second.entry).0)
 
-    refused₀ : r.whole.answer ≡ Refused BrokenState
+    refused₀ : r.whole.answer ≡ Err BrokenState
     refused₀ = (said one).answers ∙ (stays₀ piece whole.entry).0
 
-    not_passed₀ : refusal_in r.whole.answer ≡ Pass → ⊥
-    not_passed₀ h = absurd (let z : Refuse BrokenState ≡ Pass = sym (ap refusal_in refused₀) ∙ h in let y : ◌≡◌ {A = ℕ} 0 1 = cc in omega arith)
+    not_passed₀ : refusal_in r.whole.answer ≡ Ok tt → ⊥
+    not_passed₀ h = absurd (let z : ◌≡◌ {A = Check} (Err BrokenState) (Ok tt) = sym (ap refusal_in refused₀) ∙ h in let y : ◌≡◌ {A = ℕ} 0 1 = cc in omega arith)
 
     same_broken : SameCut whole first second r
     same_broken = record {
@@ -159,13 +157,13 @@ module _ (s : Cutter) (held : Whole s) (piece : List ℕ) (bytes : Bytes piece) 
     whole_refusal : refusal_in r.whole.answer ≡ (fed t q).refusal
     whole_refusal = ap refusal_in whole_answer ∙ answer_refusal (fed t q).refusal (length (ends_in s p ++ ends_in t q)) 0
 
-    whole_rows : refusal_in r.whole.answer ≡ Pass → rows_in r.whole.answer ≡ length (ends_in s p ++ ends_in t q)
+    whole_rows : refusal_in r.whole.answer ≡ Ok tt → rows_in r.whole.answer ≡ length (ends_in s p ++ ends_in t q)
     whole_rows h = ap rows_in whole_answer ∙ answer_rows (fed t q).refusal (length (ends_in s p ++ ends_in t q)) 0 (sym whole_refusal ∙ h)
 
-    front_rows : refusal_in r.whole.answer ≡ Pass → rows_in r.front.answer ≡ length (ends_in s p)
+    front_rows : refusal_in r.whole.answer ≡ Ok tt → rows_in r.front.answer ≡ length (ends_in s p)
     front_rows h = ap rows_in front_answer ∙ answer_rows t.refusal (length (ends_in s p)) 0 (unrefused t q (sym whole_refusal ∙ h))
 
-    rest_rows : refusal_in r.whole.answer ≡ Pass → rows_in r.rest.answer ≡ length (ends_in t q)
+    rest_rows : refusal_in r.whole.answer ≡ Ok tt → rows_in r.rest.answer ≡ length (ends_in t q)
     rest_rows h = ap rows_in rest_answer ∙ answer_rows (fed t q).refusal (length (ends_in t q)) 0 (sym whole_refusal ∙ h)
 
     same_kept : SameCut whole first second r

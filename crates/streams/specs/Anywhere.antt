@@ -1,9 +1,7 @@
 -- A piece in one call, and cut anywhere in two: the same ends, the same refusal, the same state.
-use Rattle.std.specs.Prelude.{ℕ, ◌+◌, ◌≤◌, ◌≡◌, cond, List, ◌++◌, ltb, length, take, drop}
-use Rattle.format.specs.declared.Check.{Check}
-use Rattle.format.specs.declared.Check.TheVariants.{Pass, Refuse}
-use Rattle.format.specs.declared.Answer.{Answer}
-use Rattle.format.specs.declared.Answer.TheVariants.{Done, Refused}
+use Rattle.std.specs.Prelude.{ℕ, ◌+◌, ◌≤◌, ◌≡◌, cond, List, ◌++◌, ltb, length, take, drop, Ok, Err}
+use Rattle.format.specs.Check.{Check}
+use Rattle.format.specs.Numbers.{Answer}
 use Rattle.format.specs.declared.Cutter.{Cutter}
 use Rattle.format.specs.Lists.{over}
 use Rattle.format.specs.Promises.{PieceCut}
@@ -23,12 +21,12 @@ lent entry exit = record { entry = entry; exit = exit }
 
 -- the refusal that an answer is, and the rows that it counts
 abbrev pub refusal_in : Answer → Check
-refusal_in (Done a b) = Pass
-refusal_in (Refused r) = Refuse r
+refusal_in (Ok (a, b)) = Ok tt
+refusal_in (Err r) = Err r
 
 abbrev pub rows_in : Answer → ℕ
-rows_in (Done a b) = a
-rows_in (Refused r) = 0
+rows_in (Ok (a, b)) = a
+rows_in (Err r) = 0
 
 -- the two calls leave what the one leaves, and write what it writes
 pub record SameCut (whole first second : Lent) (r : TwoWays) : Type 0 where
@@ -36,8 +34,8 @@ pub record SameCut (whole first second : Lent) (r : TwoWays) : Type 0 where
   pub rest : List ℕ
   pub state : r.whole.state ≡ r.rest.state
   pub refusal : refusal_in r.whole.answer ≡ refusal_in r.rest.answer
-  pub rows : refusal_in r.whole.answer ≡ Pass → rows_in r.whole.answer ≡ rows_in r.front.answer + rows_in r.rest.answer
-  pub counted : refusal_in r.whole.answer ≡ Pass → rows_in r.whole.answer ≡ length (front ++ rest)
+  pub rows : refusal_in r.whole.answer ≡ Ok tt → rows_in r.whole.answer ≡ rows_in r.front.answer + rows_in r.rest.answer
+  pub counted : refusal_in r.whole.answer ≡ Ok tt → rows_in r.whole.answer ≡ length (front ++ rest)
   pub whole_ends : whole.exit ≡ over (front ++ rest) whole.entry
   pub front_ends : first.exit ≡ over front first.entry
   pub rest_ends : second.exit ≡ over rest second.entry

@@ -35,10 +35,6 @@ wrote_long {text} {at} {out} w = ap length w.bytes ∙ length-sets out at text
 pub walk_wrote : {whole rest out₀ : List ℕ} {at₀ : ℕ} {out : List ℕ} {at : ℕ} → Walk whole rest out₀ at₀ out at → rest ≡ [] → Wrote whole at₀ out₀ out at
 walk_wrote t e = let z = walk_end t e in record { place = z.0; bytes = z.1 }
 
--- ---- bytes as they stand
-pub bytes_step : (text : List ℕ) (i : ℕ) → i < length text → drop i text ≡ (get_or text i 0 ∷ []) ++ drop (i + 1) text
-bytes_step text i h = rw (add-one i, drop-cons text i 0 h)
-
 -- ---- a row in hex, of which i bytes are written
 pub record InHex (row out₀ : List ℕ) (at : ℕ) (out : List ℕ) (place i : ℕ) : Type 0 where
   pub within : i ≤ length row

@@ -25,13 +25,10 @@ fn put_row(row: &[u8], out: &mut [u8], at: usize) -> usize
     ensures { Wrote (row_line row.now) at out.old out.new result }
 {
     let mut place = at;
-    let mut i = 0;
-    while i < row.len() {
-        let b = row[i];
-        out[place] = digit(b / 16);
-        out[place + 1] = digit(b % 16);
+    for byte in row {
+        out[place] = digit(*byte / 16);
+        out[place + 1] = digit(*byte % 16);
         place += 2;
-        i += 1;
     }
     out[place] = b'\n';
     place + 1
@@ -44,12 +41,10 @@ pub fn put_rows(rows: &[u8], offsets: &[u64], n: usize, out: &mut [u8]) -> usize
     ensures { Wrote (hex_lines (cut_rows n rows.now offsets.now)) 0 out.old out.new result }
 {
     let mut at = 0;
-    let mut i = 0;
-    while i < n {
+    for i in 0..n {
         let from = offsets[i] as usize;
         let to = offsets[i + 1] as usize;
         at = put_row(&rows[from..to], out, at);
-        i += 1;
     }
     at
 }
@@ -59,12 +54,9 @@ fn put_bytes(text: &[u8], out: &mut [u8], at: usize) -> usize
     requires { at + length text.now ≤ length out.old }
     ensures { Wrote text.now at out.old out.new result }
 {
-    let mut i = 0;
-    while i < text.len() {
-        out[at + i] = text[i];
-        i += 1;
-    }
-    at + i
+    let end = at + text.len();
+    out[at..end].copy_from_slice(text);
+    end
 }
 
 // A number in decimal, at most 20 digits, and a byte after it.

@@ -5,8 +5,7 @@ ghost use Rattle.format.specs.Entries.{row_bytes, compare_answer};
 ghost use Rattle.format.specs.Passed.{Lies};
 ghost use Rattle.demands.specs.Order.{batch, OrderedAs};
 
-use demands::order::Ordered;
-use format::Answer;
+use format::Refusal;
 use station::compare::compare;
 use station::encode::encode;
 
@@ -43,25 +42,19 @@ pub fn encode_compare(
     others: &mut [u8],
     ends: &mut [u64],
     q: u64,
-) -> Ordered
+) -> Result<Option<i32>, Refusal>
     ensures { OrderedAs (spelled list.now)
         (batch n sheet.now rows.old offsets.old rows.new offsets.new)
         (batch m other.now others.old ends.old others.new ends.new)
         r q result }
 {
-    let first = encode(list, n, sheet, rows, offsets);
-    if let Answer::Refused(x) = first {
-        return Ordered::Refused(x);
-    }
-    let second = encode(list, m, other, others, ends);
-    if let Answer::Refused(x) = second {
-        return Ordered::Refused(x);
-    }
+    encode(list, n, sheet, rows, offsets)?;
+    encode(list, m, other, others, ends)?;
     if n <= r {
-        return Ordered::NoRow;
+        return Ok(None);
     }
     if m <= q {
-        return Ordered::NoRow;
+        return Ok(None);
     }
-    Ordered::Is(compare_rows(rows, offsets, r as usize, others, ends, q as usize))
+    Ok(Some(compare_rows(rows, offsets, r as usize, others, ends, q as usize)))
 }

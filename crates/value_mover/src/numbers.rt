@@ -30,13 +30,11 @@ fn move_words(
     ensures cursors_after { cursors.new ≡ nexts_at (word_column coding width options) rows.now cursors.old }
 {
     let mut place = at;
-    let mut r = 0;
-    while r < cursors.len() {
-        let p = cursors[r];
+    for cursor in cursors.iter_mut() {
+        let p = *cursor;
         slot(&rows[p..], width, coding, options, sheet, place);
-        cursors[r] = p + 1 + width;
+        *cursor = p + 1 + width;
         place += width;
-        r += 1;
     }
     place
 }

@@ -26,13 +26,11 @@ pub fn move_values(
     let options = column.options;
     let w = width(kind);
     let mut place = at;
-    let mut r = 0;
-    while r < cursors.len() {
-        let p = cursors[r];
+    for cursor in cursors.iter_mut() {
+        let p = *cursor;
         decode(&rows[p..], kind, options, sheet, place);
-        cursors[r] = p + 1 + w;
+        *cursor = p + 1 + w;
         place += w;
-        r += 1;
     }
     place
 }
@@ -42,9 +40,7 @@ pub fn advance(cursors: &mut [usize], by: usize)
     requires { (r : ℕ) → r < length cursors.old → get_or cursors.old r 0 + by < 2 ^ 64 }
     ensures { cursors.new ≡ map (λ p. p + by) cursors.old }
 {
-    let mut r = 0;
-    while r < cursors.len() {
-        cursors[r] += by;
-        r += 1;
+    for cursor in cursors.iter_mut() {
+        *cursor += by;
     }
 }

@@ -16,7 +16,7 @@ use column_facts::width;
 use format::{Kind, RowFault, SortOptions, Spot};
 use moves::Moved;
 use moves::lead::turned;
-use number::{Coding, decode16, decode32, decode64, folded16, folded32, folded64};
+use number::{Coding, Float, Word, decode, folded};
 use runs::wide;
 
 // A bool's only one: 19.
@@ -41,25 +41,11 @@ fn plain_byte(width: usize, seen: usize, options: SortOptions, at: u64, byte: u8
 }
 
 // Whether a float whose bytes spell this number, high byte first, is folded.
-fn folded_half(spelt: u16) -> bool
-    ensures { result ≡ is_folded (float 2) true (float_unkey (reverse (low_bytes 2 spelt))) }
+fn stands_folded<F: Float>(spelt: F) -> bool
+    ensures { result ≡ is_folded (float F.SIZE) true (float_unkey (reverse (low_bytes F.SIZE (F.value spelt)))) }
 {
-    let value = decode16(Coding::Float, decode16(Coding::Unsigned, spelt));
-    folded16(true, value) == value
-}
-
-fn folded_single(spelt: u32) -> bool
-    ensures { result ≡ is_folded (float 4) true (float_unkey (reverse (low_bytes 4 spelt))) }
-{
-    let value = decode32(Coding::Float, decode32(Coding::Unsigned, spelt));
-    folded32(true, value) == value
-}
-
-fn folded_double(spelt: u64) -> bool
-    ensures { result ≡ is_folded (float 8) true (float_unkey (reverse (low_bytes 8 spelt))) }
-{
-    let value = decode64(Coding::Float, decode64(Coding::Unsigned, spelt));
-    folded64(true, value) == value
+    let value = decode(Coding::Float, decode(Coding::Unsigned, spelt));
+    folded(true, value).number() == value.number()
 }
 
 // Whether it may stand in a column that folds.
@@ -69,12 +55,12 @@ fn may_stand(width: usize, spelt: u64) -> bool
     ensures { result ≡ is_folded (float width) true (float_unkey (reverse (low_bytes width spelt))) }
 {
     if width == 2 {
-        return folded_half(spelt as u16);
+        return stands_folded(spelt as u16);
     }
     if width == 4 {
-        return folded_single(spelt as u32);
+        return stands_folded(spelt as u32);
     }
-    folded_double(spelt)
+    stands_folded(spelt)
 }
 
 // A byte of a float in a column that folds: 28 shows at the last, for the first.

@@ -11,8 +11,7 @@ use crate::bytes::{order_binary, order_variable};
 use format::{Column, Kind};
 use number::Coding;
 use number_order::{
-    EQUAL, order, order_day_time, order_month_day_nano, order_words, order8, order16, order32,
-    order64,
+    EQUAL, order, order_day_time, order_folded, order_month_day_nano, order_number, order_words,
 };
 
 // Every fixed kind but bool: value i of a and value j of b. One match, so that a slot costs one jump.
@@ -23,17 +22,17 @@ fn order_wide(kind: Kind, fold: bool, a: &[u8], i: usize, b: &[u8], j: usize) ->
         (value_key (shape kind) fold (take (value_bytes kind) (drop (j * value_bytes kind) b.now))) result }
 {
     match kind {
-        Kind::I8 => order8(Coding::Signed, a, i, b, j),
-        Kind::I16 => order16(Coding::Signed, false, a, i, b, j),
-        Kind::I32 => order32(Coding::Signed, false, a, i, b, j),
-        Kind::I64 => order64(Coding::Signed, false, a, i, b, j),
-        Kind::U8 => order8(Coding::Unsigned, a, i, b, j),
-        Kind::U16 => order16(Coding::Unsigned, false, a, i, b, j),
-        Kind::U32 => order32(Coding::Unsigned, false, a, i, b, j),
-        Kind::U64 => order64(Coding::Unsigned, false, a, i, b, j),
-        Kind::F16 => order16(Coding::Float, fold, a, i, b, j),
-        Kind::F32 => order32(Coding::Float, fold, a, i, b, j),
-        Kind::F64 => order64(Coding::Float, fold, a, i, b, j),
+        Kind::I8 => order_number::<u8>(Coding::Signed, a, i, b, j),
+        Kind::I16 => order_number::<u16>(Coding::Signed, a, i, b, j),
+        Kind::I32 => order_number::<u32>(Coding::Signed, a, i, b, j),
+        Kind::I64 => order_number::<u64>(Coding::Signed, a, i, b, j),
+        Kind::U8 => order_number::<u8>(Coding::Unsigned, a, i, b, j),
+        Kind::U16 => order_number::<u16>(Coding::Unsigned, a, i, b, j),
+        Kind::U32 => order_number::<u32>(Coding::Unsigned, a, i, b, j),
+        Kind::U64 => order_number::<u64>(Coding::Unsigned, a, i, b, j),
+        Kind::F16 => order_folded::<u16>(Coding::Float, fold, a, i, b, j),
+        Kind::F32 => order_folded::<u32>(Coding::Float, fold, a, i, b, j),
+        Kind::F64 => order_folded::<u64>(Coding::Float, fold, a, i, b, j),
         Kind::DayTime => order_day_time(a, i, b, j),
         Kind::MonthDayNano => order_month_day_nano(a, i, b, j),
         Kind::FixedBinary(w) => order_binary(w as usize, a, i, b, j),

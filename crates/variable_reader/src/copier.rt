@@ -9,7 +9,7 @@ ghost use Rattle.variable_reader.specs.Counted.{blocks_read, rest_of, value_of};
 
 use blocks::{BLOCK_CONTINUATION, NON_EMPTY_SENTINEL, block_size};
 use format::SortOptions;
-use number::{directed16, directed32, directed64, low16, low32, low64, put16, put32, put64};
+use number::{Word, directed};
 use runs::{byte_at, copy_words, put_byte, wide};
 
 // How long the field was, and how many bytes were written.
@@ -19,30 +19,24 @@ pub struct Copied {
     pub value: usize,
 }
 
-// Four to eight bytes: two numbers of 4, which overlap.
-fn copy_fours(out: &mut [u8], at: usize, row: &[u8], from: usize, count: usize, descending: bool)
-    requires le_count { (4 ≤ count) × (count ≤ 8) }
+// As many bytes as a number has, to twice as many: two numbers, which overlap.
+fn copy_two<W: Word>(
+    out: &mut [u8],
+    at: usize,
+    row: &[u8],
+    from: usize,
+    count: usize,
+    descending: bool,
+)
+    requires le_count { (W.SIZE ≤ count) × (count ≤ W.SIZE + W.SIZE) }
     requires count_in_bounds { from + count ≤ length row.now }
     requires count_in_bounds_2 { at + count ≤ length out.old }
     ensures { out.new ≡ sets out.old at (directed descending (take count (drop from row.now))) }
 {
-    let first = low32(row, from);
-    put32(out, at, directed32(descending, first));
-    let last = low32(row, from + (count - 4));
-    put32(out, at + (count - 4), directed32(descending, last));
-}
-
-// Two to four bytes: two numbers of 2, which overlap.
-fn copy_twos(out: &mut [u8], at: usize, row: &[u8], from: usize, count: usize, descending: bool)
-    requires le_count { (2 ≤ count) × (count ≤ 4) }
-    requires count_in_bounds { from + count ≤ length row.now }
-    requires count_in_bounds_2 { at + count ≤ length out.old }
-    ensures { out.new ≡ sets out.old at (directed descending (take count (drop from row.now))) }
-{
-    let first = low16(row, from);
-    put16(out, at, directed16(descending, first));
-    let last = low16(row, from + (count - 2));
-    put16(out, at + (count - 2), directed16(descending, last));
+    let rest = count - W::SIZE;
+    directed(descending, W::low(row, from)).put(out, at);
+    let last = W::low(row, from + rest);
+    directed(descending, last).put(out, at + rest);
 }
 
 // Fewer bytes than a word has.
@@ -53,9 +47,9 @@ fn copy_few(out: &mut [u8], at: usize, row: &[u8], from: usize, count: usize, de
     ensures { out.new ≡ sets out.old at (directed descending (take count (drop from row.now))) }
 {
     if count >= 4 {
-        copy_fours(out, at, row, from, count, descending);
+        copy_two::<u32>(out, at, row, from, count, descending);
     } else if count >= 2 {
-        copy_twos(out, at, row, from, count, descending);
+        copy_two::<u16>(out, at, row, from, count, descending);
     } else if count > 0 {
         put_byte(out, at, row[from], descending);
     }
@@ -72,8 +66,8 @@ fn copy_last(out: &mut [u8], at: usize, row: &[u8], from: usize, count: usize, d
         return;
     }
     copy_words(out, at, row, from, count - count % 8, descending);
-    let last = low64(row, from + (count - 8));
-    put64(out, at + (count - 8), directed64(descending, last));
+    let last = u64::low(row, from + (count - 8));
+    directed(descending, last).put(out, at + (count - 8));
 }
 
 // The data of the blocks of a field, after its lead byte.
@@ -87,6 +81,7 @@ fn copy_blocks(row: &[u8], descending: bool, out: &mut [u8], at: usize) -> Copie
     let mut from = 1;
     let mut k = 0;
     let mut count = 0;
+    // No `for`: how many blocks there are only their end bytes tell.
     loop {
         let size = block_size(k);
         let end = byte_at(row, from + size, descending);

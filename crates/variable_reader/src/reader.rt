@@ -9,7 +9,7 @@ ghost use Rattle.variable_reader.specs.Counted.{blocks_read, counted, LastCounte
 use blocks::{BLOCK_CONTINUATION, EMPTY_SENTINEL, NON_EMPTY_SENTINEL, block_size};
 use column_facts::null_lead;
 use format::{FieldRead, MAX_SLOT, RowFault, SortOptions};
-use number::{directed64, low64};
+use number::{Word, directed};
 use runs::{byte_at, wide};
 
 // Whether the bytes from `from` up to `to` are zeros, inverted back: whole words, then the top bytes of the word that ends
@@ -20,8 +20,9 @@ fn clear(row: &[u8], from: usize, to: usize, descending: bool) -> bool
     ensures { result ≡ true → from_bad (take (to - from) (drop from (directed descending row.now))) ≡ 0 }
 {
     let mut i = from;
+    // To do: a `for`.
     while 8 <= to - i {
-        let word = directed64(descending, low64(row, i));
+        let word = directed(descending, u64::low(row, i));
         if word != 0 {
             return false;
         }
@@ -34,7 +35,7 @@ fn clear(row: &[u8], from: usize, to: usize, descending: bool) -> bool
     if to < 8 {
         return false;
     }
-    let word = directed64(descending, low64(row, to - 8));
+    let word = directed(descending, u64::low(row, to - 8));
     word >> (8 * (8 - left)) == 0
 }
 
@@ -48,6 +49,7 @@ fn unpadded(row: &[u8], from: usize, to: usize, descending: bool) -> usize
         return 0;
     }
     let mut i = from;
+    // To do: a `for`.
     while i < to {
         let byte = byte_at(row, i, descending);
         if byte != 0 {
@@ -98,6 +100,7 @@ fn count_blocks(row: &[u8], descending: bool) -> FieldRead
     let mut at = 1;
     let mut k = 0;
     let mut count = 0;
+    // No `for`: how many blocks there are only their end bytes tell.
     loop {
         let size = block_size(k);
         if len - at <= size {

@@ -41,6 +41,7 @@ fn short_blocks(row: &[u8], descending: bool) -> Short
     let mut at = 1;
     let mut k = 0;
     let mut count = 0;
+    // To do: a `for`.
     while k < MINI_BLOCK_COUNT {
         if len - at <= MINI_BLOCK_SIZE {
             return Short { field: 0, value: 0 };

@@ -13,7 +13,7 @@ use blocks::{
 };
 use column_facts::null_sentinel;
 use format::SortOptions;
-use number::{directed64, low64, put64};
+use number::{Word, directed};
 use runs::{copy_words, put_byte};
 
 // Null: the null byte, which descending does not invert.
@@ -34,7 +34,7 @@ fn last_word(val: &[u8], from: usize) -> u64
     ensures { result ≡ low (drop from val.now) }
 {
     let len = val.len();
-    low64(val, len - 8) >> (8 * (8 - (len - from)))
+    u64::low(val, len - 8) >> (8 * (8 - (len - from)))
 }
 
 // The eight bytes of val at a place, as a number, low byte first; zeros stand for those past its end.
@@ -46,7 +46,7 @@ fn word_at(val: &[u8], from: usize) -> u64
     if val.len() - from <= 8 {
         return last_word(val, from);
     }
-    low64(val, from)
+    u64::low(val, from)
 }
 
 // The same at any place.
@@ -83,12 +83,10 @@ fn encode_last(out: &mut [u8], at: usize, val: &[u8], from: usize, size: usize, 
 {
     let len = val.len();
     let first = word_at(val, from);
-    put64(out, at, directed64(descending, first));
-    let mut i = 8;
-    while i < size {
-        let word = padded_word(val, from + i);
-        put64(out, at + i, directed64(descending, word));
-        i += 8;
+    directed(descending, first).put(out, at);
+    for k in 1..size / 8 {
+        let word = padded_word(val, from + 8 * k);
+        directed(descending, word).put(out, at + 8 * k);
     }
     put_byte(out, at + size, (len - from) as u8, descending);
 }
@@ -112,6 +110,7 @@ fn encode_blocks(
     let len = val.len();
     let mut place = at;
     let mut i = from;
+    // No `for`: a turn takes a block, and what is left after the full ones is the last.
     while size < len - i {
         encode_full(out, place, val, i, size, descending);
         place += size + 1;
@@ -129,19 +128,17 @@ fn encode_data(out: &mut [u8], at: usize, val: &[u8], from: usize, descending: b
     ensures { Wrote (directed descending (data_blocks (drop from val.now))) at out.old out.new result }
 {
     let len = val.len();
-    let mut place = at;
-    let mut i = from;
-    let mut k = 0;
-    while k < MINI_BLOCK_COUNT {
+    for k in 0..MINI_BLOCK_COUNT {
+        let place = at + k * (MINI_BLOCK_SIZE + 1);
+        let i = from + k * MINI_BLOCK_SIZE;
         if len - i <= MINI_BLOCK_SIZE {
             encode_last(out, place, val, i, MINI_BLOCK_SIZE, descending);
             return place + MINI_BLOCK_SIZE + 1;
         }
         encode_full(out, place, val, i, MINI_BLOCK_SIZE, descending);
-        place += MINI_BLOCK_SIZE + 1;
-        i += MINI_BLOCK_SIZE;
-        k += 1;
     }
+    let place = at + MINI_BLOCK_COUNT * (MINI_BLOCK_SIZE + 1);
+    let i = from + MINI_BLOCK_COUNT * MINI_BLOCK_SIZE;
     encode_blocks(out, place, val, i, BLOCK_SIZE, descending)
 }
 

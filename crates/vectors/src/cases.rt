@@ -176,6 +176,7 @@ fn run_at<W: Write>(out: &mut W, text: &[u8], at: usize) -> io::Result<bool>
 // Runs the cases of a text, up to the first line that holds none.
 pub fn run<W: Write>(out: &mut W, text: &[u8]) -> io::Result<()> {
     let mut at = 0;
+    // No `for`: a turn takes a line, and std splits no slice of bytes at newlines.
     while at < text.len() {
         let is_case = run_at(out, text, at)?;
         at = step(text, at, is_case);

@@ -9,18 +9,13 @@ ghost use Rattle.format.specs.Key.{parts_key};
 ghost use Rattle.format.specs.Fold.{folds};
 ghost use Rattle.format.specs.Field.{directed, null_byte};
 ghost use Rattle.basics.specs.Wrote.{Wrote};
-ghost use Rattle.number.specs.declared.Coding.TheVariants.{Float};
 ghost use Rattle.number_reader.specs.Words.{WordWidth};
 ghost use Rattle.fixed_decoder.specs.Worded.{worded};
 ghost use Rattle.word_writer.specs.Words.{Slotted, key_bytes, word_field};
 
 use column_facts::null_sentinel;
 use format::SortOptions;
-use number::{
-    Coding, directed8, directed16, directed32, directed64, encode8, encode16, encode32, encode64,
-    folded16, folded32, folded64, low16, low32, low64,
-};
-use number_reader::put_number;
+use number::{Coding, Float, Word, directed, encode, folded, or_zero};
 
 // 01, or the null byte.
 fn lead(valid: bool, options: SortOptions) -> u8
@@ -30,36 +25,29 @@ fn lead(valid: bool, options: SortOptions) -> u8
     if valid { 1 } else { null }
 }
 
-// The value bytes of the number that stands at a place of the values, as a number. Folding is a branch, since a column folds all or none.
-fn key_at(
+// The value bytes of the number that stands at a place of the values, or zeros. Folding is a branch, since a column folds all or none.
+fn put_number<F: Float>(
+    rows: &mut [u8],
+    at: usize,
     values: &[u8],
     from: usize,
-    width: usize,
     coding: Coding,
     fold: bool,
     descending: bool,
-) -> u64
-    requires word_width { WordWidth width }
-    requires width_in_bounds { from + width ≤ length values.now }
-    ensures upper_bound { result < 256 ^ width }
-    ensures result_value { low_bytes width result ≡ key_bytes coding width fold descending (take width (drop from values.now)) }
+    valid: bool,
+)
+    requires from_in_bounds { from + F.SIZE ≤ length values.now }
+    requires at_in_bounds { at + F.SIZE ≤ length rows.old }
+    ensures { rows.new ≡ sets rows.old at
+        (cond valid (key_bytes coding F.SIZE fold descending (take F.SIZE (drop from values.now))) (replicate F.SIZE 0)) }
 {
-    if width == 2 {
-        let x = low16(values, from);
-        let value = if fold { folded16(true, x) } else { x };
-        return directed16(descending, encode16(coding, value)) as u64;
-    }
-    if width == 4 {
-        let x = low32(values, from);
-        let value = if fold { folded32(true, x) } else { x };
-        return directed32(descending, encode32(coding, value)) as u64;
-    }
-    let x = low64(values, from);
-    let value = if fold { folded64(true, x) } else { x };
-    directed64(descending, encode64(coding, value))
+    let x = F::low(values, from);
+    let value = if fold { folded(true, x) } else { x };
+    let word = directed(descending, encode(coding, value));
+    or_zero(valid, word).put(rows, at);
 }
 
-// The value bytes of a number, or zeros.
+// The same of so many bytes.
 fn put_word(
     rows: &mut [u8],
     at: usize,
@@ -77,8 +65,11 @@ fn put_word(
     ensures { rows.new ≡ sets rows.old at
         (cond valid (key_bytes coding width fold descending (take width (drop from values.now))) (replicate width 0)) }
 {
-    let word = key_at(values, from, width, coding, fold, descending);
-    put_number(rows, at, width, if valid { word } else { 0 });
+    match width {
+        2 => put_number::<u16>(rows, at, values, from, coding, fold, descending, valid),
+        4 => put_number::<u32>(rows, at, values, from, coding, fold, descending, valid),
+        _ => put_number::<u64>(rows, at, values, from, coding, fold, descending, valid),
+    }
 }
 
 // The value byte of a number of 8 bits, or 0.
@@ -91,14 +82,13 @@ fn put_byte(
     descending: bool,
     valid: bool,
 )
-    requires fact { coding ≡ Float → ⊥ }
     requires from_in_bounds { from + 1 ≤ length values.now }
     requires at_in_bounds { at + 1 ≤ length rows.old }
     ensures { rows.new ≡ sets rows.old at
         (cond valid (key_bytes coding 1 false descending (take 1 (drop from values.now))) (replicate 1 0)) }
 {
-    let byte = directed8(descending, encode8(coding, values[from]));
-    rows[at] = if valid { byte } else { 0 };
+    let byte = directed(descending, encode(coding, u8::low(values, from)));
+    or_zero(valid, byte).put(rows, at);
 }
 
 // Those of months, days and nanoseconds, or zeros.
@@ -116,24 +106,15 @@ fn put_interval(
         (cond valid (directed descending (parts_key (4 ∷ 4 ∷ 8 ∷ []) (take 16 (drop from values.now)))) (replicate 16 0)) }
 {
     let signed = Coding::Signed;
-    put_word(rows, at, values, from, 4, signed, false, descending, valid);
-    put_word(
-        rows,
-        at + 4,
-        values,
-        from + 4,
-        4,
-        signed,
-        false,
-        descending,
-        valid,
-    );
-    put_word(
+    put_number::<u32>(rows, at, values, from, signed, false, descending, valid);
+    let days = from + 4;
+    put_number::<u32>(rows, at + 4, values, days, signed, false, descending, valid);
+    let nanos = from + 8;
+    put_number::<u64>(
         rows,
         at + 8,
         values,
-        from + 8,
-        8,
+        nanos,
         signed,
         false,
         descending,

@@ -1,17 +1,18 @@
--- A number and its bytes, low byte first, over the count of bytes: by halves, and read from a slice. Assumes nothing.
-use Prim.Native.Nat.{ℕ, ◌+◌, ◌-◌, ◌*◌, ◌/◌, ◌%◌, ◌^◌, ◌≤◌, ◌<◌}
-use mathlib.Core.Path.{◌≡◌, sym, ap, ap₂, ◌∙◌}
-use mathlib.Core.List.{List, [], ◌∷◌, ◌++◌, reverse, reverse-append}
-use native.Mathlib.Nat.{one-le-pow, mod-lt, mod-eq_of_lt, mod-add-div, div-lt_iff_lt-mul, pow-succ', mul_comm}
+-- A number and its bytes, low byte first, over the count of bytes: in halves, as the library makes them, and of a slice. Assumes nothing.
+use Prim.Native.Nat.{ℕ, zero, suc, ◌+◌, ◌-◌, ◌*◌, ◌/◌, ◌%◌, ◌^◌, ◌≤◌, ◌<◌}
+use mathlib.Core.Path.{◌≡◌, refl, sym, ap, ap₂, ◌∙◌}
+use mathlib.Core.List.{List, [], ◌∷◌, ◌++◌, append_assoc}
+use native.Mathlib.Nat.{one-le-pow, mod-eq_of_lt, pow-succ', div-one}
 use native.Mathlib.Omega.{arith}
 use lib.Dec.{lit<}
-use lib.Pow.{pow-add}
-use lib.ListN.{length, get_or, set, take, drop, length-append, length-drop}
-use lib.Seq.{sets, drop-cons, drop-drop, take-add, take_all, length-take-le}
+use lib.Pow.{pow-add, shr-shr}
+use lib.ListN.{length, get_or, set, take, drop, replicate, length-append, length-drop}
+use lib.Seq.{sets, sets-eq, drop-cons, drop-drop, length-take-le}
+use borrow.Rule.Slice.PartMut.{put_mid}
+use Rattle.std.specs.Int.{byte_at, bytes_low_first}
 use Rattle.format.specs.Lists.{Bytes, low, low_bytes}
-use Rattle.basics.proofs.LowBytes.{length_low_bytes, bytes_low_bytes, low_low_bytes, low_bytes_low}
+use Rattle.basics.proofs.LowBytes.{length_low_bytes, bytes_low_bytes, low_low_bytes, low_bytes_low, low_small}
 use Rattle.basics.proofs.Bytes.{bytes_append, bytes_drop, bytes_of, bytes_take}
-use Rattle.basics.proofs.Append.{sets_append}
 
 -- ---- the bytes of a number
 
@@ -22,61 +23,55 @@ powers n = one-le-pow n 256 (lit< tt)
 pub spelled : (n x : ℕ) (b : List ℕ) → Bytes b → length b ≡ n → x ≡ low b → low_bytes n x ≡ b
 spelled n x b h l e = ap₂ low_bytes (sym l) e ∙ low_bytes_low b h
 
+-- those of 0
+pub zeros : (n : ℕ) → low_bytes n 0 ≡ replicate n 0
+zeros zero = refl
+zeros (suc n) = ap (λ (f : List ℕ). 0 ∷ f) (zeros n)
+
 -- ---- halves: m low bytes and n high ones
 
 pub low_append : (a b : List ℕ) → low (a ++ b) ≡ low a + 256 ^ length a * low b
 low_append [] b = omega arith
 low_append (x ∷ a) b = rw (low_append a b) (rw (pow-succ' 256 (length a)) (omega arith))
 
-module _ (m n : ℕ) where
-  -- two halves joined
-  pub join : (lo hi : ℕ) → lo < 256 ^ m → hi < 256 ^ n → low_bytes (m + n) (lo + 256 ^ m * hi) ≡ low_bytes m lo ++ low_bytes n hi
-  join lo hi p q =
-      spelled (m + n) (lo + 256 ^ m * hi) (low_bytes m lo ++ low_bytes n hi)
-      (bytes_append (low_bytes m lo) (low_bytes n hi) (bytes_low_bytes m lo) (bytes_low_bytes n hi))
-      (length-append (low_bytes m lo) (low_bytes n hi) ∙ ap₂ ◌+◌ (length_low_bytes m lo) (length_low_bytes n hi))
-      (sym (low_append (low_bytes m lo) (low_bytes n hi)
-      ∙ rw (length_low_bytes m lo) (ap₂ (λ (y z : ℕ). y + 256 ^ m * z) (low_low_bytes m lo p) (low_low_bytes n hi q))))
+-- two halves joined
+pub join : (m n lo hi : ℕ) → lo < 256 ^ m → hi < 256 ^ n → low_bytes (m + n) (lo + 256 ^ m * hi) ≡ low_bytes m lo ++ low_bytes n hi
+join m n lo hi p q =
+    spelled (m + n) (lo + 256 ^ m * hi) (low_bytes m lo ++ low_bytes n hi)
+    (bytes_append (low_bytes m lo) (low_bytes n hi) (bytes_low_bytes m lo) (bytes_low_bytes n hi))
+    (length-append (low_bytes m lo) (low_bytes n hi) ∙ ap₂ ◌+◌ (length_low_bytes m lo) (length_low_bytes n hi))
+    (sym (low_append (low_bytes m lo) (low_bytes n hi)
+    ∙ rw (length_low_bytes m lo) (ap₂ (λ (y z : ℕ). y + 256 ^ m * z) (low_low_bytes m lo p) (low_low_bytes n hi q))))
 
-  -- and taken apart
-  pub halves : (x : ℕ) → x < 256 ^ (m + n) → low_bytes (m + n) x ≡ low_bytes m (x % 256 ^ m) ++ low_bytes n (x / 256 ^ m)
-  halves x h =
-      ap (low_bytes (m + n)) (sym (mod-add-div x (256 ^ m)))
-      ∙ join (x % 256 ^ m) (x / 256 ^ m) (mod-lt x (powers m))
-      ((div-lt_iff_lt-mul (powers m)).1 (rw (pow-add 256 m n, mul_comm (256 ^ m) (256 ^ n)) at h))
+-- ---- the bytes that the library makes of a number, and where they are written
 
-  -- read by halves
-  pub read : (l : List ℕ) (at x lo hi : ℕ) → at + m ≤ length l → x ≡ lo + 256 ^ m * hi
-      → lo ≡ low (take m (drop at l)) → hi ≡ low (take n (drop (at + m) l)) → x ≡ low (take (m + n) (drop at l))
-  read l at x lo hi h e p q =
-      let k : length (take m (drop at l)) ≡ m = length-take-le m (drop at l) (rw (length-drop at l) (omega arith)) in
-      e ∙ sym (ap low (take-add m n (drop at l)) ∙ low_append (take m (drop at l)) (take n (drop m (drop at l)))
-      ∙ rw (k, drop-drop, ← p, ← q))
+pub pow_bytes : (n : ℕ) → 256 ^ n ≡ 2 ^ (8 * n)
+pow_bytes zero = refl
+pow_bytes (suc n) =
+    pow-succ' 256 n ∙ ap (λ (k : ℕ). 256 * k) (pow_bytes n) ∙ sym (pow-add 2 8 (8 * n))
+    ∙ ap (λ (k : ℕ). 2 ^ k) {x = 8 + 8 * n} {y = 8 * suc n} (omega arith)
 
-  -- and from the front of what stands from the place on
-  pub read_rest : (l : List ℕ) (at x lo hi : ℕ) → at + m ≤ length l → x ≡ lo + 256 ^ m * hi
-      → lo ≡ low (take m (take (length l - at) (drop at l))) → hi ≡ low (take n (drop m (take (length l - at) (drop at l))))
-      → x ≡ low (take (m + n) (drop at l))
-  read_rest l at x lo hi h e p q =
-      let rest = take_all (length l - at) (drop at l) (omega (arith, length-drop at l)) in
-      read l at x lo hi h e (p ∙ ap (λ (t : List ℕ). low (take m t)) rest)
-      (q ∙ ap (λ (t : List ℕ). low (take n (drop m t))) rest ∙ ap (λ (t : List ℕ). low (take n t)) (drop-drop m at l))
+byte_is : (i x : ℕ) → byte_at i x ≡ x / 2 ^ (8 * i) % 256
+byte_is zero x = ap (λ (k : ℕ). k % 256) (sym (div-one x))
+byte_is (suc i) x = ap (λ (k : ℕ). x / k % 256) (pow_bytes (suc i))
 
-  -- stored by halves
-  pub stored : (l k o : List ℕ) (at x : ℕ) → x < 256 ^ (m + n)
-      → k ≡ sets l at (low_bytes m (x % 256 ^ m)) → o ≡ sets k (at + m) (low_bytes n (x / 256 ^ m)) → o ≡ sets l at (low_bytes (m + n) x)
-  stored l k o at x h p q =
-      q ∙ ap (λ (e : List ℕ). sets e (at + m) (low_bytes n (x / 256 ^ m))) p
-      ∙ sym (ap (sets l at) (halves x h) ∙ sets_append (low_bytes m (x % 256 ^ m)) (low_bytes n (x / 256 ^ m)) l at
-      ∙ rw (length_low_bytes m (x % 256 ^ m)))
+bytes_from : (k i x : ℕ) → bytes_low_first i k x ≡ low_bytes k (x / 2 ^ (8 * i))
+bytes_from zero i x = refl
+bytes_from (suc k) i x =
+    ap₂ (λ (b : ℕ) (f : List ℕ). b ∷ f) (byte_is i x)
+    (bytes_from k (suc i) x
+    ∙ ap (low_bytes k) (ap (λ (j : ℕ). x / 2 ^ j) {x = 8 * suc i} {y = 8 * i + 8} (omega arith) ∙ sym (shr-shr x (8 * i) 8)))
 
--- the bytes turned round: each half is, and they change places
-pub swapped : (m x y lo hi : ℕ) → x < 256 ^ (m + m) → lo < 256 ^ m → hi < 256 ^ m → y ≡ lo + 256 ^ m * hi
-    → low_bytes m lo ≡ reverse (low_bytes m (x / 256 ^ m)) → low_bytes m hi ≡ reverse (low_bytes m (x % 256 ^ m))
-    → low_bytes (m + m) y ≡ reverse (low_bytes (m + m) x)
-swapped m x y lo hi h p q e f g =
-    ap (low_bytes (m + m)) e ∙ join m m lo hi p q ∙ ap₂ (λ (a b : List ℕ). a ++ b) f g
-    ∙ sym (ap reverse (halves m m x h) ∙ reverse-append (low_bytes m (x % 256 ^ m)) (low_bytes m (x / 256 ^ m)))
+-- written over the n bytes that stood there
+pub written : (n at x : ℕ) (l : List ℕ) {b : List ℕ} → b ≡ bytes_low_first 0 n x → at + n ≤ length l
+    → put_mid at (at + n - at) l b ≡ sets l at (low_bytes n x)
+written n at x l e h =
+    let k = length_low_bytes n x in
+    ap (put_mid at (at + n - at) l) (e ∙ bytes_from n 0 x ∙ ap (low_bytes n) (div-one x))
+    ∙ ap (λ (m : ℕ). put_mid at m l (low_bytes n x)) {x = at + n - at} {y = length (low_bytes n x)} (omega (arith, k))
+    ∙ ap (λ (r : List ℕ). take at l ++ (low_bytes n x ++ r)) (drop-drop (length (low_bytes n x)) at l)
+    ∙ sym (append_assoc (take at l) (low_bytes n x) (drop (at + length (low_bytes n x)) l))
+    ∙ sym (sets-eq (low_bytes n x) l at (omega (arith, k, h)))
 
 -- ---- bytes of a slice
 
@@ -90,6 +85,13 @@ pub read_back : (n : ℕ) (l : List ℕ) (at x : ℕ) → ((i : ℕ) → get_or 
 read_back n l at x b h e =
     spelled n x (take n (drop at l)) (bytes_take n (drop at l) (bytes_drop at l (bytes_of l b)))
     (length-take-le n (drop at l) (rw (length-drop at l) (omega arith))) e
+
+-- and it is a number that as many bytes can spell
+pub read_fits : (n : ℕ) (l : List ℕ) (at x : ℕ) → ((i : ℕ) → get_or l i 0 < 256) → at + n ≤ length l → x ≡ low (take n (drop at l)) → x < 256 ^ n
+read_fits n l at x b h e =
+    rw e
+    (rw (length-take-le n (drop at l) (rw (length-drop at l) (omega arith)))
+    at (low_small (take n (drop at l)) (bytes_take n (drop at l) (bytes_drop at l (bytes_of l b)))))
 
 pub byte_back : (l : List ℕ) (at : ℕ) → ((i : ℕ) → get_or l i 0 < 256) → at + 1 ≤ length l → low_bytes 1 (get_or l at 0) ≡ take 1 (drop at l)
 byte_back l at b h = read_back 1 l at (get_or l at 0) b h (byte l at (omega arith))

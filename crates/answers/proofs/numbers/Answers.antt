@@ -3,8 +3,8 @@ use mathlib.Core.Path.{ap, sym, ◌∙◌}
 use Rattle.format.specs.Numbers.{numbers_of}
 use Rattle.answers.proofs.numbers.Goals as goal
 
-pub returns-in-Done : goal.returns-in-Done
-returns-in-Done c = sym (ap numbers_of c.in-Done.is)
+pub returns-in-Ok : goal.returns-in-Ok
+returns-in-Ok c = sym (ap numbers_of c.in-Ok.is)
 
-pub returns-in-Refused : goal.returns-in-Refused
-returns-in-Refused c = c.refusal_numbers.ensures ∙ sym (ap numbers_of c.in-Refused.is)
+pub returns-in-Err : goal.returns-in-Err
+returns-in-Err c = c.refusal_numbers.ensures ∙ sym (ap numbers_of c.in-Err.is)

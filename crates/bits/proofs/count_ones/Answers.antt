@@ -17,15 +17,15 @@ end : (s : List ℕ) (i : ℕ) → i ≡ length s → ones_in (drop i s) ≡ 0
 end s i e = rw (e, drop-length s)
 
 pub overflow_cast-n : goal.overflow_cast-n
-overflow_cast-n c = omega (arith, ones-le 8 _ (c.type_inv.s c.loop-i.i).fits)
+overflow_cast-n c = omega (arith, ones-le 8 _ (c.type_inv.s c.loop-byte.byte-index).fits)
 
 pub overflow_add-n : goal.overflow_add-n
-overflow_add-n c = omega (arith, ones-le 8 _ (c.type_inv.s c.loop-i.i).fits)
+overflow_add-n c = omega (arith, ones-le 8 _ (c.type_inv.s c.loop-byte.byte-index).fits)
 
-pub loop-i-preserved : goal.loop-i-preserved
-loop-i-preserved c =
-    let few = ones-le 8 _ (c.type_inv.s c.loop-i.i).fits in
-    (omega arith, omega (arith, next c.args.s.now c.loop-i.i (omega arith)), omega arith)
+pub loop-byte-preserved : goal.loop-byte-preserved
+loop-byte-preserved c =
+    let few = ones-le 8 _ (c.type_inv.s c.loop-byte.byte-index).fits in
+    (omega (arith, next c.args.s.now c.loop-byte.byte-index (omega arith)), omega arith)
 
 pub returns : goal.returns
-returns c = let none = end c.args.s.now c.loop-i.i (omega arith) in record { value = omega arith; upper_bound = omega arith }
+returns c = let none = end c.args.s.now c.loop-byte.byte-index (omega arith) in record { value = omega arith; upper_bound = omega arith }

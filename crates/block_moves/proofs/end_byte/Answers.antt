@@ -1,8 +1,7 @@
 -- `block_moves::end_byte` meets its contract: each answer by the tests before it. Assumes nothing.
-use Prim.Native.Nat.{ℕ, ◌+◌, ◌-◌, ◌/◌, ◌^◌, ◌≤◌}
-use mathlib.Core.Path.{◌≡◌, ap, sym, ◌∙◌}
+use Prim.Native.Nat.{ℕ, ◌/◌, ◌^◌}
+use mathlib.Core.Path.{ap, sym, ◌∙◌}
 use native.Mathlib.Omega.{arith}
-use Rattle.format.specs.Field.{block_size}
 use Rattle.format.specs.Cutter.{lowest}
 use Rattle.cutter_laws.proofs.RuleMoves.{size_most}
 use Rattle.block_moves.proofs.Marks.{block_numbers, end_long, end_more, end_none, end_past, end_padded, end_over, end_whole}

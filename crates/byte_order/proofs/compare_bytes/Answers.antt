@@ -21,8 +21,8 @@ pub loop-i-preserved : goal.loop-i-preserved
 loop-i-preserved c =
     (bytes_decide c.loop-i.invariant (λ k. (c.type_inv.a k).fits) (λ k. (c.type_inv.b k).fits) (omega arith) (omega arith)).next (omega arith)
 
-pub returns-then-i-m : goal.returns-then-i-m
-returns-then-i-m c = a_ends c.loop-i.invariant c.loop-i-test.false c.if-i-m.true
+pub returns-then-a-m : goal.returns-then-a-m
+returns-then-a-m c = a_ends c.loop-i.invariant c.loop-i-test.false (omega arith)
 
 pub returns : goal.returns
-returns c = both_end c.loop-i.invariant c.loop-i-test.false c.if-i-m.false
+returns c = both_end c.loop-i.invariant c.loop-i-test.false (omega arith)

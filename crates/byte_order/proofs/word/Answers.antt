@@ -6,6 +6,6 @@ use Rattle.byte_order.proofs.word.Goals as goal
 
 pub returns : goal.returns
 returns c =
-    c.encode64.ensures
+    c.encode.ensures
     ∙ ap reverse
-    (read_back 8 c.args.s.now c.args.at c.low64.result (λ i. (c.type_inv.s i).fits) c.requires c.low64.ensures)
+    (read_back 8 c.args.s.now c.args.at c.low.result (λ i. (c.type_inv.s i).fits) c.requires c.low.ensures)

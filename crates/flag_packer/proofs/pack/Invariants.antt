@@ -1,13 +1,9 @@
--- `flag_packer::pack` meets its contract. The invariant: the flags before `base` are packed. Assumes nothing.
-use Prim.Native.Nat.{◌-◌}
-use lib.ListN.{length}
+-- `flag_packer::pack` meets its contract. The invariant: the flags of k bytes are packed. Assumes nothing.
+use Prim.Native.Nat.{◌+◌, ◌*◌}
 use Rattle.flag_packer.specs.Flags.{flag_at}
 use Rattle.flag_packer.proofs.Packing.{Packing}
 use Rattle.flag_packer.proofs.pack.Given as goal
 
-abbrev pub invariant-loop-base : goal.invariant-loop-base
-invariant-loop-base l =
-    Packing (flag_at l.which l.column l.rows) l.cursors l.initial.sheet l.at l.sheet l.place l.base
-
-abbrev pub decreases-loop-base : goal.decreases-loop-base
-decreases-loop-base l = length l.cursors - l.base
+abbrev pub invariant-loop-k : goal.invariant-loop-k
+invariant-loop-k l =
+    Packing (flag_at l.which l.column l.rows) l.cursors l.initial.sheet l.at l.sheet (l.at + l.k) (8 * l.k)

@@ -5,4 +5,4 @@ use Rattle.lent_bytes.proofs.put_answer.Goals as goal
 pub returns : goal.returns
 returns c =
     four_stored c.numbers-numbers.result _ c.args.lent.now _ _ _ _ c.numbers-numbers.ensures c.requires
-    c.put64.ensures c.put64-2.ensures c.put64-3.ensures c.put64-4.ensures
+    c.put.ensures c.put-2.ensures c.put-3.ensures c.put-4.ensures

@@ -1,6 +1,3 @@
-use Prim.Native.Nat.{◌+◌, ◌-◌, ◌*◌, ◌≤◌}
-use native.Mathlib.Omega.{arith}
-use lib.ListN.{length}
 use Rattle.basics.proofs.Append.{turns_begin}
 use Rattle.lent_bytes.proofs.NumberBytes.{stored_more, stored_end}
 use Rattle.lent_bytes.proofs.write_offsets.Goals as goal
@@ -10,7 +7,7 @@ loop-i-init c = turns_begin _ _ _ 0
 
 pub loop-i-preserved : goal.loop-i-preserved
 loop-i-preserved c =
-    stored_more c.args.numbers.now _ _ _ _ c.loop-i.invariant c.loop-i-test.true c.put64.ensures
+    stored_more c.args.numbers.now _ _ _ _ c.loop-i.invariant c.loop-i-test.true c.put.ensures
 
 pub returns : goal.returns
 returns c =

@@ -1,12 +1,6 @@
--- `lent_bytes::write_offsets` meets its contract. The invariant: the first i numbers are stored. The measure is the numbers
--- left. Assumes nothing.
-use Prim.Native.Nat.{◌-◌}
-use lib.ListN.{length}
+-- `lent_bytes::write_offsets` meets its contract. The invariant: the first i numbers are stored. Assumes nothing.
 use Rattle.lent_bytes.proofs.NumberBytes.{Stored}
 use Rattle.lent_bytes.proofs.write_offsets.Given as goal
 
 abbrev pub invariant-loop-i : goal.invariant-loop-i
 invariant-loop-i l = Stored l.numbers l.initial.offsets l.offsets l.i
-
-abbrev pub decreases-loop-i : goal.decreases-loop-i
-decreases-loop-i l = length l.numbers - l.i

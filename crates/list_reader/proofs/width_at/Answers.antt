@@ -21,4 +21,4 @@ bounds-list-at-3 c = omega (arith, bytes_wide _ c.if-list-at-ne15.false)
 pub returns : goal.returns
 returns c =
     let a = c.args in
-    omega (arith, width_wide a.list.now a.at c.if-list-at-ne15.false)
+    omega (arith, width_wide a.list.now a.at c.if-list-at-ne15.false, c.from_le_bytes.ensures)

@@ -1,41 +1,41 @@
 -- `measurer::measure_batch` meets its contract: each way out is that of the checks that led there. Assumes nothing.
-use mathlib.Core.Path.{sym, ◌∙◌}
-use Rattle.checks.specs.Begun.{Begun}
+use mathlib.Core.Path.{sym, ap, ◌∙◌}
+use Rattle.std.proofs.lemmas.Result.{err_from_is_err_and}
+use Rattle.format.specs.Check.{verdict}
+use Rattle.checks.proofs.Begun.{begun_sound}
 use Rattle.measurer.proofs.Batches.{bad_begin, bad_sheet, measured}
 use Rattle.measurer.proofs.measure_batch.Goals as goal
 
-pub returns-in-Refuse : goal.returns-in-Refuse
-returns-in-Refuse c =
-    let begun = c.begin-begun in
-    λ list l. bad_begin list _ _ begun.result (begun.ensures list l) _ _ c.in-Refuse.is c.refused.ensures
-
-pub check_sheet-sheeted-requires : goal.check_sheet-sheeted-requires
-check_sheet-sheeted-requires c =
-    let begun = c.begin-begun.ensures c.requires.list c.requires.says in
-    record { n_le_max_rows = begun.few c.in_default.is; limited = (begun.sound c.in_default.is).limited }
-
-pub returns-in-Refuse-check : goal.returns-in-Refuse-check
-returns-in-Refuse-check c =
-    let begun = c.begin-begun in
+pub returns-in_err-schema : goal.returns-in_err-schema
+returns-in_err-schema c =
+    let p = err_from_is_err_and c.from_residual.result c.from_residual.ensures.1 in
     λ list l.
-    bad_sheet list _ _ begun.result (begun.ensures list l) c.in_default.is _ c.check_sheet-sheeted.ensures _ _
-    c.in-Refuse-check.is c.refused-in-Refuse-check.ensures
+    rw (p.1, p.2) (bad_begin list _ _ _ (c.begin.ensures list l) _ c.in_err-schema.was)
+
+pub check_sheet-requires : goal.check_sheet-requires
+check_sheet-requires c =
+    let sound = begun_sound c.requires.list _ _ (c.begin.ensures c.requires.list c.requires.says) _ c.in_ok-schema.was in
+    record { n_le_max_rows = sound.1; limited = sound.0.limited }
+
+pub returns-in_err-sheeted : goal.returns-in_err-sheeted
+returns-in_err-sheeted c =
+    let p = err_from_is_err_and c.from_residual-in_err-sheeted.result c.from_residual-in_err-sheeted.ensures.1 in
+    λ list l.
+    rw (p.1, p.2) (bad_sheet list _ _ _ (c.begin.ensures list l) _ c.in_ok-schema.was _ c.check_sheet.ensures _ c.in_err-sheeted.was)
 
 -- ---- the sheet passes
 pub measure_sheet-total-requires : goal.measure_sheet-total-requires
 measure_sheet-total-requires c =
-    let begun = c.begin-begun.ensures c.requires.list c.requires.says in
-    let whole = sym c.check_sheet-sheeted.ensures.check ∙ c.in_default-check.is in
+    let sound = begun_sound c.requires.list _ _ (c.begin.ensures c.requires.list c.requires.says) _ c.in_ok-schema.was in
     record {
-      n_le_max_rows = begun.few c.in_default.is;
-      limited = (begun.sound c.in_default.is).limited;
-      sheet_value = whole;
-      known = c.check_sheet-sheeted.ensures.facts whole;
+      n_le_max_rows = sound.1;
+      limited = sound.0.limited;
+      sheet_value = sym c.check_sheet.ensures.check ∙ ap verdict c.in_ok-sheeted.was;
+      known = c.check_sheet.ensures.facts _ c.in_ok-sheeted.was;
     }
 
 pub returns : goal.returns
 returns c =
-    let begun = c.begin-begun in
     λ list l.
-    measured list _ _ begun.result (begun.ensures list l) c.in_default.is _ c.check_sheet-sheeted.ensures
-    c.in_default-check.is _ c.measure_sheet-total.ensures
+    measured list _ _ _ (c.begin.ensures list l) _ c.in_ok-schema.was _ c.check_sheet.ensures _ c.in_ok-sheeted.was
+    _ c.measure_sheet-total.ensures

@@ -27,5 +27,5 @@ returns c =
     let d = A.options.descending in
     let led = set A.out.now A.at 1 in
     lead_run A.out.now A.at 1 (directed d (bool_byte A.val)) led _ _ refl
-    (byte_set led (A.at + 1) _ c.directed8.type_inv ∙ ap (sets led (A.at + 1)) (c.directed8.ensures ∙ ap (directed d) (number_is A.val)))
+    (byte_set led (A.at + 1) _ c.directed.type_inv ∙ ap (sets led (A.at + 1)) (c.directed.ensures ∙ ap (directed d) (number_is A.val)))
     (omega (arith, length_directed d (bool_byte A.val)))

@@ -27,18 +27,18 @@ module _ (a b : List ℕ) (i j : ℕ) (ia : i * 8 + 8 ≤ length a) (jb : j * 8 
 pub returns-then-days-ne-EQUAL : goal.returns-then-days-ne-EQUAL
 returns-then-days-ne-EQUAL c =
     let A = c.args in
-    record { says = found_differs _ _ (days A.a.now A.b.now A.i A.j c.requires.0 c.requires.1 c.order32-days.ensures) c.if-days-ne-EQUAL.true }
+    record { says = found_differs _ _ (days A.a.now A.b.now A.i A.j c.requires.0 c.requires.1 c.order_number-days.ensures) c.if-days-ne-EQUAL.true }
 
 pub returns : goal.returns
 returns c =
     let A = c.args in
     let a = A.a.now in
     let b = A.b.now in
-    let f = days a b A.i A.j c.requires.0 c.requires.1 c.order32-days.ensures in
+    let f = days a b A.i A.j c.requires.0 c.requires.1 c.order_number-days.ensures in
     record {
       says =
           found_last _ _
           (parts_more a b 8 (A.i * 8) (A.j * 8) c.requires.0 c.requires.1 4 4 [] ((A.i * 2 + 1) * 4) ((A.j * 2 + 1) * 4)
-          (omega arith) (omega arith) (omega arith) _ f c.if-days-ne-EQUAL.false c.order32.ensures)
+          (omega arith) (omega arith) (omega arith) _ f c.if-days-ne-EQUAL.false c.order_number.ensures)
           refl;
     }

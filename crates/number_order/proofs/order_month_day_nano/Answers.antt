@@ -35,15 +35,15 @@ module _ (a b : List ℕ) (i j : ℕ) (ia : i * 16 + 16 ≤ length a) (jb : j * 
 pub returns-then-months-ne-EQUAL : goal.returns-then-months-ne-EQUAL
 returns-then-months-ne-EQUAL c =
     let A = c.args in
-    record { says = found_differs _ _ (months A.a.now A.b.now A.i A.j c.requires.0 c.requires.1 c.order32-months.ensures) c.if-months-ne-EQUAL.true }
+    record { says = found_differs _ _ (months A.a.now A.b.now A.i A.j c.requires.0 c.requires.1 c.order_number-months.ensures) c.if-months-ne-EQUAL.true }
 
 pub returns-then-days-ne-EQUAL : goal.returns-then-days-ne-EQUAL
 returns-then-days-ne-EQUAL c =
     let A = c.args in
-    let f = months A.a.now A.b.now A.i A.j c.requires.0 c.requires.1 c.order32-months.ensures in
+    let f = months A.a.now A.b.now A.i A.j c.requires.0 c.requires.1 c.order_number-months.ensures in
     record {
       says =
-          found_differs _ _ (days A.a.now A.b.now A.i A.j c.requires.0 c.requires.1 f c.if-months-ne-EQUAL.false c.order32-days.ensures)
+          found_differs _ _ (days A.a.now A.b.now A.i A.j c.requires.0 c.requires.1 f c.if-months-ne-EQUAL.false c.order_number-days.ensures)
           c.if-days-ne-EQUAL.true;
     }
 
@@ -52,12 +52,12 @@ returns c =
     let A = c.args in
     let a = A.a.now in
     let b = A.b.now in
-    let f = months a b A.i A.j c.requires.0 c.requires.1 c.order32-months.ensures in
-    let g = days a b A.i A.j c.requires.0 c.requires.1 f c.if-months-ne-EQUAL.false c.order32-days.ensures in
+    let f = months a b A.i A.j c.requires.0 c.requires.1 c.order_number-months.ensures in
+    let g = days a b A.i A.j c.requires.0 c.requires.1 f c.if-months-ne-EQUAL.false c.order_number-days.ensures in
     record {
       says =
           found_last _ _
           (parts_more a b 16 (A.i * 16) (A.j * 16) c.requires.0 c.requires.1 8 8 [] ((A.i * 2 + 1) * 8) ((A.j * 2 + 1) * 8)
-          (omega arith) (omega arith) (omega arith) _ g c.if-days-ne-EQUAL.false c.order64.ensures)
+          (omega arith) (omega arith) (omega arith) _ g c.if-days-ne-EQUAL.false c.order_number.ensures)
           refl;
     }

@@ -4,6 +4,3 @@ use Rattle.number_reader.proofs.take_words.Given as goal
 
 abbrev pub invariant-loop-left : goal.invariant-loop-left
 invariant-loop-left l = Left l.descending l.row l.from l.words l.initial.out l.at l.out l.left l.place
-
-abbrev pub decreases-loop-left : goal.decreases-loop-left
-decreases-loop-left l = l.left

@@ -1,7 +1,5 @@
-use Prim.Native.Nat.{◌-◌}
 use mathlib.Core.Path.{◌≡◌}
-use native.Mathlib.Omega.{arith}
-use Rattle.format.specs.declared.Check.TheVariants.{Pass}
+use Rattle.std.specs.declared.result.Result.TheVariants.{Ok}
 use Rattle.format.specs.Entries.{fall_fault}
 use Rattle.offsets.proofs.Falls.{begins, falls, rises, risen, few, late, fell, past, heavy, sound}
 use Rattle.offsets.proofs.check_offsets.Goals.{After-loop-i}
@@ -18,21 +16,21 @@ returns-then-offsets-ne0 c =
     late A.n A.rows.now A.offsets.now c.if-offsets-n.false c.if-offsets-ne0.true
 
 pub loop-i-init : goal.loop-i-init
-loop-i-init c = (omega arith, begins _ _)
+loop-i-init c = begins _ _
 
 pub returns-then-offsets-i : goal.returns-then-offsets-i
 returns-then-offsets-i c =
     let A = c.args in
     fell A.n A.rows.now A.offsets.now c.if-offsets-n.false c.if-offsets-ne0.false _
-    (falls A.n A.offsets.now _ c.loop-i.invariant.1 c.loop-i-test.true c.if-offsets-i.true)
+    (falls A.n A.offsets.now _ c.loop-i.invariant c.loop-i-test.true c.if-offsets-i.true)
 
 pub loop-i-preserved : goal.loop-i-preserved
 loop-i-preserved c =
     let A = c.args in
-    (omega arith, rises A.n A.offsets.now _ c.loop-i.invariant.1 c.loop-i-test.true c.if-offsets-i.false)
+    rises A.n A.offsets.now _ c.loop-i.invariant c.loop-i-test.true c.if-offsets-i.false
 
-rose : (c : After-loop-i) → fall_fault c.args.offsets.now 0 c.args.n ≡ Pass
-rose c = risen c.args.n c.args.offsets.now _ c.loop-i.invariant.1 c.loop-i-test.false
+rose : (c : After-loop-i) → fall_fault c.args.offsets.now 0 c.args.n ≡ Ok tt
+rose c = risen c.args.n c.args.offsets.now _ c.loop-i.invariant c.loop-i-test.false
 
 pub returns-then-rows-last : goal.returns-then-rows-last
 returns-then-rows-last c =

@@ -1,11 +1,7 @@
 -- `offsets::check_offsets` meets its contract. The loop's invariant: the offsets from `i` on fall where all of them do.
 -- Assumes nothing.
-use Prim.Native.Nat.{◌-◌, ◌≤◌}
 use Rattle.offsets.proofs.Falls.{Falls}
 use Rattle.offsets.proofs.check_offsets.Given as goal
 
 abbrev pub invariant-loop-i : goal.invariant-loop-i
-invariant-loop-i l = (l.i ≤ l.n) × Falls l.n l.offsets l.i
-
-abbrev pub decreases-loop-i : goal.decreases-loop-i
-decreases-loop-i l = l.n - l.i
+invariant-loop-i l = Falls l.n l.offsets l.i

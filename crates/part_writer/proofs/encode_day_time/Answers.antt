@@ -13,7 +13,7 @@ returns c =
     let d = A.descending in
     let s = A.values.now in
     let from = A.from in
-    let one = parts_more d s 4 (4 ∷ []) 8 from (from + 4) (omega arith) refl (walk_start (keyed d s (4 ∷ 4 ∷ []) 8 from) A.out.now A.at) c.put_number32.ensures in
+    let one = parts_more d s 4 (4 ∷ []) 8 from (from + 4) (omega arith) refl (walk_start (keyed d s (4 ∷ 4 ∷ []) 8 from) A.out.now A.at) c.put_number.ensures in
     let both = parts_more d s 4 [] 4 (from + 4) (from + 8) (omega arith) (omega arith)
-    (walk_at (A.at + 4) one (part_place d s 4 from A.at (omega arith) c.put_number32.ensures.place)) c.put_number32-2.ensures in
+    (walk_at (A.at + 4) one (part_place d s 4 from A.at (omega arith) c.put_number.ensures.place)) c.put_number-2.ensures in
     parts_end d s 0 (from + 8) both

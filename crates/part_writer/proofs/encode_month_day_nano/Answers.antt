@@ -14,9 +14,9 @@ returns c =
     let s = A.values.now in
     let from = A.from in
     let whole = walk_start (keyed d s (4 ∷ 4 ∷ 8 ∷ []) 16 from) A.out.now A.at in
-    let one = parts_more d s 4 (4 ∷ 8 ∷ []) 16 from (from + 4) (omega arith) refl whole c.put_number32.ensures in
+    let one = parts_more d s 4 (4 ∷ 8 ∷ []) 16 from (from + 4) (omega arith) refl whole c.put_number.ensures in
     let two = parts_more d s 4 (8 ∷ []) 12 (from + 4) (from + 8) (omega arith) (omega arith)
-    (walk_at (A.at + 4) one (part_place d s 4 from A.at (omega arith) c.put_number32.ensures.place)) c.put_number32-2.ensures in
+    (walk_at (A.at + 4) one (part_place d s 4 from A.at (omega arith) c.put_number.ensures.place)) c.put_number-2.ensures in
     let three = parts_more d s 8 [] 8 (from + 8) (from + 16) (omega arith) (omega arith)
-    (walk_at (A.at + 8) two (omega (arith, part_place d s 4 (from + 4) (A.at + 4) (omega arith) c.put_number32-2.ensures.place))) c.put_number64.ensures in
+    (walk_at (A.at + 8) two (omega (arith, part_place d s 4 (from + 4) (A.at + 4) (omega arith) c.put_number-2.ensures.place))) c.put_number-3.ensures in
     parts_end d s 0 (from + 16) three

@@ -11,7 +11,7 @@ loop-i-preserved-then-to-i-ge8 c =
       omega arith,
       λ e.
           let p = and_true _ _ e in
-          clear_word (inv.2 p.0) 8 c.low64.result (omega arith) c.low64.ensures (eqb-true _ 0 p.1),
+          clear_word (inv.2 p.0) 8 c.low.result (omega arith) c.low.ensures (eqb-true _ 0 p.1),
     )
 
 pub loop-i-preserved-then-to-i-ge4 : goal.loop-i-preserved-then-to-i-ge4
@@ -21,7 +21,7 @@ loop-i-preserved-then-to-i-ge4 c =
       omega arith,
       λ e.
           let p = and_true _ _ e in
-          clear_word (inv.2 p.0) 4 c.low32.result (omega arith) c.low32.ensures (eqb-true _ 0 p.1),
+          clear_word (inv.2 p.0) 4 c.low-then-to-i-ge4.result (omega arith) c.low-then-to-i-ge4.ensures (eqb-true _ 0 p.1),
     )
 
 pub loop-i-preserved : goal.loop-i-preserved

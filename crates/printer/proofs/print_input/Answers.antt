@@ -16,9 +16,9 @@ returns-then-input-lt2 c =
 
 pub returns-then-input-sheet_start : goal.returns-then-input-sheet_start
 returns-then-input-sheet_start c =
-    wrote_as c.put_refused-then-input-sheet_start.ensures (list_output _ c.if-input-gt-INPUT_ROOM.false (omega arith) _ c.low16.ensures (omega arith))
+    wrote_as c.put_refused-then-input-sheet_start.ensures (list_output _ c.if-input-gt-INPUT_ROOM.false (omega arith) _ c.low.ensures (omega arith))
 
 pub returns : goal.returns
 returns c =
     wrote_as c.print_sheet.ensures
-    (sheet_output _ c.if-input-gt-INPUT_ROOM.false (omega arith) _ c.low16.ensures (omega arith) _ c.low16-n.ensures)
+    (sheet_output _ c.if-input-gt-INPUT_ROOM.false (omega arith) _ c.low.ensures (omega arith) _ c.low-n.ensures)

@@ -28,12 +28,12 @@ moved p g m a w = rw (p, g, m, a) w
 cut : (rows : List ℕ) → ((i : ℕ) → get_or rows i 0 < 256) → (from to : ℕ) → Bytes (take (to - from) (drop from rows))
 cut rows known from to = bytes_take (to - from) (drop from rows) (bytes_drop from rows (bytes_of rows known))
 
-pub rows-init : goal.rows-init
-rows-init c = (begins _ _ _, c.plain_lengths-lengths.ensures)
+pub loop-r-init : goal.loop-r-init
+loop-r-init c = (begins _ _ _, c.plain_lengths-lengths.ensures)
 
 pub overflow_add-more : goal.overflow_add-more
 overflow_add-more c =
-    let row = cut c.args.rows.now (λ i. (c.type_inv.rows i).fits) (get_or c.args.offsets.now c.rows.r 0) (get_or c.args.offsets.now (c.rows.r + 1) 0) in
+    let row = cut c.args.rows.now (λ i. (c.type_inv.rows i).fits) (get_or c.args.offsets.now c.loop-r.r 0) (get_or c.args.offsets.now (c.loop-r.r + 1) 0) in
     let few = c.requires.limited.few in
     let next = past_counted c.well_formed.0 few c.loop-c.invariant c.loop-c-test.true row c.count_field-field.result.field
     c.count_field-field.result.value (c.count_field-field.ensures (omega (arith, c.if-field-eq0.false))) in
@@ -41,7 +41,7 @@ overflow_add-more c =
 
 pub loop-c-preserved : goal.loop-c-preserved
 loop-c-preserved c =
-    let row = cut c.args.rows.now (λ i. (c.type_inv.rows i).fits) (get_or c.args.offsets.now c.rows.r 0) (get_or c.args.offsets.now (c.rows.r + 1) 0) in
+    let row = cut c.args.rows.now (λ i. (c.type_inv.rows i).fits) (get_or c.args.offsets.now c.loop-r.r 0) (get_or c.args.offsets.now (c.loop-r.r + 1) 0) in
     let few = c.requires.limited.few in
     let inv = c.loop-c.invariant in
     let h = c.loop-c-test.true in
@@ -60,12 +60,12 @@ loop-c-preserved c =
           (past_counted c.well_formed.0 few inv h row _ _ (w.count_field-field.ensures (omega (arith, w.if-field-eq0.false))))
     ]
 
-pub rows-preserved : goal.rows-preserved
-rows-preserved c =
+pub loop-r-preserved : goal.loop-r-preserved
+loop-r-preserved c =
     let few = c.requires.limited.few in
     let inv = c.loop-c.invariant in
     let w = whole (inv.says c.if-not-good.false) (omega (arith, in_use c.args.schema c.well_formed.0 few, c.loop-c-test.false)) c.if-at-row.false in
-    let row : InRow (cols_of c.args.schema) (row_bytes c.args.rows.now c.args.offsets.now) c.args.n c.rows.bytes c.rows.r
-    (take (get_or c.args.offsets.now (c.rows.r + 1) 0 - get_or c.args.offsets.now c.rows.r 0) (drop (get_or c.args.offsets.now c.rows.r 0) c.args.rows.now))
-    = record { most = c.requires.n_le_max_rows; inside = c.rows-test.true; head = c.rows.invariant.0; is = rw add-one } in
-    (passed row (c.rows.bytes + c.loop-c.more) (w.passes c.rows.r) (omega (arith, w.adds)) (omega (arith, inv.small, inv.inside, few)), inv.ready)
+    let row : InRow (cols_of c.args.schema) (row_bytes c.args.rows.now c.args.offsets.now) c.args.n c.loop-r.bytes c.loop-r.r
+    (take (get_or c.args.offsets.now (c.loop-r.r + 1) 0 - get_or c.args.offsets.now c.loop-r.r 0) (drop (get_or c.args.offsets.now c.loop-r.r 0) c.args.rows.now))
+    = record { most = c.requires.n_le_max_rows; inside = c.loop-r-test.true; head = c.loop-r.invariant.0; is = rw add-one } in
+    (passed row (c.loop-r.bytes + c.loop-c.more) (w.passes c.loop-r.r) (omega (arith, w.adds)) (omega (arith, inv.small, inv.inside, few)), inv.ready)

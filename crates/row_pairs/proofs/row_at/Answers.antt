@@ -14,9 +14,9 @@ returns-then-k-count c =
 pub overflow_mul-k : goal.overflow_mul-k
 overflow_mul-k c = let A = c.args in omega (arith, rows_many A.numbers.now A.bytes.now, c.well_formed.1.0)
 
-pub low64-requires : goal.low64-requires
-low64-requires c = let A = c.args in omega (arith, rows_many A.numbers.now A.bytes.now)
+pub low-requires : goal.low-requires
+low-requires c = let A = c.args in omega (arith, rows_many A.numbers.now A.bytes.now)
 
 pub returns : goal.returns
 returns c =
-    c.low64.ensures ∙ row_in_bytes c.args.numbers.now c.args.bytes.now c.args.k c.if-k-count.false c.requires
+    c.low.ensures ∙ row_in_bytes c.args.numbers.now c.args.bytes.now c.args.k c.if-k-count.false c.requires

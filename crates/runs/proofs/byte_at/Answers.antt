@@ -7,5 +7,5 @@ use Rattle.runs.proofs.byte_at.Goals as goal
 pub returns : goal.returns
 returns c =
     let A = c.args in
-    turned A.descending _ _ (c.shared_slice_known-2-1.given A.i).fits c.directed8.type_inv c.directed8.ensures
+    turned A.descending _ _ (c.shared_slice_known-2-1.given A.i).fits c.directed.type_inv c.directed.ensures
     ∙ sym (directed_at A.descending A.row.now A.i c.requires)

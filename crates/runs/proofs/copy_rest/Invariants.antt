@@ -1,10 +1,6 @@
 -- `runs::copy_rest` meets its contract: each turn copies a byte. Assumes nothing.
-use Prim.Native.Nat.{◌-◌}
 use Rattle.runs.proofs.Copying.{Copying}
 use Rattle.runs.proofs.copy_rest.Given as goal
 
 abbrev pub invariant-loop-i : goal.invariant-loop-i
 invariant-loop-i l = Copying l.src l.from l.count l.descending l.initial.out l.at l.out l.i
-
-abbrev pub decreases-loop-i : goal.decreases-loop-i
-decreases-loop-i l = l.count - l.i

@@ -5,4 +5,4 @@ use Rattle.runs.proofs.put_byte.Goals as goal
 pub returns : goal.returns
 returns c =
     let A = c.args in
-    stored_byte A.descending A.byte _ A.out.now A.at c.ranges.byte.fits c.directed8.type_inv c.directed8.ensures
+    stored_byte A.descending A.byte _ A.out.now A.at c.ranges.byte.fits c.directed.type_inv c.directed.ensures

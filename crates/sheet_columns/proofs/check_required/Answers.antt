@@ -5,20 +5,20 @@ use mathlib.Core.Path.{◌≡◌}
 use mathlib.Core.Bool.{Bool, true, false}
 use mathlib.Core.List.{List}
 use borrow.Author.Tests.{lt-ltb, le-ltb}
-use Rattle.format.specs.declared.Check.TheVariants.{Pass, Refuse}
+use Rattle.std.specs.declared.result.Result.TheVariants.{Ok, Err}
 use Rattle.format.specs.declared.Refusal.TheVariants.{Missing}
 use Rattle.format.specs.Sheet.{first_clear, required_fault}
 use Rattle.sheet_columns.proofs.check_required.Goals as goal
 
 module _ (q : Bool) (n c : ℕ) (s : List ℕ) where
-  free : q ≡ false → Pass ≡ required_fault q n c s
+  free : q ≡ false → Ok tt ≡ required_fault q n c s
   free e = rw e
 
   module _ (row : ℕ) (e : q ≡ true) (f : row ≡ first_clear s 0 n) where
-    missing : row < n → Refuse (Missing c row) ≡ required_fault q n c s
+    missing : row < n → Err (Missing c row) ≡ required_fault q n c s
     missing l = rw (e, ← f, lt-ltb row n l)
 
-    full : n ≤ row → Pass ≡ required_fault q n c s
+    full : n ≤ row → Ok tt ≡ required_fault q n c s
     full l = rw (e, ← f, le-ltb row n l)
 
 pub returns-then-not-required : goal.returns-then-not-required

@@ -9,17 +9,17 @@ use lib.Dec.{lit<}
 use lib.ListN.{length}
 use Rattle.format.specs.declared.Kind.{Kind}
 use Rattle.format.specs.declared.Refusal.TheVariants.{ColumnCut}
-use Rattle.format.specs.declared.Check.TheVariants.{Pass, Refuse}
+use Rattle.std.specs.declared.result.Result.TheVariants.{Ok, Err}
 use Rattle.format.specs.Kinds.{shape, value_bytes}
 use Rattle.format.specs.Sheet.{Layout, layout_for, wide, values_fault}
 use Rattle.sheet_columns.proofs.Arms.{told, layout_arm}
 use Rattle.sheet_columns.proofs.check_values.Goals as goal
 
 module _ (kind : Kind) (w n c : ℕ) (s : List ℕ) (width : w ≡ value_bytes kind) (fixed : layout_for (shape kind) ≡ wide (value_bytes kind)) where
-  cut : length s < n * w → Refuse (ColumnCut c) ≡ values_fault (layout_for (shape kind)) n c s
+  cut : length s < n * w → Err (ColumnCut c) ≡ values_fault (layout_for (shape kind)) n c s
   cut h = rw (fixed, lt-ltb (length s) (n * value_bytes kind) (rw width at h))
 
-  whole : n * w ≤ length s → Pass ≡ values_fault (layout_for (shape kind)) n c s
+  whole : n * w ≤ length s → Ok tt ≡ values_fault (layout_for (shape kind)) n c s
   whole h = rw (fixed, le-ltb (length s) (n * value_bytes kind) (rw width at h))
 
 -- n values of w bytes each

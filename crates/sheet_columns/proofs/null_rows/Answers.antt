@@ -8,7 +8,7 @@ use mathlib.Core.List.{List}
 use native.Mathlib.Omega.{arith}
 use lib.ListN.{length, get_or, take}
 use lib.Seq.{length-take-le}
-use Rattle.format.specs.declared.Check.TheVariants.{Pass}
+use Rattle.std.specs.declared.result.Result.TheVariants.{Ok}
 use Rattle.format.specs.Sheet.{Layout, bits, packed, spare_set, bits_fault, column_slots, nulls_in}
 use Rattle.bits.specs.Ones.{ones_in}
 use Rattle.bits.proofs.Nulls.{column_nulls}
@@ -17,7 +17,7 @@ use Rattle.sheet_columns.proofs.null_rows.Goals as goal
 use Rattle.sheet_columns.proofs.null_rows.Goals.{After-count_ones}
 
 module _ (n : ℕ) (s : List ℕ) (b : (i : ℕ) → get_or s i 0 < 256) (room : packed n ≤ length s) (clear : spare_set (take (packed n) s) n ≡ false) where
-  passes : bits_fault n 0 s ≡ Pass
+  passes : bits_fault n 0 s ≡ Ok tt
   passes = rw (le-ltb (length s) (packed n) room, clear)
 
   together : (ly : Layout) (p ones : ℕ) → p ≡ packed n → ones ≡ ones_in (take p s) → nulls_in (column_slots ly n s) + ones ≡ n

@@ -1,4 +1,4 @@
-use Rattle.std.proofs.Common.{◌-◌, arith}
+use Rattle.std.proofs.Common.{arith}
 use Rattle.sheet_ends.proofs.EndTurns.{start, done, falls, long, more}
 use Rattle.sheet_ends.proofs.find_ends_fault.Goals as goal
 

@@ -7,11 +7,11 @@ use Rattle.format.specs.Described.{spelled}
 use Rattle.sheet_text.proofs.SheetLines.{sheet_short, refused_text, rows_cuts, rows_text}
 use Rattle.sheet_text.proofs.print_sheet.Goals as goal
 
-pub returns-in-Refused : goal.returns-in-Refused
-returns-in-Refused c =
+pub returns-in-Err : goal.returns-in-Err
+returns-in-Err c =
     let e = c.encode-answer in
     wrote_as c.put_refused.ensures
-    (refused_text _ _ _ _ _ _ e.ensures _ c.in-Refused.is)
+    (refused_text _ _ _ _ _ _ e.ensures _ c.in-Err.is)
 
 pub put_rows-requires : goal.put_rows-requires
 put_rows-requires c =

@@ -1,4 +1,3 @@
-use Prim.Native.Nat.{◌-◌}
 use native.Mathlib.Numerals.{add-one}
 use native.Mathlib.Omega.{arith}
 use Rattle.texts.proofs.Rows.{lined_begin, lined_room, lined_more, lined_wrote, row_rises, row_inside}

@@ -11,7 +11,7 @@ overflow_cast-spelt c =
     omega arith
 
 pub returns-then-width-eq2 : goal.returns-then-width-eq2
-returns-then-width-eq2 c = rw c.if-width-eq2.true c.folded_half.ensures
+returns-then-width-eq2 c = rw c.if-width-eq2.true c.stands_folded.ensures
 
 pub overflow_cast-spelt-then-width-eq4 : goal.overflow_cast-spelt-then-width-eq4
 overflow_cast-spelt-then-width-eq4 c =
@@ -19,8 +19,8 @@ overflow_cast-spelt-then-width-eq4 c =
     omega arith
 
 pub returns-then-width-eq4 : goal.returns-then-width-eq4
-returns-then-width-eq4 c = rw c.if-width-eq4.true c.folded_single.ensures
+returns-then-width-eq4 c = rw c.if-width-eq4.true c.stands_folded-then-width-eq4.ensures
 
 pub returns : goal.returns
 returns c =
-    rw (eight_left c.args.width c.requires.fact c.if-width-eq2.false c.if-width-eq4.false) c.folded_double.ensures
+    rw (eight_left c.args.width c.requires.fact c.if-width-eq2.false c.if-width-eq4.false) c.stands_folded-2.ensures

@@ -6,4 +6,4 @@ pub returns : goal.returns
 returns c =
     let A = c.args in
     interval_stored A.descending A.values.now A.from c.requires.from_in_bounds A.rows.now A.at A.valid _ _ _
-    c.put_word.ensures c.put_word-2.ensures c.put_word-3.ensures
+    c.put_number.ensures c.put_number-2.ensures c.put_number-3.ensures

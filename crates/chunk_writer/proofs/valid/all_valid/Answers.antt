@@ -14,5 +14,5 @@ returns c e r low high =
     let at : A.from / 8 ≡ 8 * k = omega (arith, c.if-from-ne0.false) in
     word_set A.part.now k (bytes_of A.part.now (λ i. (c.type_inv.part i).fits))
     (omega (arith, c.requires.1, c.if-from-ne0.false, c.if-to-from-ne64.false))
-    (omega (arith, rw at at c.low64.ensures, eqb-true c.low64.result 18446744073709551615 e)) r
+    (omega (arith, rw at at c.low.ensures, eqb-true c.low.result 18446744073709551615 e)) r
     (omega (arith, c.if-from-ne0.false)) (omega (arith, c.if-from-ne0.false, c.if-to-from-ne64.false))

@@ -13,10 +13,10 @@ returns-then-not-keeps c =
     let a = c.args in
     cut_broken a.state a.piece.now a.ends.now _ (sym c.keeps.ensures ∙ c.if-not-keeps.true) c.kept_back.ensures
 
-pub returns-in-Refuse : goal.returns-in-Refuse
-returns-in-Refuse c =
+pub returns-in-Err : goal.returns-in-Err
+returns-in-Err c =
     let a = c.args in
-    cut_stands a.state a.piece.now a.ends.now (sym c.keeps.ensures ∙ c.if-not-keeps.false) _ _ c.in-Refuse.is c.kept_back-in-Refuse.ensures
+    cut_stands a.state a.piece.now a.ends.now (sym c.keeps.ensures ∙ c.if-not-keeps.false) _ _ c.in-Err.is c.kept_back-in-Err.ensures
 
 pub returns-then-ends-piece : goal.returns-then-ends-piece
 returns-then-ends-piece c =
@@ -30,14 +30,14 @@ walk-walked-requires c =
     subst (λ (p : Place). keeps (state_at a.state.schema p) ≡ true) (sym c.place_of.ensures)
     (cut_kept a.state a.piece.now a.ends.now (sym c.keeps.ensures ∙ c.if-not-keeps.false) c.in_default.is)
 
-pub returns-in-Refuse-check : goal.returns-in-Refuse-check
-returns-in-Refuse-check c =
+pub returns-in-Err-check : goal.returns-in-Err-check
+returns-in-Err-check c =
     let a = c.args in
     let walked = c.walk-walked.ensures in
     cut_refused a.state a.piece.now a.ends.now (sym c.keeps.ensures ∙ c.if-not-keeps.false) c.in_default.is c.if-ends-piece.false _
     c.place_of.ensures _ _
     (whole_walk a.state.schema _ a.piece.now a.ends.now c.walk-walked.result _ c.if-ends-piece.false walked.walked_on walked.ends_len_bound) _
-    c.in-Refuse-check.is
+    c.in-Err-check.is
 
 pub returns : goal.returns
 returns c =

@@ -2,10 +2,8 @@
 use Rattle.cutter.proofs.Entering.{start_refused, start_begun}
 use Rattle.cutter.proofs.entry.start_listed.Goals as goal
 
-pub returns-in-Refuse : goal.returns-in-Refuse
-returns-in-Refuse c =
-    λ list is. start_refused list c.args.listed is _ _ c.in-Refuse.is c.refused-state.ensures
+pub returns-in-Ok : goal.returns-in-Ok
+returns-in-Ok c = λ list is. start_begun list _ is _ _ c.in-Ok.is c.state_at.ensures
 
-pub returns : goal.returns
-returns c =
-    λ list is. start_begun list c.args.listed is _ c.in_default.is c.state_at-state.ensures
+pub returns-in-Err : goal.returns-in-Err
+returns-in-Err c = λ list is. start_refused list _ is _ _ c.in-Err.is c.refused.ensures

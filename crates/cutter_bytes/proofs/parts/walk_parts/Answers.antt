@@ -1,10 +1,10 @@
 -- A turn's walk takes some bytes more, and the ends in them are stored. Assumes nothing.
-use Prim.Native.Nat.{ℕ, ◌+◌, ◌-◌, ◌*◌}
+use Prim.Native.Nat.{◌+◌, ◌-◌, ◌*◌}
 use mathlib.Core.Path.{ap}
 use native.Mathlib.Omega.{arith}
 use lib.ListN.{length, drop, length-drop}
 use lib.Seq.{length-take-le}
-use Rattle.format.specs.declared.Check.{Check}
+use Rattle.format.specs.Check.{Check}
 use Rattle.basics.proofs.Bytes.{bytes_of}
 use Rattle.cutter_walk.specs.Walks.{walked_to}
 use Rattle.cutter_bytes.proofs.Parting.{took, stored_begin, stored_is, stored_keeps, turn, walks_whole, walks_refused}
@@ -64,14 +64,14 @@ overflow_add-n c =
     l.invariant.within c.requires.piece_in_bounds l.invariant.stored c.walk-walked.ensures.walked_on in
     omega (arith, t.room, l.invariant.stored.long)
 
-pub returns-in-Refuse : goal.returns-in-Refuse
-returns-in-Refuse c =
+pub returns-in-Err : goal.returns-in-Err
+returns-in-Err c =
     let a = c.args in
     let l = c.loop-i in
     let t = turn a.schema a.place a.piece.now a.ends.now l.at l.numbers c.walk-walked.result c.walk-walked.new.ends
     l.invariant.within c.requires.piece_in_bounds l.invariant.stored c.walk-walked.ensures.walked_on in
     walks_refused a.schema a.place a.piece.now a.ends.now _ _ _ _ _ _ _ (t.stored _ c.write_offsets.ensures)
-    (ap (λ (d : Check). walked_to d a.schema c.walk-walked.result.place) c.in-Refuse.is)
+    (ap (λ (d : Check). walked_to d a.schema c.walk-walked.result.place) c.in-Err.is)
 
 pub loop-i-preserved : goal.loop-i-preserved
 loop-i-preserved c =

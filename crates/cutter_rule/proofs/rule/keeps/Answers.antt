@@ -8,15 +8,15 @@ use Rattle.cutter_rule.proofs.rule.keeps.Goals as goal
 
 pub returns-then-not-emptied : goal.returns-then-not-emptied
 returns-then-not-emptied c =
-    rule_refused c.args.state _ _ c.in-Refuse.is
-    (sym (ap (λ (t : Bool). t && numbers_kept (refusal_numbers c.in-Refuse.r)) (sym c.emptied.ensures ∙ c.if-not-emptied.true)))
+    rule_refused c.args.state _ _ c.in-Err.is
+    (sym (ap (λ (t : Bool). t && numbers_kept (refusal_numbers c.in-Err.r)) (sym c.emptied.ensures ∙ c.if-not-emptied.true)))
 
-pub returns-in-Pass : goal.returns-in-Pass
-returns-in-Pass c =
-    rule_stands c.args.state _ c.in-Pass.is c.stands.ensures
+pub returns-in-Ok : goal.returns-in-Ok
+returns-in-Ok c =
+    rule_stands c.args.state _ c.in-Ok.is c.stands.ensures
 
 pub returns-else-not-emptied : goal.returns-else-not-emptied
 returns-else-not-emptied c =
-    rule_refused c.args.state _ _ c.in-Refuse.is
+    rule_refused c.args.state _ _ c.in-Err.is
     (c.numbers_kept.ensures ∙ ap numbers_kept c.refusal_numbers-numbers.ensures
-    ∙ sym (ap (λ (t : Bool). t && numbers_kept (refusal_numbers c.in-Refuse.r)) (sym c.emptied.ensures ∙ c.if-not-emptied.false)))
+    ∙ sym (ap (λ (t : Bool). t && numbers_kept (refusal_numbers c.in-Err.r)) (sym c.emptied.ensures ∙ c.if-not-emptied.false)))

@@ -1,5 +1,4 @@
 -- The columns so far have these sums, in each turn and at each end. Assumes nothing.
-use Prim.Native.Nat.{◌<◌}
 use mathlib.Core.Path.{◌≡◌, sym, ap, ◌∙◌}
 use native.Mathlib.Omega.{arith}
 use lib.Dec.{ltb}

@@ -1,10 +1,9 @@
 -- The field that is read does one turn's step, and the turns so far leave the walk's state and its ends. Assumes nothing.
-use Prim.Native.Nat.{ℕ, ◌+◌, ◌-◌, ◌≤◌}
+use Prim.Native.Nat.{ℕ}
 use mathlib.Core.Path.{◌≡◌, subst}
 use mathlib.Core.List.{List}
 use native.Mathlib.Nat.{pos_of_ne-zero}
 use native.Mathlib.Omega.{arith}
-use lib.ListN.{length}
 use Rattle.format.specs.declared.Schema.{Schema}
 use Rattle.format.specs.declared.Spot.TheVariants.{Start}
 use Rattle.basics.proofs.Bytes.{bytes_of}

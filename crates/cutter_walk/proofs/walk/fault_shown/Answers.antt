@@ -1,5 +1,5 @@
 -- `cutter_walk::walk::fault_shown` meets its contract. Assumes nothing.
-use Prim.Native.Nat.{◌+◌, ◌≤◌}
+use Prim.Native.Nat.{◌+◌}
 use mathlib.Core.Path.{ap, sym, ◌∙◌}
 use native.Mathlib.Omega.{arith}
 use Rattle.format.specs.declared.FieldRead.{FieldRead}

@@ -1,6 +1,6 @@
 -- `cutter_walk::walk::stops_at` meets its contract. Assumes nothing.
 use mathlib.Core.Path.{sym, subst}
-use mathlib.Core.Bool.{Bool, true, false, false≢true}
+use mathlib.Core.Bool.{Bool, false≢true}
 use Rattle.cutter_walk.specs.Walks.{StopsAt}
 use Rattle.cutter_walk.proofs.walk.stops_at.Goals as goal
 

@@ -5,26 +5,26 @@ use mathlib.Core.Logic.{⊎_elim}
 use mathlib.Core.List.{List}
 use native.Mathlib.Omega.{arith}
 use Rattle.format.specs.declared.Schema.{Schema}
-use Rattle.format.specs.declared.Check.TheVariants.{Pass}
+use Rattle.std.specs.declared.result.Result.TheVariants.{Ok}
 use Rattle.basics.proofs.Bytes.{bytes_of}
 use Rattle.laws.proofs.InUse.{columns_room}
 use Rattle.cutter_step.specs.declared.Place.{Place}
 use Rattle.cutter_walk.specs.declared.Walked.{Walked}
 use Rattle.cutter_walk.specs.Walks.{Walking, Goes}
-use Rattle.cutter_walk.proofs.Walking.{walking_kept, first_part, part_passed, walked_long}
+use Rattle.cutter_walk.proofs.Walking.{walking_kept, first_part, part_passed}
 use Rattle.cutter_walk.proofs.walk.walk.Goals as goal
 
 -- parts that went on
-module _ (schema : Schema) (p : Place) (piece ends : List ℕ) (r : Walked) (list : List ℕ) (g : Goes schema p piece 0 0 ends r list) (e : r.check ≡ Pass) where
+module _ (schema : Schema) (p : Place) (piece ends : List ℕ) (r : Walked) (list : List ℕ) (g : Goes schema p piece 0 0 ends r list) (e : r.check ≡ Ok tt) where
   first : Walking schema p piece ends r.place r.ends r.read list
   first = part_passed r.check schema p piece ends r list e (first_part schema p piece ends r list g)
 
-  second : (q : Walked) (list' : List ℕ) → Goes schema r.place piece r.read r.ends list q list' → q.check ≡ Pass
+  second : (q : Walked) (list' : List ℕ) → Goes schema r.place piece r.read r.ends list q list' → q.check ≡ Ok tt
       → Walking schema p piece ends q.place q.ends q.read list'
   second q list' h f = part_passed q.check schema p piece ends q list' f (h p ends first)
 
-pub returns-in-Refuse-clause-walked_on : goal.returns-in-Refuse-clause-walked_on
-returns-in-Refuse-clause-walked_on c = first_part _ _ _ _ _ _ c.by_bytes-first.ensures.goes
+pub returns-in-Err-clause-walked_on : goal.returns-in-Err-clause-walked_on
+returns-in-Err-clause-walked_on c = first_part _ _ _ _ _ _ c.by_bytes-first.ensures.goes
 
 pub returns-then-piece-from-clause-walked_on : goal.returns-then-piece-from-clause-walked_on
 returns-then-piece-from-clause-walked_on c = first_part _ _ _ _ _ _ c.by_bytes-first.ensures.goes
@@ -46,8 +46,8 @@ by_fields-next-requires c =
       from_in_bounds = w.within;
     }
 
-pub returns-in-Refuse-check-clause-walked_on : goal.returns-in-Refuse-check-clause-walked_on
-returns-in-Refuse-check-clause-walked_on c =
+pub returns-in-Err-check-clause-walked_on : goal.returns-in-Err-check-clause-walked_on
+returns-in-Err-check-clause-walked_on c =
     let a = c.args in
     c.by_fields-next.ensures a.place a.ends.now (first a.schema a.place a.piece.now a.ends.now _ _ c.by_bytes-first.ensures.goes c.in_default.is)
 

@@ -18,23 +18,23 @@ overflow_sub-result c =
     c.in-Value.field-0 c.in-Value.field-1 c.in-Value.is in
     omega (arith, whole)
 
-pub returns-then-directed8-gt1 : goal.returns-then-directed8-gt1
-returns-then-directed8-gt1 c =
+pub returns-then-directed-gt1 : goal.returns-then-directed-gt1
+returns-then-directed-gt1 c =
     let A = c.args in
     bool_bad A.options A.row.now _ (c.read-field.ensures (plain 1) (plain_shape 1) refl) _ _ c.in-Value.is _
-    (turned-byte A.options.descending (get_or A.row.now 1 0) _ (c.type_inv.row 1).fits c.directed8.type_inv c.directed8.ensures)
-    c.if-directed8-gt1.true
+    (turned-byte A.options.descending (get_or A.row.now 1 0) _ (c.type_inv.row 1).fits c.directed.type_inv c.directed.ensures)
+    c.if-directed-gt1.true
 
 pub returns-in-Null : goal.returns-in-Null
 returns-in-Null c =
     none_alike bool c.args.options c.args.row.now _ (c.read-field.ensures (plain 1) (plain_shape 1) refl) (λ m n e. cc)
 
-pub returns-else-directed8-gt1 : goal.returns-else-directed8-gt1
-returns-else-directed8-gt1 c =
+pub returns-else-directed-gt1 : goal.returns-else-directed-gt1
+returns-else-directed-gt1 c =
     let A = c.args in
     bool_good A.options A.row.now _ (c.read-field.ensures (plain 1) (plain_shape 1) refl) _ _ c.in-Value.is _
-    (turned-byte A.options.descending (get_or A.row.now 1 0) _ (c.type_inv.row 1).fits c.directed8.type_inv c.directed8.ensures)
-    c.if-directed8-gt1.false
+    (turned-byte A.options.descending (get_or A.row.now 1 0) _ (c.type_inv.row 1).fits c.directed.type_inv c.directed.ensures)
+    c.if-directed-gt1.false
 
 pub returns-in-Fault : goal.returns-in-Fault
 returns-in-Fault c =

@@ -8,7 +8,7 @@ use mathlib.Core.List.{List, ◌∷◌}
 use native.Mathlib.Numerals.{add-one}
 use native.Mathlib.Omega.{arith}
 use lib.ListN.{length, get_or, take, drop, length-drop}
-use Rattle.format.specs.declared.Check.TheVariants.{Refuse}
+use Rattle.std.specs.declared.result.Result.TheVariants.{Err}
 use Rattle.format.specs.declared.Column.{Column}
 use Rattle.format.specs.declared.FieldRead.TheVariants.{Null, Value}
 use Rattle.format.specs.declared.Refusal.TheVariants as refusal
@@ -28,9 +28,9 @@ use Rattle.quick_rows.specs.Quick.{Rows, most_row}
 use Rattle.quick_rows.proofs.Taken.{Says, says_rest, null_added}
 use Rattle.quick_rows.proofs.Turns.{Fields, taken, whole}
 use Rattle.quick_rows.proofs.Passing.{InRow, bytes_small, passed}
-use Rattle.row_reader.proofs.Turns.{broken, longer, faulty}
+use Rattle.row_reader.proofs.Turns.{broken, longer, ends, faulty}
 use Rattle.row_reader.proofs.walk.check_fields.Goals as goal
-use Rattle.row_reader.proofs.walk.check_fields.Goals.{in-Null, in-Value}
+use Rattle.row_reader.proofs.walk.check_fields.Goals.{in-Null, in-Value, else-rows-test, then-rows-test+then-loop-c-test+in-Fault, then-rows-test+else-loop-c-test+then-at-row}
 
 -- the part of a list of bytes that a row is
 part : (rows : List ℕ) → ((i : ℕ) → get_or rows i 0 < 256) → (k from : ℕ) → Bytes (take k (drop from rows))
@@ -113,23 +113,21 @@ rows-preserved c =
     let row = stands A.rows.now A.offsets.now c.requires.n_le_max_rows c.rows-test.true c.rows.invariant.1 in
     (l.invariant.0, passed row _ (w.passes _) w.adds (few_more A.schema c.well_formed.0 c.requires.limited t))
 
-pub returns-in-Fault : goal.returns-in-Fault
-returns-in-Fault c =
+pub returns : goal.returns
+returns c =
     let A = c.args in
-    let l = c.loop-c in
-    let t = l.invariant.1 in
-    let said = says_rest _ _ l.at _ (part A.rows.now (λ i. (c.type_inv.rows i).fits) _ _) c.in-Fault.ensures in
-    let row = stands A.rows.now A.offsets.now c.requires.n_le_max_rows c.rows-test.true c.rows.invariant.1 in
-    faulty row _ (few_more A.schema c.well_formed.0 c.requires.limited t)
-    (broken t _ (here A.schema c.well_formed.0 c.requires.limited t c.loop-c-test.true) _ _ said)
-
-pub returns-then-at-row : goal.returns-then-at-row
-returns-then-at-row c =
-    let A = c.args in
-    let l = c.loop-c in
-    let t = l.invariant.1 in
     let full = in_use A.schema c.well_formed.0 c.requires.limited.few in
-    let extra = longer t _ (all_read A.schema c.well_formed.0 c.requires.limited t c.loop-c-test.false) c.if-at-row.true in
-    let row = stands A.rows.now A.offsets.now c.requires.n_le_max_rows c.rows-test.true c.rows.invariant.1 in
-    faulty row _ (few_more A.schema c.well_formed.0 c.requires.limited t)
-    (extra ∙ ap (λ (n : ℕ). Refuse (refusal.Row Extra c.rows.r n l.at)) full)
+    rw c.and.ensures
+    (elim c.rows-test.branch [
+      | else-rows-test w ↦ rw (w.check-is, w.bytes-is, c.rows.invariant.0) (ends c.rows.invariant.1 c.requires.n_le_max_rows w.rows-test.false)
+      | then-rows-test+then-loop-c-test+in-Fault w ↦
+          let t = w.loop-c.invariant.1 in
+          let said = says_rest _ _ w.loop-c.at _ (part A.rows.now (λ i. (c.type_inv.rows i).fits) _ _) w.in-Fault.ensures in
+          let row = stands A.rows.now A.offsets.now c.requires.n_le_max_rows w.rows-test.true c.rows.invariant.1 in
+          rw w.check-is (faulty row (broken t _ (here A.schema c.well_formed.0 c.requires.limited t w.loop-c-test.true) _ _ said))
+      | then-rows-test+else-loop-c-test+then-at-row w ↦
+          let t = w.loop-c.invariant.1 in
+          let extra = longer t _ (all_read A.schema c.well_formed.0 c.requires.limited t w.loop-c-test.false) w.if-at-row.true in
+          let row = stands A.rows.now A.offsets.now c.requires.n_le_max_rows w.rows-test.true c.rows.invariant.1 in
+          rw w.check-is (faulty row (extra ∙ ap (λ (n : ℕ). Err (refusal.Row Extra c.rows.r n w.loop-c.at)) full))
+    ])

@@ -1,6 +1,6 @@
 -- `row_writer::chunks::write_chunks` meets its contract: the rows to come begin where their cursors are, and end within the buffer.
 -- Assumes nothing.
-use Prim.Native.Nat.{ℕ, suc, ◌+◌, ◌-◌, ◌<◌, ◌≤◌}
+use Prim.Native.Nat.{ℕ, suc, ◌+◌, ◌-◌, ◌<◌, ◌≤◌, min}
 use mathlib.Core.Path.{◌≡◌, ◌∙◌}
 use mathlib.Core.List.{List}
 use native.Mathlib.Omega.{arith}
@@ -14,7 +14,7 @@ use Rattle.row_writer.specs.Starts.{AtStarts, row_start}
 use Rattle.row_writer.proofs.Side.{Apart}
 use Rattle.row_writer.proofs.Fields.{field_long}
 use Rattle.row_writer.proofs.Summing.{joined_within, start_next}
-use Rattle.row_writer.proofs.Chunk.{Chunks, chunk_room, chunk_more, chunk_end, chunks_still, chunks_more}
+use Rattle.row_writer.proofs.Chunk.{Chunks, chunk_room, chunk_more, chunk_end, chunks_still, chunks_more, chunks_end}
 use Rattle.row_writer.proofs.chunks.write_chunks.Goals as goal
 
 module _ {row : ℕ → List ℕ} {n : ℕ} {rows₀ xs rows now : List ℕ} {from : ℕ} (t : Chunks row n rows₀ xs rows now from) (h : AtStarts row n xs) where
@@ -36,23 +36,38 @@ write_column-requires-clause-roomy c =
     let s = A.sheet.now in
     let k = c.loop-c.c in
     let f = get_or A.facts k no_facts in
-    let chunk = c.chunk_end-to.ensures in
+    let begun : min c.loop-from.from A.n ≡ c.loop-from.from = omega arith in
     rw (part_rest s f.base) (λ r a b.
+    let inside : r < A.n = omega (arith, c.chunk_end-to.ensures) in
     let long =
-    field_long A.n k r f.base f.column s (c.requires.all_stand k c.loop-c-test.true) (bytes_of s (λ i. (c.type_inv.sheet i).fits)) (omega (arith, chunk.1)) in
+    field_long A.n k r f.base f.column s (c.requires.all_stand k c.loop-c-test.true) (bytes_of s (λ i. (c.type_inv.sheet i).fits)) inside in
     let room =
     chunk_room c.loop-c.invariant c.loop-c-test.true (length c.loop-from.rows)
-    (λ r a b. row_room c.loop-from.invariant c.requires.at_starts c.requires.count_in_bounds r a (omega (arith, chunk.1))) r a b in
+    (λ r a b. row_room (rw begun at c.loop-from.invariant) c.requires.at_starts c.requires.count_in_bounds r a (omega (arith, c.chunk_end-to.ensures))) r a b in
     omega (arith, long, room, c.loop-c.invariant.same))
 
 pub loop-c-preserved : goal.loop-c-preserved
 loop-c-preserved c =
     let A = c.args in
-    let chunk = c.chunk_end-to.ensures in
+    let begun : min c.loop-from.from A.n ≡ c.loop-from.from = omega arith in
     let w = rw (part_rest A.sheet.now (get_or A.facts c.loop-c.c no_facts).base) at c.write_column.ensures in
-    chunk_more c.loop-c.invariant c.loop-c-test.true (omega (arith, chunk.0)) (apart c.loop-from.invariant c.requires.at_starts _ chunk.1) _ _ w
+    chunk_more c.loop-c.invariant c.loop-c-test.true (omega (arith, c.chunk_end-to.ensures))
+    (apart (rw begun at c.loop-from.invariant) c.requires.at_starts _ (omega (arith, c.chunk_end-to.ensures))) _ _ w
 
 pub loop-from-preserved : goal.loop-from-preserved
 loop-from-preserved c =
-    let chunk = c.chunk_end-to.ensures in
-    chunks_more c.loop-from.invariant _ (omega (arith, chunk.0)) chunk.1 _ _ (chunk_end c.loop-c.invariant c.loop-c-test.false)
+    let begun : min c.loop-from.from c.args.n ≡ c.loop-from.from = omega arith in
+    rw (← c.chunk_end-to.ensures)
+    (chunks_more (rw begun at c.loop-from.invariant) _ (omega (arith, c.chunk_end-to.ensures)) (omega (arith, c.chunk_end-to.ensures)) _ _
+    (chunk_end c.loop-c.invariant c.loop-c-test.false))
+
+-- ---- the chunk was the last
+pub returns-2 : goal.returns-2
+returns-2 c =
+    let n = c.args.n in
+    let begun : min c.loop-from.from n ≡ c.loop-from.from = omega arith in
+    let all : c.chunk_end-to.result ≡ n = omega arith in
+    chunks_end
+    (rw all at
+    (chunks_more (rw begun at c.loop-from.invariant) _ (omega (arith, c.chunk_end-to.ensures)) (omega (arith, c.chunk_end-to.ensures)) _ _
+    (chunk_end c.loop-c.invariant c.loop-c-test.false)))

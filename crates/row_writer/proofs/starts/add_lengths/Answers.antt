@@ -6,4 +6,4 @@ use Rattle.row_writer.proofs.starts.add_lengths.Goals as goal
 pub loop-r-preserved : goal.loop-r-preserved
 loop-r-preserved c =
     let i = c.loop-r.invariant in
-    (omega arith, cursors_more i.1 _ (omega (arith, i.1.stays.same)) (omega (arith, cursors_still i.1, c.variable_length.ensures)))
+    cursors_more i _ (omega (arith, i.stays.same)) (omega (arith, cursors_still i, c.variable_length.ensures))

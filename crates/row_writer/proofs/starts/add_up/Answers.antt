@@ -19,15 +19,15 @@ pub overflow_add-at : goal.overflow_add-at
 overflow_add-at c =
     let A = c.args in
     let i = c.loop-r.invariant in
-    omega (arith, fits A.fixed A.offsets.now i.1 i.2 A.n c.loop-r-test.true c.requires.n_bound)
+    omega (arith, fits A.fixed A.offsets.now i.0 i.1 A.n c.loop-r-test.true c.requires.n_bound)
 
 pub overflow_add-at-in-loop-r : goal.overflow_add-at-in-loop-r
 overflow_add-at-in-loop-r c =
     let A = c.args in
     let i = c.loop-r.invariant in
-    omega (arith, fits A.fixed A.offsets.now i.1 i.2 A.n c.loop-r-test.true c.requires.n_bound)
+    omega (arith, fits A.fixed A.offsets.now i.0 i.1 A.n c.loop-r-test.true c.requires.n_bound)
 
 pub loop-r-preserved : goal.loop-r-preserved
 loop-r-preserved c =
     let i = c.loop-r.invariant in
-    (omega arith, next c.args.fixed c.args.offsets.now i.1 i.2, cursors_more i.2 _ (omega (arith, i.2.stays.same)) i.1)
+    (next c.args.fixed c.args.offsets.now i.0 i.1, cursors_more i.1 _ (omega (arith, i.1.stays.same)) i.0)

@@ -27,7 +27,7 @@ add_column-fixed-requires-clause-fits c =
     let s = A.sheet.now in
     let f = get_or A.facts c.loop-c.c no_facts in
     rw (part_rest s f.base)
-    (lengths_fit c.loop-c.invariant.1 f.column (drop f.base s)
+    (lengths_fit c.loop-c.invariant f.column (drop f.base s)
     (long A.n s A.facts A.count c.loop-c.c (λ i. (c.type_inv.sheet i).fits) c.requires.all_stand c.loop-c-test.true)
     A.count c.loop-c-test.true c.requires.count_bound)
 
@@ -35,19 +35,17 @@ pub loop-c-preserved : goal.loop-c-preserved
 loop-c-preserved c =
     let A = c.args in
     let s = A.sheet.now in
-    let f = get_or A.facts c.loop-c.c no_facts in (
-      omega arith,
-      lengths_more c.loop-c.invariant.1 f.column (drop f.base s)
-          (long A.n s A.facts A.count c.loop-c.c (λ i. (c.type_inv.sheet i).fits) c.requires.all_stand c.loop-c-test.true)
-          _ _ (rw (part_rest s f.base) at c.add_column-fixed.ensures),
-    )
+    let f = get_or A.facts c.loop-c.c no_facts in
+    lengths_more c.loop-c.invariant f.column (drop f.base s)
+    (long A.n s A.facts A.count c.loop-c.c (λ i. (c.type_inv.sheet i).fits) c.requires.all_stand c.loop-c-test.true)
+    _ _ (rw (part_rest s f.base) at c.add_column-fixed.ensures)
 
 pub add_up-requires-clause-n_bound : goal.add_up-requires-clause-n_bound
 add_up-requires-clause-n_bound c =
     let i = c.loop-c.invariant in
-    omega (arith, lengths_are i.1 c.args.count (omega (arith, i.0)) c.args.n (omega arith), c.requires.count_bound)
+    omega (arith, lengths_are i c.args.count (omega arith) c.args.n (omega arith), c.requires.count_bound)
 
 pub returns : goal.returns
 returns c =
     let i = c.loop-c.invariant in
-    lengths_end i.1 c.args.count (omega (arith, i.0)) c.clear.ensures.stays c.add_up.ensures
+    lengths_end i c.args.count (omega arith) c.clear.ensures.stays c.add_up.ensures

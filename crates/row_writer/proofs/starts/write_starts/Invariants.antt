@@ -1,11 +1,7 @@
 -- `row_writer::starts::write_starts` meets its contract: so many fields of each row are counted. Assumes nothing.
-use Prim.Native.Nat.{◌-◌, ◌≤◌}
 use Rattle.row_writer.specs.Rows.{field_at}
 use Rattle.row_writer.proofs.Summing.{Lengths}
 use Rattle.row_writer.proofs.starts.write_starts.Given as goal
 
 abbrev pub invariant-loop-c : goal.invariant-loop-c
-invariant-loop-c l = (l.c ≤ l.count) × Lengths (field_at l.n l.sheet l.facts) l.n l.initial.offsets l.offsets l.fixed l.c
-
-abbrev pub decreases-loop-c : goal.decreases-loop-c
-decreases-loop-c l = l.count - l.c
+invariant-loop-c l = Lengths (field_at l.n l.sheet l.facts) l.n l.initial.offsets l.offsets l.fixed l.c

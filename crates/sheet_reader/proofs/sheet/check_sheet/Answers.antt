@@ -4,11 +4,12 @@ use mathlib.Core.List.{List}
 use native.Mathlib.Omega.{arith}
 use lib.ListN.{length, get_or, take, drop, length-drop}
 use lib.Seq.{get_or-take}
+use Rattle.std.proofs.lemmas.Result.{err_from_is_err_and}
 use Rattle.format.specs.declared.Column.{Column}
 use Rattle.format.specs.declared.Schema.{Schema}
-use Rattle.format.specs.declared.Check.{Check}
-use Rattle.format.specs.declared.Check.TheVariants.{Pass}
-use Rattle.format.specs.Sheet.{layout, packed, bits_fault, column_fault, column_bytes, column_slots, nulls_in}
+use Rattle.format.specs.Check.{Check}
+use Rattle.std.specs.declared.result.Result.TheVariants.{Ok}
+use Rattle.format.specs.Sheet.{layout, bits_fault, column_fault, column_bytes, column_slots, nulls_in}
 use Rattle.bits.proofs.Nulls.{bits_passed}
 use Rattle.laws.proofs.InUse.{Held, in_use}
 use Rattle.laws.proofs.Parts.{part_rest}
@@ -37,8 +38,8 @@ module _ (n c at : ℕ) (col : Column) (s : List ℕ) (check : Check)
   said : check ≡ column_fault col.options.required (layout col) n c part
   said = e ∙ rw (part_rest s at)
 
-  module _ (p : check ≡ Pass) where
-    passes : column_fault col.options.required (layout col) n c part ≡ Pass
+  module _ (p : check ≡ Ok tt) where
+    passes : column_fault col.options.required (layout col) n c part ≡ Ok tt
     passes = sym said ∙ p
 
     room : column_bytes (layout col) n part ≤ length part
@@ -47,7 +48,7 @@ module _ (n c at : ℕ) (col : Column) (s : List ℕ) (check : Check)
     bytes_there : column_bytes (layout col) n (take (length s - at) part) ≤ length (take (length s - at) part)
     bytes_there = rw (part_rest s at) room
 
-    valid : bits_fault n c (take (length s - at) part) ≡ Pass
+    valid : bits_fault n c (take (length s - at) part) ≡ Ok tt
     valid = rw (part_rest s at) (column_passed col.options.required (layout col) n c part passes).0
 
 -- what the code takes of the part
@@ -58,23 +59,24 @@ wide n at w col s e = e ∙ rw (part_rest s at)
 pub loop-c-init : goal.loop-c-init
 loop-c-init c = start _ _ _ _
 
-pub check_column-check-requires : goal.check_column-check-requires
-check_column-check-requires c =
+pub check_column-requires : goal.check_column-requires
+check_column-requires c =
     record { n_le_max_rows = c.requires.n_le_max_rows; kind_bound = c.requires.limited.narrow c.loop-c.c c.loop-c-test.true }
 
-pub returns-in-Refuse : goal.returns-in-Refuse
-returns-in-Refuse c =
-    let schema = c.args.schema in
+pub returns-in_err-check_column : goal.returns-in_err-check_column
+returns-in_err-check_column c =
+    let p = err_from_is_err_and c.from_residual.result c.from_residual.ensures.1 in
+    rw (p.1, p.2) (let schema = c.args.schema in
     let col = get_or schema.columns c.loop-c.c no_column in
     bad _ _ _ _ _ _ _ c.loop-c.invariant col (there schema c.well_formed.0 c.requires.limited _ c.loop-c-test.true)
-    (is schema c.well_formed.0 c.requires.limited _ c.loop-c-test.true) _ _
-    (sym (said _ _ c.loop-c.at col c.args.sheet.now _ c.check_column-check.ensures) ∙ c.in-Refuse.is) c.found.ensures.0
+    (is schema c.well_formed.0 c.requires.limited _ c.loop-c-test.true) _
+    (sym (said _ _ c.loop-c.at col c.args.sheet.now _ c.check_column.ensures) ∙ c.in_err-check_column.was))
 
 pub column_bytes-requires : goal.column_bytes-requires
 column_bytes-requires c = record {
   n_le_max_rows = c.requires.n_le_max_rows;
   part_in_bounds = bytes_there c.args.n c.loop-c.c c.loop-c.at (get_or c.args.schema.columns c.loop-c.c no_column) c.args.sheet.now _
-      c.check_column-check.ensures c.in_default.is;
+      c.check_column.ensures c.in_ok-check_column.was;
 }
 
 pub overflow_add-next : goal.overflow_add-next
@@ -84,14 +86,14 @@ overflow_add-next c =
     omega (
       arith,
       wide _ c.loop-c.at _ col s c.column_bytes.ensures,
-      room _ _ c.loop-c.at col s _ c.check_column-check.ensures c.in_default.is,
+      room _ _ c.loop-c.at col s _ c.check_column.ensures c.in_ok-check_column.was,
       length-drop c.loop-c.at s,
     )
 
 pub null_rows-nulls-requires : goal.null_rows-nulls-requires
 null_rows-nulls-requires c =
     let checked = bits_passed _ _ _ (valid c.args.n c.loop-c.c c.loop-c.at (get_or c.args.schema.columns c.loop-c.c no_column) c.args.sheet.now _
-    c.check_column-check.ensures c.in_default.is) in
+    c.check_column.ensures c.in_ok-check_column.was) in
     record { n_le_max_rows = c.requires.n_le_max_rows; n_in_bounds = checked.0; n_value = checked.1 }
 
 -- ---- the end of a turn
@@ -103,15 +105,13 @@ loop-c-preserved c =
     let null = c.null_rows-nulls.ensures.value (layout col) ∙ ap (λ (t : List ℕ). nulls_in (column_slots (layout col) c.args.n t)) (part_rest s c.loop-c.at) in
     more _ _ _ _ _ _ _ c.loop-c.invariant col (there schema c.well_formed.0 c.requires.limited _ c.loop-c-test.true)
     (is schema c.well_formed.0 c.requires.limited _ c.loop-c-test.true)
-    (passes _ _ c.loop-c.at col s _ c.check_column-check.ensures c.in_default.is) _ _ null c.null_rows-nulls.ensures.upper_bound
+    (passes _ _ c.loop-c.at col s _ c.check_column.ensures c.in_ok-check_column.was) _ _ null c.null_rows-nulls.ensures.upper_bound
     c.requires.n_le_max_rows (wide _ c.loop-c.at _ col s c.column_bytes.ensures) (omega arith)
 
 pub returns-then-at-sheet : goal.returns-then-at-sheet
 returns-then-at-sheet c =
-    after _ _ _ _ _ _ _ c.loop-c.invariant (past c.args.schema c.well_formed.0 c.requires.limited _ c.loop-c-test.false) _
-    c.if-at-sheet.true c.found-then-at-sheet.ensures.0
+    after _ _ _ _ _ _ _ c.loop-c.invariant (past c.args.schema c.well_formed.0 c.requires.limited _ c.loop-c-test.false) c.if-at-sheet.true
 
 pub returns : goal.returns
 returns c =
-    good _ _ _ _ _ _ _ c.loop-c.invariant (past c.args.schema c.well_formed.0 c.requires.limited _ c.loop-c-test.false) _
-    c.if-at-sheet.false c.found-2.ensures.0 c.found-2.ensures.1 c.found-2.ensures.2
+    good _ _ _ _ _ _ _ c.loop-c.invariant (past c.args.schema c.well_formed.0 c.requires.limited _ c.loop-c-test.false) c.if-at-sheet.false

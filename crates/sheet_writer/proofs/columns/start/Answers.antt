@@ -10,4 +10,4 @@ pub loop-r-preserved : goal.loop-r-preserved
 loop-r-preserved c =
     let a = c.args in
     let l = c.loop-r in
-    fill_more l.invariant c.loop-r-test.true _ (sym (get_or-take (length a.cursors.now) a.offsets.now l.r 0 (omega arith)))
+    fill_more l.invariant (omega arith) _ (sym (get_or-take (length a.cursors.now) a.offsets.now l.r 0 (omega arith)))

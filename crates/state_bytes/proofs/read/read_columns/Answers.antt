@@ -1,5 +1,4 @@
 -- So many columns are read, in each turn and at the end. Assumes nothing.
-use Prim.Native.Nat.{◌-◌}
 use native.Mathlib.Omega.{arith}
 use Rattle.format.specs.Described.{code_at, column_of}
 use Rattle.state_bytes.proofs.Reading.{columns_begin, columns_more, columns_end}

@@ -1,4 +1,5 @@
 -- `station_c::stream::station_cutter_start` meets its contract. Assumes nothing.
+use Rattle.format.specs.Described.{spelled}
 use Rattle.station_c.proofs.Streaming.{start_short, start_long}
 use Rattle.station_c.proofs.stream.station_cutter_start.Goals as goal
 
@@ -6,7 +7,7 @@ pub returns-then-answer-lt-ANSWER_BYTES : goal.returns-then-answer-lt-ANSWER_BYT
 returns-then-answer-lt-ANSWER_BYTES c = start_short _ c.if-answer-lt-ANSWER_BYTES.true _ _
 
 pub start_lent-r-requires : goal.start_lent-r-requires
-start_lent-r-requires c = record { list = _; says = c.read_list.ensures }
+start_lent-r-requires c = record { list = spelled c.args.list.now; says = c.read_list.ensures }
 
 pub returns : goal.returns
 returns c =

@@ -13,7 +13,7 @@ returns c =
     let k = A.count - 8 in
     copy_twice l A.from A.count A.descending A.out.now A.at c.requires.count_in_bounds c.requires.count_in_bounds_2 k (A.count - A.count % 8) 8 _ _
     (omega arith) (omega arith) (omega (arith, c.if-count-lt8.false)) c.copy_words.ensures
-    (c.put64.ensures
+    (c.put.ensures
     ∙ ap (sets c.copy_words.new.out (A.at + k))
     (word_is l (A.from + k) 8 A.descending _ _ (λ i. (c.type_inv.row i).fits) (omega (arith, c.if-count-lt8.false, c.requires))
-    c.low64-last.ensures c.directed64.ensures))
+    c.low-last.ensures c.directed.ensures))

@@ -11,17 +11,17 @@ use Rattle.variable_reader.proofs.reader.clear.Goals as goal
 pub loop-i-preserved : goal.loop-i-preserved
 loop-i-preserved c =
     let A = c.args in
-    clear_word c.loop-i.invariant 8 c.directed64-word.result (omega arith)
-    (turned_word A.descending A.row.now c.loop-i.i 8 c.low64.result c.directed64-word.result
-    (λ j. (c.type_inv.row j).fits) (omega arith) c.directed64-word.type_inv c.low64.ensures c.directed64-word.ensures)
+    clear_word c.loop-i.invariant 8 c.directed-word.result (omega arith)
+    (turned_word A.descending A.row.now c.loop-i.i 8 c.low.result c.directed-word.result
+    (λ j. (c.type_inv.row j).fits) (omega arith) c.directed-word.type_inv c.low.ensures c.directed-word.ensures)
     c.if-word-ne0.false
 
 pub returns : goal.returns
 returns c e =
     let A = c.args in
     let known : (j : ℕ) → get_or A.row.now j 0 < 256 = λ j. (c.type_inv.row j).fits in
-    clear_top c.loop-i.invariant 8 c.directed64-word-2.result (omega arith) (omega arith) (omega (arith, length_directed A.descending A.row.now))
+    clear_top c.loop-i.invariant 8 c.directed-word-2.result (omega arith) (omega arith) (omega (arith, length_directed A.descending A.row.now))
     (bytes_directed A.descending A.row.now (bytes_of A.row.now known))
-    (turned_word A.descending A.row.now (A.to - 8) 8 c.low64-2.result c.directed64-word-2.result known (omega arith)
-    c.directed64-word-2.type_inv c.low64-2.ensures c.directed64-word-2.ensures)
+    (turned_word A.descending A.row.now (A.to - 8) 8 c.low-2.result c.directed-word-2.result known (omega arith)
+    c.directed-word-2.type_inv c.low-2.ensures c.directed-word-2.ensures)
     (eqb-true _ 0 e)

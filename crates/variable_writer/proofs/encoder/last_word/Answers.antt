@@ -8,5 +8,5 @@ use Rattle.variable_writer.proofs.encoder.last_word.Goals as goal
 pub returns : goal.returns
 returns c =
     let A = c.args in
-    word_last 8 c.low64.result A.val.now A.from (omega arith) (omega arith) (search rules)
-    (bytes_of A.val.now (λ i. (c.shared_slice_known-1.given i).fits)) c.low64.ensures
+    word_last 8 c.low.result A.val.now A.from (omega arith) (omega arith) (search rules)
+    (bytes_of A.val.now (λ i. (c.shared_slice_known-1.given i).fits)) c.low.ensures

@@ -1,2 +1,0 @@
--- Laws of the keys of numbers, over the width.
-pub mod Codecs

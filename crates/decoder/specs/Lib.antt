@@ -1,2 +1,0 @@
--- What the parts of decoding promise one another.
-pub mod Decoding

@@ -1,2 +1,0 @@
--- What the writing walk asks, and what it leaves.
-pub mod Encoding

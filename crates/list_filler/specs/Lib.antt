@@ -1,2 +1,0 @@
--- What the parts of read_list promise one another.
-pub mod Filling
