@@ -12,7 +12,7 @@ ghost use Rattle.row_pairs.specs.Pairs.{pair_rows, InSheets};
 use format::Schema;
 use number_order::EQUAL;
 use row_pairs::{pair_count, row_at};
-use sheet_reader::sheet::Facts;
+use sheet_reader::sheet::Sheeted;
 use slot_order::order_slots;
 
 // For each pair of rows of two sheets, whose columns are known by their facts, below, equal or above: up to the first slots that differ.
@@ -20,18 +20,18 @@ pub fn write_orders(
     schema: Schema,
     n: usize,
     sheet: &[u8],
-    facts: [Facts; format::MAX_COLUMNS],
+    known: &Sheeted,
     m: usize,
     other: &[u8],
-    known: [Facts; format::MAX_COLUMNS],
+    other_known: &Sheeted,
     numbers: &[u64],
     bytes: &[u8],
     answers: &mut [u8],
 )
     requires n_le_max_rows { (n ≤ max_rows) × (m ≤ max_rows) }
     requires count_le_max_columns { schema.count ≤ max_columns }
-    requires known { Known n (cols_of schema) sheet.now facts }
-    requires known_2 { Known m (cols_of schema) other.now known }
+    requires known { Known n (cols_of schema) sheet.now known.now.facts }
+    requires known_2 { Known m (cols_of schema) other.now other_known.now.facts }
     requires in_sheets { InSheets n m (pair_rows numbers.now bytes.now) }
     requires bytes_in_bounds { pair_count (pair_rows numbers.now bytes.now) ≤ length answers.old }
     ensures { answers.new ≡ sets answers.old 0
@@ -44,8 +44,8 @@ pub fn write_orders(
         let j = row_at(numbers, bytes, 2 * k + 1) as usize;
         let mut found = EQUAL;
         for c in 0..count {
-            let f = facts[c];
-            let g = known[c];
+            let f = known.facts[c];
+            let g = other_known.facts[c];
             let base = f.base;
             let start = g.base;
             found = order_slots(f.column, n, &sheet[base..], i, m, &other[start..], j);

@@ -45,25 +45,22 @@ pub fn encode_month_day_nano(
 }
 
 // A signed number of so many words of 64 bits: the top word, which has the sign, and then the others, from the highest down.
-pub fn put_words(
+pub fn put_words<const WORDS: usize>(
     out: &mut [u8],
     at: usize,
     values: &[u8],
     from: usize,
-    words: usize,
     descending: bool,
 ) -> usize
-    requires words_nonzero { 0 < words }
-    requires words_in_bounds { from + 8 * words ≤ length values.now }
-    requires words_in_bounds_2 { at + 8 * words ≤ length out.old }
-    ensures { Wrote (directed descending (signed_key (take (8 * words) (drop from values.now)))) at
+    requires words_nonzero { 0 < WORDS }
+    requires words_in_bounds { from + 8 * WORDS ≤ length values.now }
+    requires words_in_bounds_2 { at + 8 * WORDS ≤ length out.old }
+    ensures { Wrote (directed descending (signed_key (take (8 * WORDS) (drop from values.now)))) at
         out.old out.new result }
 {
-    let mut left = words - 1;
-    let mut next = put_number::<u64>(out, at, values, from + 8 * left, Coding::Signed, descending);
-    // To do: a `for`.
-    while 0 < left {
-        left -= 1;
+    let top = WORDS - 1;
+    let mut next = put_number::<u64>(out, at, values, from + 8 * top, Coding::Signed, descending);
+    for left in (0..top).rev() {
         next = put_number::<u64>(
             out,
             next,

@@ -19,16 +19,13 @@ fn clear(row: &[u8], from: usize, to: usize, descending: bool) -> bool
     requires to_in_bounds { to ≤ length row.now }
     ensures { result ≡ true → from_bad (take (to - from) (drop from (directed descending row.now))) ≡ 0 }
 {
-    let mut i = from;
-    // To do: a `for`.
-    while 8 <= to - i {
-        let word = directed(descending, u64::low(row, i));
+    for k in 0..(to - from) / 8 {
+        let word = directed(descending, u64::low(row, from + 8 * k));
         if word != 0 {
             return false;
         }
-        i += 8;
     }
-    let left = to - i;
+    let left = (to - from) % 8;
     if left == 0 {
         return true;
     }
@@ -48,14 +45,11 @@ fn unpadded(row: &[u8], from: usize, to: usize, descending: bool) -> usize
     if clear(row, from, to, descending) {
         return 0;
     }
-    let mut i = from;
-    // To do: a `for`.
-    while i < to {
+    for i in from..to {
         let byte = byte_at(row, i, descending);
         if byte != 0 {
             return to - i;
         }
-        i += 1;
     }
     0
 }

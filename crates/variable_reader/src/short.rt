@@ -38,11 +38,9 @@ fn short_blocks(row: &[u8], descending: bool) -> Short
     ensures { 0 < result.field → Value result.field result.value ≡ counted (length row.now) 0 (blocks_read descending row.now) }
 {
     let len = row.len();
-    let mut at = 1;
-    let mut k = 0;
-    let mut count = 0;
-    // To do: a `for`.
-    while k < MINI_BLOCK_COUNT {
+    for k in 0..MINI_BLOCK_COUNT {
+        let at = 1 + k * (MINI_BLOCK_SIZE + 1);
+        let count = k * MINI_BLOCK_SIZE;
         if len - at <= MINI_BLOCK_SIZE {
             return Short { field: 0, value: 0 };
         }
@@ -50,9 +48,6 @@ fn short_blocks(row: &[u8], descending: bool) -> Short
         if end != BLOCK_CONTINUATION {
             return lengths(last_block(row, at, MINI_BLOCK_SIZE, wide(end), count, descending));
         }
-        at += MINI_BLOCK_SIZE + 1;
-        k += 1;
-        count += MINI_BLOCK_SIZE;
     }
     Short { field: 0, value: 0 }
 }

@@ -34,7 +34,7 @@ pub order_slots-found-requires-clause-passes : goal.order_slots-found-requires-c
 order_slots-found-requires-clause-passes c =
     let A = c.args in
     let k = c.loop-c.c in
-    let f = get_or A.facts k no_facts in
+    let f = get_or A.known.now.facts k no_facts in
     let below : k < length (cols_of A.schema) = omega (arith, in_use A.schema c.well_formed.0 c.requires.count_le_max_columns) in
     rw (part_rest A.sheet.now f.base) (stands_passes A.n k f.base f.column A.sheet.now (c.requires.known k below).stands)
 
@@ -42,19 +42,19 @@ pub order_slots-found-requires-clause-passes_2 : goal.order_slots-found-requires
 order_slots-found-requires-clause-passes_2 c =
     let A = c.args in
     let k = c.loop-c.c in
-    let g = get_or A.known k no_facts in
+    let g = get_or A.other_known.now.facts k no_facts in
     let below : k < length (cols_of A.schema) = omega (arith, in_use A.schema c.well_formed.0 c.requires.count_le_max_columns) in
     rw (part_rest A.other.now g.base)
-    (stands_passes A.m k g.base (get_or A.facts k no_facts).column A.other.now
-    (others_stand (cols_of A.schema) A.n A.sheet.now A.facts A.m A.other.now A.known k c.requires.known c.requires.known_2 below))
+    (stands_passes A.m k g.base (get_or A.known.now.facts k no_facts).column A.other.now
+    (others_stand (cols_of A.schema) A.n A.sheet.now A.known.now.facts A.m A.other.now A.other_known.now.facts k c.requires.known c.requires.known_2 below))
 
 pub loop-c-preserved : goal.loop-c-preserved
 loop-c-preserved c =
     let A = c.args in
     let k = c.loop-c.c in
-    deciding_ties (column_order A.n A.sheet.now A.facts c.row_at-i.result A.m A.other.now A.known c.row_at-j.result) A.schema.count k
+    deciding_ties (column_order A.n A.sheet.now A.known.now.facts c.row_at-i.result A.m A.other.now A.other_known.now.facts c.row_at-j.result) A.schema.count k
     c.loop-c.invariant c.loop-c-test.true
-    (rw (part_rest A.sheet.now (get_or A.facts k no_facts).base, part_rest A.other.now (get_or A.known k no_facts).base) at c.order_slots-found.ensures)
+    (rw (part_rest A.sheet.now (get_or A.known.now.facts k no_facts).base, part_rest A.other.now (get_or A.other_known.now.facts k no_facts).base) at c.order_slots-found.ensures)
     c.if-found-ne-EQUAL.false
 
 -- the pairs that are left begin with this one, which all columns left tied, or one decided
@@ -64,8 +64,8 @@ loop-k-preserved c =
     let k = c.loop-k.k in
     let n = c.pair_count-pairs.result in
     let count = A.schema.count in
-    let R = facts_rank A.n A.sheet.now A.facts A.m A.other.now A.known count (pair_rows A.numbers.now A.bytes.now) in
-    let f = column_order A.n A.sheet.now A.facts c.row_at-i.result A.m A.other.now A.known c.row_at-j.result in
+    let R = facts_rank A.n A.sheet.now A.known.now.facts A.m A.other.now A.other_known.now.facts count (pair_rows A.numbers.now A.bytes.now) in
+    let f = column_order A.n A.sheet.now A.known.now.facts c.row_at-i.result A.m A.other.now A.other_known.now.facts c.row_at-j.result in
     let at = c.loop-c.c in
     let first : c.loop-c-test.found ≡ rank (first_of (each 0 count f)) =
     elim c.loop-c-test.branch [
@@ -74,14 +74,14 @@ loop-k-preserved c =
           w.found-is
           ∙ deciding_end f count count
           (deciding_differs f count at c.loop-c.invariant w.loop-c-test.true
-          (rw (part_rest A.sheet.now (get_or A.facts at no_facts).base, part_rest A.other.now (get_or A.known at no_facts).base)
+          (rw (part_rest A.sheet.now (get_or A.known.now.facts at no_facts).base, part_rest A.other.now (get_or A.other_known.now.facts at no_facts).base)
           at w.order_slots-found.ensures)
           w.if-found-ne-EQUAL.true)
           (omega arith)
     ] in
     let found : c.loop-c-test.found ≡ R k =
     first
-    ∙ ap₂ (λ (i j : ℕ). rank (first_of (each 0 count (column_order A.n A.sheet.now A.facts i A.m A.other.now A.known j))))
+    ∙ ap₂ (λ (i j : ℕ). rank (first_of (each 0 count (column_order A.n A.sheet.now A.known.now.facts i A.m A.other.now A.other_known.now.facts j))))
     c.row_at-i.ensures c.row_at-j.ensures in
     let rest : each k (n - k) R ≡ (c.loop-c-test.found ∷ []) ++ each (k + 1) (n - (k + 1)) R = each_step R n k c.loop-k-test.true ∙ rw (found, add-one k) in
     walk_piece 1 (c.loop-c-test.found ∷ []) _ c.loop-k.invariant rest refl
@@ -92,8 +92,8 @@ returns c =
     let A = c.args in
     let n = c.pair_count-pairs.result in
     let rows = pair_rows A.numbers.now A.bytes.now in
-    let R = facts_rank A.n A.sheet.now A.facts A.m A.other.now A.known in
+    let R = facts_rank A.n A.sheet.now A.known.now.facts A.m A.other.now A.other_known.now.facts in
     let all : pair_ranks (cols_of A.schema) A.n A.sheet.now A.m A.other.now rows ≡ each 0 n (R A.schema.count rows) =
-    rows_known A.n A.sheet.now A.facts A.m A.other.now A.known (cols_of A.schema) rows c.requires.known c.requires.known_2 c.requires.in_sheets
+    rows_known A.n A.sheet.now A.known.now.facts A.m A.other.now A.other_known.now.facts (cols_of A.schema) rows c.requires.known c.requires.known_2 c.requires.in_sheets
     ∙ ap₂ (λ (k n : ℕ). each 0 k (R n rows)) (sym c.pair_count-pairs.ensures) (in_use A.schema c.well_formed.0 c.requires.count_le_max_columns) in
     (walk_end c.loop-k.invariant (each_none (R A.schema.count rows) n c.loop-k.k c.loop-k-test.false)).1 ∙ ap (sets A.answers.now 0) (sym all)

@@ -9,8 +9,8 @@ use Rattle.comparer.proofs.write_orders.Given as goal
 
 abbrev pub invariant-loop-c : goal.invariant-loop-c
 invariant-loop-c l =
-    Deciding (column_order l.n l.sheet l.facts l.i l.m l.other l.known l.j) l.count l.c l.found
+    Deciding (column_order l.n l.sheet l.known.facts l.i l.m l.other l.other_known.facts l.j) l.count l.c l.found
 
 abbrev pub invariant-loop-k : goal.invariant-loop-k
 invariant-loop-k l =
-    let R = facts_rank l.n l.sheet l.facts l.m l.other l.known l.count (pair_rows l.numbers l.bytes) in Walk (each 0 l.pairs R) (each l.k (l.pairs - l.k) R) l.initial.answers 0 l.answers l.k
+    let R = facts_rank l.n l.sheet l.known.facts l.m l.other l.other_known.facts l.count (pair_rows l.numbers l.bytes) in Walk (each 0 l.pairs R) (each l.k (l.pairs - l.k) R) l.initial.answers 0 l.answers l.k

@@ -1,25 +1,27 @@
-use Prim.Native.Nat.{◌+◌, ◌*◌}
-use mathlib.Core.Path.{◌≡◌}
+use Prim.Native.Nat.{◌-◌}
+use mathlib.Core.Path.{refl}
 use native.Mathlib.Omega.{arith}
+use borrow.Author.Rules.{rules}
 use Rattle.runs.proofs.Copying.{copy_start, copy_word, copy_end}
 use Rattle.runs.proofs.copy_words.Goals as goal
 
-pub loop-k-init : goal.loop-k-init
-loop-k-init c = copy_start _ _ _ _ _ _
+pub loop-i-init : goal.loop-i-init
+loop-i-init c = (copy_start _ _ _ _ _ _, refl)
 
 pub put-requires : goal.put-requires
 put-requires c =
-    omega (arith, c.loop-k.invariant.wrote.same)
+    omega (arith, c.loop-i.invariant.0.wrote.same)
 
-pub loop-k-preserved : goal.loop-k-preserved
-loop-k-preserved c =
-    let next : 8 * c.loop-k.k + 8 ≡ 8 * (c.loop-k.k + 1) = omega arith in
-    rw (← next, c.put.ensures)
-    (copy_word c.loop-k.invariant 8 c.low-word.result c.directed.result (omega arith) c.requires.count_in_bounds
-    (λ i. (c.shared_slice_known-1.given i).fits) c.low-word.ensures c.directed.ensures)
+pub loop-i-preserved : goal.loop-i-preserved
+loop-i-preserved c = (
+  rw c.put.ensures
+      (copy_word c.loop-i.invariant.0 8 c.low-word.result c.directed.result (omega arith) c.requires.count_in_bounds
+      (λ i. (c.shared_slice_known-1.given i).fits) c.low-word.ensures c.directed.ensures),
+  omega arith,
+)
 
 pub shape_of-out : goal.shape_of-out
-shape_of-out c = c.loop-k.invariant.wrote.same
+shape_of-out c = c.loop-i.invariant.0.wrote.same
 
 pub returns : goal.returns
-returns c = copy_end c.loop-k.invariant (omega arith)
+returns c = copy_end c.loop-i.invariant.0 (search rules)

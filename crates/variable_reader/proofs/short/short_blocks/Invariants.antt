@@ -1,11 +1,7 @@
 -- `variable_reader::short::short_blocks` meets its contract: the laws of the count walk, in blocks that are all short. Assumes nothing.
-use Prim.Native.Nat.{◌-◌, ◌*◌}
-use mathlib.Core.Path.{◌≡◌}
+use Prim.Native.Nat.{◌+◌, ◌*◌}
 use Rattle.variable_reader.proofs.Counting.{Counting}
 use Rattle.variable_reader.proofs.short.short_blocks.Given as goal
 
 abbrev pub invariant-loop-k : goal.invariant-loop-k
-invariant-loop-k l = Counting l.descending l.row l.at l.k l.count × (l.count ≡ 8 * l.k)
-
-abbrev pub decreases-loop-k : goal.decreases-loop-k
-decreases-loop-k l = 4 - l.k
+invariant-loop-k l = Counting l.descending l.row (1 + l.k * 9) l.k (l.k * 8)
