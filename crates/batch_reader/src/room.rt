@@ -32,7 +32,7 @@ pub fn frames(schema: Schema, n: usize) -> usize
     ensures { (result ≡ sum (map (λ col. frame (layout col) n) (cols_of schema))) × (result ≤ max_columns * widest_frame) }
 {
     let mut bytes = 0;
-    for column in &schema.columns[..schema.count] {
+    for column in schema.in_use() {
         bytes += frame_bytes(column.kind, n);
     }
     bytes

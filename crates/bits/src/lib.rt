@@ -48,6 +48,7 @@ pub fn count_ones(s: &[u8]) -> usize
 }
 
 // Whether a bit past row n is set in the packed bits of n rows: those bits are what is left of the last byte above its rows.
+// Room for n bits, here and below: it is about a slice and a number, which no type says in plainer words.
 pub fn spare(s: &[u8], n: usize) -> bool
     requires { packedFor n ≤ length s.now }
     ensures { result ≡ spare_set (take (packedFor n) s.now) n }

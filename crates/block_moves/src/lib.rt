@@ -11,9 +11,9 @@ ghost use Rattle.moves.specs.Moves.{as_move};
 use blocks::{BLOCK_CONTINUATION, block_size};
 use format::{MAX_SLOT, RowFault, Spot};
 use moves::Moved;
-use runs::wide;
 
 // How many bytes of a value come before block k.
+// To do: `before k ≤ max_slot`, here and below, in a type of a block's number.
 pub fn bytes_before(k: usize) -> usize
     requires { before k ≤ max_slot }
     ensures { result ≡ before k }
@@ -55,7 +55,7 @@ fn end_byte(k: usize, marks: u64, at: u64, end: u8) -> Moved
         }
         return Moved::On(Spot::Block(k + 1, 0, 0));
     }
-    let used = wide(end);
+    let used = usize::from(end);
     if used < 1 {
         return Moved::Bad(RowFault::EndByte, at);
     }
@@ -74,6 +74,7 @@ fn end_byte(k: usize, marks: u64, at: u64, end: u8) -> Moved
 }
 
 // A byte of block k.
+// `seen ≤ at`, here and in `value_moves`: two numbers of a spot and its row, which no type holds together in plainer words.
 pub fn block_byte(k: usize, seen: usize, marks: u64, at: u64, byte: u8) -> Moved
     requires k_bound { before k ≤ max_slot }
     requires seen_bound { seen ≤ block_size k }

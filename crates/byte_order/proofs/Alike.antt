@@ -2,23 +2,24 @@
 use Prim.Native.Nat.Ordering.{eq}
 use Prim.Native.Nat.Ordering.{gt}
 use Prim.Native.Nat.Ordering.{lt}
-use Prim.Native.Nat.{ℕ, ◌+◌, ◌^◌, ◌<◌, ◌≤◌, compare as cmpℕ, Ordering}
+use Prim.Native.Nat.{ℕ, ◌+◌, ◌^◌, ◌<◌, ◌≤◌, min, compare as cmpℕ, Ordering}
 use mathlib.Core.Path.{◌≡◌, refl, sym, ap, ap₂, ◌∙◌}
 use mathlib.Core.List.{List, [], ◌∷◌, ◌++◌, reverse, reverse-reverse}
 use native.Mathlib.Nat.{suc_inj}
 use native.Mathlib.Omega.{arith}
 use lib.ListN.{length, get_or, take, drop, length-drop, take-append-drop, drop_of_length-le}
 use lib.Seq.{drop-cons, drop-drop, take-add, take-take, length-take-le}
-use lib.IntN.{ℤ, pos, negsuc}
+use Rattle.std.specs.declared.cmp.Ordering.{Ordering as Answer}
+use Rattle.std.specs.declared.cmp.Ordering.TheVariants.{Equal}
+use Rattle.std.specs.Ordering.{nat_cmp}
 use Rattle.format.specs.Lists.{low_bytes}
 use Rattle.format.specs.Order.{then, cmp}
-use Rattle.format.specs.Entries.{sign, compare_answer}
-use Rattle.format.specs.Promises.{Compared}
-use Rattle.basics.proofs.Compare.{Tri, below, same, above, tri, compare_lt, compare_gt, compare_eq}
+use Rattle.basics.proofs.Compare.{Tri, below, same, above, tri, compare_eq}
 use Rattle.basics.proofs.LowBytes.{length_low_bytes, bytes_low_bytes, low_low_bytes}
 use Rattle.number.proofs.Words.{byte_back}
 use Rattle.laws.proofs.HighFirst.{unsigned_order}
-use Rattle.byte_order.specs.Least.{Least}
+use Rattle.byte_order.specs.Answers.{ordering}
+use Rattle.byte_order.proofs.Answered.{numbers}
 
 -- the first i bytes are there in both, and are the same
 pub record Alike (a b : List ℕ) (i : ℕ) : Type 0 where
@@ -29,19 +30,10 @@ pub record Alike (a b : List ℕ) (i : ℕ) : Type 0 where
 pub alike_none : (a b : List ℕ) → Alike a b 0
 alike_none a b = record { in_a = omega arith; in_b = omega arith; same = refl }
 
--- x and y, the words of w bytes at j, decide: one is less, or the two are alike past them
+-- x and y, the words of w bytes at j, decide, or the two are alike past them
 pub record Decides (a b : List ℕ) (j w x y : ℕ) : Type 0 where
-  pub less : x < y → Compared a b (negsuc 0)
-  pub more : y < x → Compared a b (pos 1)
-  pub differs : (x ≡ y → ⊥) → (r : ℤ) → r ≡ sign (cmpℕ x y) → Compared a b r
+  pub differs : (x ≡ y → ⊥) → (o : Answer) → o ≡ nat_cmp x y → o ≡ ordering (cmp a b)
   pub next : x ≡ y → Alike a b (j + w)
-
--- ---- two numbers that differ
-pub differ_less : (x y : ℕ) → x < y → negsuc 0 ≡ sign (cmpℕ x y)
-differ_less x y h = ap sign (sym (compare_lt x y h))
-
-pub differ_more : (x y : ℕ) → (x ≡ y → ⊥) → y ≤ x → pos 1 ≡ sign (cmpℕ x y)
-differ_more x y ne h = ap sign (sym (compare_gt x y (omega (arith, ne))))
 
 -- ---- comparing what is joined
 
@@ -75,6 +67,19 @@ word_order w x y f g fx fy ex ey =
     ∙ unsigned_order (low_bytes w x) (low_bytes w y) (length_low_bytes w x ∙ sym (length_low_bytes w y)) (bytes_low_bytes w x) (bytes_low_bytes w y)
     ∙ ap₂ cmpℕ (low_low_bytes w x fx) (low_low_bytes w y fy)
 
+-- where one of them ends, the lengths decide
+lengths : (a b : List ℕ) (k : ℕ) → k ≤ length a → k ≤ length b → min (length a) (length b) ≤ k
+    → nat_cmp (length a) (length b) ≡ ordering (cmp (drop k a) (drop k b))
+lengths a b k ha hb h = numbers (length a) (length b) ∙ go (cmpℕ (length a) (length b)) (tri (length a) (length b))
+  where
+    gone : (s : List ℕ) → length s ≤ k → drop k s ≡ []
+    gone s l = drop_of_length-le s l
+
+    go : (o : Ordering) → Tri (length a) (length b) o → ordering o ≡ ordering (cmp (drop k a) (drop k b))
+    go lt (below l) = rw (gone a (omega arith), drop-cons b k 0 (omega arith)) refl
+    go eq (same e) = rw (gone a (omega arith), gone b (omega arith)) refl
+    go gt (above l) = rw (drop-cons a k 0 (omega arith), gone b (omega arith)) refl
+
 -- ---- alike up to i, and so up to any place before it
 module _ {a b : List ℕ} {i : ℕ} (k : Alike a b i) (j : ℕ) (h : j ≤ i) where
   fronts : take j a ≡ take j b
@@ -106,11 +111,8 @@ module _ {a b : List ℕ} {i : ℕ} (k : Alike a b i) (j : ℕ) (h : j ≤ i) wh
     kept ne gt (above l) = refl
 
     pub decides : Decides a b j w x y
-    unfolding compare_answer
     decides = record {
-      less = λ l. record { answers = rw decided (rw (compare_lt x y l)) };
-      more = λ l. record { answers = rw decided (rw (compare_gt x y l)) };
-      differs = λ ne r e. record { answers = e ∙ ap sign (sym (decided ∙ kept ne (cmpℕ x y) (tri x y))) };
+      differs = λ ne o e. e ∙ numbers x y ∙ ap ordering (sym (decided ∙ kept ne (cmpℕ x y) (tri x y)));
       next = λ e.
           record {
             in_a = ia;
@@ -123,19 +125,13 @@ module _ {a b : List ℕ} {i : ℕ} (k : Alike a b i) (j : ℕ) (h : j ≤ i) wh
           };
     }
 
--- ---- where one of them ends
-module _ {a b : List ℕ} {i : ℕ} (k : Alike a b i) where
-  pub b_ends : i < length a → length b ≤ i → Compared a b (pos 1)
-  unfolding compare_answer
-  b_ends ha hb = record { answers = rw (so_far k i (omega arith)) (rw (drop-cons a i 0 ha) (rw (drop_of_length-le b hb))) }
+-- none is left of one of them
+pub alike_ends : {a b : List ℕ} {i : ℕ} → Alike a b i → min (length a) (length b) ≤ i → nat_cmp (length a) (length b) ≡ ordering (cmp a b)
+alike_ends {a} {b} {i} k h = lengths a b i k.in_a k.in_b h ∙ ap ordering (sym (so_far k i (omega arith)))
 
-  pub a_ends : length a ≤ i → i < length b → Compared a b (negsuc 0)
-  unfolding compare_answer
-  a_ends ha hb = record { answers = rw (so_far k i (omega arith)) (rw (drop_of_length-le a ha) (rw (drop-cons b i 0 hb))) }
-
-  pub both_end : length a ≤ i → length b ≤ i → Compared a b (pos 0)
-  unfolding compare_answer
-  both_end ha hb = record { answers = rw (so_far k i (omega arith)) (rw (drop_of_length-le a ha) (rw (drop_of_length-le b hb))) }
+pub alike_whole : {a b : List ℕ} {i : ℕ} → Alike a b i → min (length a) (length b) ≤ i → length a ≡ length b → Equal ≡ ordering (cmp a b)
+alike_whole {a} {b} k h e =
+    ap ordering (sym (compare_eq (length a) (length b) e)) ∙ sym (numbers (length a) (length b)) ∙ alike_ends k h
 
 -- a byte as a word of one
 pub byte_word : (l : List ℕ) (at : ℕ) → ((i : ℕ) → get_or l i 0 < 256) → at < length l → low_bytes 1 (get_or l at 0) ≡ reverse (take 1 (drop at l))
@@ -148,6 +144,6 @@ bytes_decide {a} {b} {i} k fa fb ia ib =
     decides k i (omega arith) 1 _ _ (fa i) (fb i) (omega arith) (omega arith) (byte_word a i fa ia) (byte_word b i fb ib)
 
 -- and so do the words of eight at j, within the shorter
-pub words_decide : {a b : List ℕ} {i m : ℕ} → Alike a b i → Least (length a) (length b) m → (j : ℕ) → j ≤ i → j + 8 ≤ m → {x y : ℕ} → x < 256 ^ 8 → y < 256 ^ 8
+pub words_decide : {a b : List ℕ} {i : ℕ} → Alike a b i → (j : ℕ) → j ≤ i → j + 8 ≤ min (length a) (length b) → {x y : ℕ} → x < 256 ^ 8 → y < 256 ^ 8
     → low_bytes 8 x ≡ reverse (take 8 (drop j a)) → low_bytes 8 y ≡ reverse (take 8 (drop j b)) → Decides a b j 8 x y
-words_decide k shorter j h inside fx fy ex ey = decides k j h 8 _ _ fx fy (omega arith) (omega arith) ex ey
+words_decide k j h inside fx fy ex ey = decides k j h 8 _ _ fx fy (omega arith) (omega arith) ex ey

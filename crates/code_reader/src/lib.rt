@@ -5,9 +5,8 @@ ghost use Rattle.std.specs.Prelude.{◌≡◌, ◌+◌, ◌*◌, ◌≤◌, leng
 ghost use Rattle.format.specs.Described.{coded, code_at, column_of, held_fault};
 ghost use Rattle.list_reader.specs.Listing.{ListedAs};
 
-use column_facts::no_column;
-use descriptions::{check_numbers, kind_of, options_of};
-use format::{Column, Refusal, Schema};
+use descriptions::{check_numbers, kind_of};
+use format::{Column, Refusal, Schema, SortOptions};
 
 // The width of the description at `at`.
 fn coded_width(codes: &[u8], at: usize) -> u16
@@ -39,7 +38,7 @@ pub fn coded_column(codes: &[u8], i: usize) -> Column
 {
     let at = 4 * i;
     let kind = kind_of(codes[at], coded_width(codes, at));
-    let options = options_of(codes[at + 1]);
+    let options = SortOptions::from(codes[at + 1]);
     Column {
         kind: kind,
         options: options,
@@ -50,8 +49,8 @@ pub fn coded_column(codes: &[u8], i: usize) -> Column
 pub fn read_codes(codes: &[u8]) -> Result<Schema, Refusal>
     ensures { ListedAs (coded codes.now) result }
 {
-    let none = no_column();
-    let mut columns = [none; format::MAX_COLUMNS];
+    // No Vec: the library has no heap.
+    let mut columns = [Column::default(); format::MAX_COLUMNS];
     let count = codes.len() / 4;
     if count == 0 {
         return Err(Refusal::ListCut(0));

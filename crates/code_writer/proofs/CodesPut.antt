@@ -1,29 +1,17 @@
--- Codes, written one after the other: the four bytes of one, and those of the columns in use. Assumes nothing.
-use Prim.Native.Nat.{ℕ, suc, ◌+◌, ◌*◌, ◌<◌, ◌≤◌}
+-- Codes, written one after the other: those of columns. Assumes nothing.
+use Prim.Native.Nat.{ℕ, ◌+◌, ◌*◌, ◌<◌, ◌≤◌}
 use mathlib.Core.Path.{◌≡◌, refl, sym, ap, subst, ◌∙◌}
-use mathlib.Core.List.{List, [], ◌∷◌}
+use mathlib.Core.List.{List}
 use native.Mathlib.Omega.{arith}
-use lib.ListN.{length, get_or, set}
-use lib.Seq.{sets, get_or-take}
+use lib.ListN.{length, get_or}
+use lib.Seq.{sets}
 use Rattle.format.specs.declared.Column.{Column}
-use Rattle.format.specs.declared.Schema.{Schema}
-use Rattle.format.specs.Limits.{max_columns}
 use Rattle.format.specs.Lists.{each, joined, over}
-use Rattle.format.specs.Schemas.{no_column, cols_of}
+use Rattle.format.specs.Schemas.{no_column}
 use Rattle.format.specs.Described.{code, codes}
 use Rattle.basics.proofs.Append.{Turns, over_sets, turns_more, turns_end}
-use Rattle.basics.proofs.Lists.{every_each, each_same, length_each, length_joined, map_is}
-use Rattle.laws.proofs.InUse.{Held, in_use}
+use Rattle.basics.proofs.Lists.{every_each, length_each, length_joined, map_is}
 
--- four bytes, one after the other
-pub four_put : (l : List ℕ) (at a b c d a' b' : ℕ) → a ≡ a' → b ≡ b' → set (set (set (set l at a) (at + 1) b) (at + 2) c) (at + 3) d ≡ sets l at (a' ∷ b' ∷ c ∷ d ∷ [])
-four_put l at a b c d a' b' p q =
-    let one : at + 1 ≡ suc at = omega arith in
-    let two : at + 2 ≡ suc (suc at) = omega arith in
-    let three : at + 3 ≡ suc (suc (suc at)) = omega arith in
-    rw (one, two, three, p, q) refl
-
--- ---- the columns in use, of an array
 abbrev piece : List Column → ℕ → List ℕ
 piece cs j = code (get_or cs j no_column)
 
@@ -37,22 +25,17 @@ put_more cs count out₀ out out' i t h e =
     subst (λ (at : ℕ). Turns (piece cs) count out₀ 0 out' at (i + 1)) {x = 4 * i + 4} {y = 4 * (i + 1)} (omega arith)
     (subst (λ (o : List ℕ). Turns (piece cs) count out₀ 0 o (4 * i + 4) (i + 1)) (sym e) (turns_more (piece cs) count out₀ 0 out (4 * i) i t 4 h refl))
 
-module _ (schema : Schema) (held : Held schema) (few : schema.count ≤ max_columns) where
-  each_code : codes (cols_of schema) ≡ joined (each 0 schema.count (piece schema.columns))
-  each_code =
-      ap joined
-      (map_is code (cols_of schema) no_column
-      ∙ ap (λ (m : ℕ). each 0 m (λ j. code (get_or (cols_of schema) j no_column))) (in_use schema held few)
-      ∙ each_same 0 schema.count _ _ (λ j _ l. ap code (get_or-take schema.count schema.columns j no_column (omega arith))))
+module _ (cs : List Column) where
+  each_code : codes cs ≡ joined (each 0 (length cs) (piece cs))
+  each_code = ap joined (map_is code cs no_column)
 
-  four_each : length (joined (each 0 schema.count (piece schema.columns))) ≡ 4 * schema.count
+  four_each : length (joined (each 0 (length cs) (piece cs))) ≡ 4 * length cs
   four_each =
-      length_joined 4 (each 0 schema.count (piece schema.columns)) (every_each (λ x. length x ≡ 4) 0 schema.count (piece schema.columns) (λ j _ _. refl))
-      ∙ omega (arith, length_each 0 schema.count (piece schema.columns))
+      length_joined 4 (each 0 (length cs) (piece cs)) (every_each (λ x. length x ≡ 4) 0 (length cs) (piece cs) (λ j _ _. refl))
+      ∙ omega (arith, length_each 0 (length cs) (piece cs))
 
-  pub put_end : (out₀ out : List ℕ) (i : ℕ) → Put schema.columns schema.count out₀ out i → schema.count ≤ i → 4 * schema.count ≤ length out₀
-      → out ≡ over (codes (cols_of schema)) out₀
+  pub put_end : (out₀ out : List ℕ) (i : ℕ) → Put cs (length cs) out₀ out i → length cs ≤ i → 4 * length cs ≤ length out₀ → out ≡ over (codes cs) out₀
   put_end out₀ out i t h fits =
-      (turns_end (piece schema.columns) schema.count out₀ 0 out (4 * i) i t h).1
+      (turns_end (piece cs) (length cs) out₀ 0 out (4 * i) i t h).1
       ∙ ap (sets out₀ 0) (sym each_code)
-      ∙ sym (over_sets (codes (cols_of schema)) out₀ (omega (arith, ap length each_code, four_each)))
+      ∙ sym (over_sets (codes cs) out₀ (omega (arith, ap length each_code, four_each)))

@@ -1,13 +1,12 @@
-// What the options and the kind of a column say: its width, its null byte, and what stands for no column.
+// What the options and the kind of a column say: its width and its null byte.
 #![tactic(auto)]
 
 ghost use Rattle.std.specs.Prelude.{◌≡◌};
 ghost use Rattle.format.specs.Kinds.{value_bytes};
-ghost use Rattle.format.specs.Schemas.{no_column};
 ghost use Rattle.format.specs.Field.{null_byte};
 ghost use Rattle.format.specs.Read.{null_lead};
 
-use format::{Column, Kind, SortOptions};
+use format::{Kind, SortOptions};
 
 // The value bytes of a kind; variable bytes have no count of their own.
 pub fn width(kind: Kind) -> usize
@@ -53,20 +52,4 @@ pub fn null_lead(lead: u8, options: SortOptions) -> bool
         return false;
     }
     lead == null_sentinel(options)
-}
-
-// What fills an array of columns after those in use.
-pub fn no_column() -> Column
-    ensures { result ≡ no_column }
-{
-    let options = SortOptions {
-        descending: false,
-        nulls_first: false,
-        required: false,
-        fold: false,
-    };
-    Column {
-        kind: Kind::Bool,
-        options: options,
-    }
 }

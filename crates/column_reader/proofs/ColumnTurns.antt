@@ -1,10 +1,11 @@
 -- The loop of `judge`: what holds at its head, and what each way out of a turn gives. Assumes nothing.
-use Prim.Native.Nat.{ℕ, ◌+◌, ◌-◌, ◌<◌, ◌≤◌}
-use mathlib.Core.Path.{◌≡◌, sym, ap, ◌∙◌}
-use mathlib.Core.List.{List, ◌++◌, append-nil}
+use Prim.Native.Nat.{ℕ, suc, ◌+◌, ◌-◌, ◌<◌, ◌≤◌}
+use mathlib.Core.Path.{◌≡◌, refl, sym, ap, ap₂, ◌∙◌}
+use mathlib.Core.List.{List, ◌++◌}
+use native.Mathlib.Numerals.{add-one}
 use native.Mathlib.Omega.{arith}
-use lib.ListN.{length, get_or, take, replicate, get_or-append, length-take, take-append-drop, drop_of_length-le}
-use lib.Seq.{get_or-take}
+use lib.ListN.{length, get_or, take, set, replicate}
+use lib.Seq.{set_at, append_snoc, take-suc, take_all, length-take-le}
 use Rattle.format.specs.declared.Column.{Column}
 use Rattle.format.specs.declared.Refusal.{Refusal}
 use Rattle.format.specs.declared.Refusal.TheVariants.{ListCut, ManyColumns}
@@ -13,85 +14,56 @@ use Rattle.std.specs.declared.result.Result.TheVariants.{Ok, Err}
 use Rattle.format.specs.Limits.{max_columns}
 use Rattle.format.specs.Lists.{each}
 use Rattle.format.specs.Schemas.{no_column}
-use Rattle.format.specs.Described.{held, held_fault, descriptions_fault, described, list_fault}
+use Rattle.format.specs.Described.{Description, held, held_fault, descriptions_fault, described, list_fault}
 use Rattle.basics.proofs.Lists.{map_is}
-use Rattle.list_reader.specs.Listing.{ListedAs, array_of, OfArray}
+use Rattle.list_reader.specs.Listing.{ListedAs}
 use Rattle.list_reader.proofs.Schemas.{refused, passed}
 use Rattle.list_reader.proofs.Judged.{Judged, judged-begin, judged_none, judged_full, judged_bad, judged_more, judged_end}
 
--- so many of the columns are judged
-pub record Turn (array : List Column) (count i : ℕ) : Type 0 where
-  pub few : i ≤ max_columns
-  pub most : i ≤ count
-  pub judged : OfArray array count (λ cols. Judged (length cols) (λ j. held (get_or cols j no_column)) i)
+module _ (cols : List Column) where
+  abbrev at : ℕ → Description
+  at j = held (get_or cols j no_column)
 
-pub start : (array : List Column) (count : ℕ) → Turn array count 0
-start array count = record {
-  few = omega arith;
-  most = omega arith;
-  judged = λ cols made counts. judged-begin (length cols) (λ j. held (get_or cols j no_column));
-}
-
--- 64 columns at most are all among the first 64
-whole : (cols : List Column) → length cols ≤ max_columns → take max_columns cols ≡ cols
-whole cols few =
-    sym (append-nil (take max_columns cols))
-    ∙ ap (λ (cs : List Column). take max_columns cols ++ cs) (sym (drop_of_length-le cols few))
-    ∙ take-append-drop max_columns cols
-
--- ---- the columns, and the array that they make
-module _ (array : List Column) (count : ℕ) (cols : List Column) (made : array ≡ array_of cols) (counts : count ≡ length cols) where
-  -- column i stands at i
-  stands : (i : ℕ) → i < count → i < max_columns → get_or array i no_column ≡ get_or cols i no_column
-  stands i h l =
-      let inside : i < length (take max_columns cols) = long i (omega arith) l in
-      ap (λ (cs : List Column). get_or cs i no_column) made
-      ∙ get_or-append (take max_columns cols) (replicate (max_columns - length cols) no_column) no_column i inside
-      ∙ get_or-take max_columns cols i no_column l
-    where
-      long : (j : ℕ) → j < length cols → j < max_columns → j < length (take max_columns cols)
-      long j p q = omega (arith, length-take max_columns cols)
-
-  -- as definitions have them
-  faults : (x : Check) → descriptions_fault (each 0 (length cols) (λ j. held (get_or cols j no_column))) ≡ x → list_fault (described cols) ≡ x
+  -- as definitions have their faults
+  faults : (x : Check) → descriptions_fault (each 0 (length cols) at) ≡ x → list_fault (described cols) ≡ x
   faults x e = ap descriptions_fault (map_is held cols no_column) ∙ e
 
--- ---- the ways on from the head of a turn
-pub none : (array : List Column) (count : ℕ) → count ≡ 0 → OfArray array count (λ cols. ListedAs (described cols) (Err (ListCut 0)))
-none array count e cols made counts =
-    refused (described cols) (ListCut 0)
-    (faults array count cols made counts (Err (ListCut 0)) (judged_none (length cols) (λ j. held (get_or cols j no_column)) (sym counts ∙ e)))
+  -- so many are judged and copied
+  pub record Turn (array : List Column) (i : ℕ) : Type 0 where
+    pub judged : Judged (length cols) at i
+    pub most : i ≤ length cols
+    pub made : array ≡ take i cols ++ replicate judged.room no_column
 
-module _ (array : List Column) (count i : ℕ) (t : Turn array count i) where
-  pub more : i < count → (i ≡ max_columns → ⊥) → held_fault i (held (get_or array i no_column)) ≡ Ok tt → Turn array count (i + 1)
-  more h left e = record { few = within; most = omega arith; judged = next }
-    where
-      within : i + 1 ≤ max_columns
-      within = omega (arith, t.few, left)
+  pub start : (none : Column) → none ≡ no_column → Turn (replicate max_columns none) 0
+  start none e = record { judged = judged-begin (length cols) at; most = omega arith; made = ap (replicate max_columns) e }
 
-      next : OfArray array count (λ cols. Judged (length cols) (λ j. held (get_or cols j no_column)) (i + 1))
-      next cols made counts =
-          judged_more (length cols) (λ j. held (get_or cols j no_column)) i (t.judged cols made counts) (omega arith) left
-          (ap (λ (col : Column). held_fault i (held col)) (sym (stands array count cols made counts i h (omega (arith, within)))) ∙ e)
+  pub more : (array : List Column) (i : ℕ) → Turn array i → i < length cols → (i ≡ max_columns → ⊥) → held_fault i (at i) ≡ Ok tt
+      → Turn (set array i (get_or cols i no_column)) (i + 1)
+  more array i t h left e =
+      let col = get_or cols i no_column in
+      let next = judged_more (length cols) at i t.judged h left e in
+      let one : t.judged.room ≡ suc next.room = omega (arith, t.judged.counts, next.counts) in
+      record {
+        judged = next;
+        most = omega arith;
+        made = ap (λ (l : List Column). set l i col) (t.made ∙ ap (λ (m : ℕ). take i cols ++ replicate m no_column) one)
+            ∙ set_at (take i cols) no_column (replicate next.room no_column) col i (length-take-le i cols t.most)
+            ∙ sym (append_snoc (take i cols) col (replicate next.room no_column))
+            ∙ ap (λ (l : List Column). l ++ replicate next.room no_column) (sym (rw (add-one i) (take-suc cols i no_column h)));
+      }
 
-  pub full : i < count → i ≡ max_columns → OfArray array count (λ cols. ListedAs (described cols) (Err (ManyColumns i)))
-  full h e cols made counts =
-      refused (described cols) (ManyColumns i)
-      (faults array count cols made counts _ (judged_full (length cols) (λ j. held (get_or cols j no_column)) i (t.judged cols made counts) (omega arith) e))
+  pub empty : length cols ≡ 0 → ListedAs (described cols) (Err (ListCut 0))
+  empty e = refused (described cols) (ListCut 0) (faults _ (judged_none (length cols) at e))
 
-  pub bad : (x : Refusal) → i < count → (i ≡ max_columns → ⊥) → held_fault i (held (get_or array i no_column)) ≡ Err x
-      → OfArray array count (λ cols. ListedAs (described cols) (Err x))
-  bad x h left e cols made counts =
-      let judged = t.judged cols made counts in
-      refused (described cols) x
-      (faults array count cols made counts _
-      (judged_bad (length cols) (λ j. held (get_or cols j no_column)) i judged x (omega arith) left
-      (ap (λ (col : Column). held_fault i (held col)) (sym (stands array count cols made counts i h (omega (arith, t.few, left)))) ∙ e)))
+  module _ (array : List Column) (i : ℕ) (t : Turn array i) where
+    pub full : i < length cols → i ≡ max_columns → ListedAs (described cols) (Err (ManyColumns i))
+    full h e = refused (described cols) (ManyColumns i) (faults _ (judged_full (length cols) at i t.judged h e))
 
-  pub good : count ≤ i → (count ≡ 0 → ⊥) → OfArray array count (λ cols. ListedAs (described cols) (Ok (record { columns = array; count = count })))
-  good h some cols made counts =
-      let judged = t.judged cols made counts in
-      let few : length cols ≤ max_columns = omega (arith, t.few, t.most) in
-      passed (described cols) array count
-      (faults array count cols made counts (Ok tt) (judged_end (length cols) (λ j. held (get_or cols j no_column)) i judged (omega arith) (omega arith)))
-      (made ∙ ap (λ (cs : List Column). cs ++ replicate (max_columns - length cols) no_column) (whole cols few)) counts
+    pub bad : (x : Refusal) → i < length cols → (i ≡ max_columns → ⊥) → held_fault i (at i) ≡ Err x → ListedAs (described cols) (Err x)
+    bad x h left e = refused (described cols) x (faults _ (judged_bad (length cols) at i t.judged x h left e))
+
+    pub good : length cols ≤ i → 0 < length cols → ListedAs (described cols) (Ok (record { columns = array; count = length cols }))
+    good h some =
+        let left : t.judged.room ≡ max_columns - length cols = omega (arith, t.judged.counts, t.most) in
+        passed (described cols) array (length cols) (faults _ (judged_end (length cols) at i t.judged h some))
+        (t.made ∙ ap₂ (λ (l : List Column) (m : ℕ). l ++ replicate m no_column) (take_all i cols h) left) refl

@@ -1,33 +1,12 @@
-// A column list held as columns, copied into an array: judged by its numbers.
+// A column list held as columns: judged by its numbers, and read into an array of columns.
 #![tactic(auto)]
 
-ghost use Rattle.std.specs.Prelude.{◌≡◌, replicate};
-ghost use Rattle.format.specs.Limits.{max_columns};
-ghost use Rattle.format.specs.Schemas.{no_column};
+ghost use Rattle.std.specs.Prelude.{◌≡◌};
 ghost use Rattle.format.specs.Described.{held, held_fault, described};
-ghost use Rattle.list_reader.specs.Listing.{ListedAs, OfArray, Used};
+ghost use Rattle.list_reader.specs.Listing.{ListedAs};
 
-use column_facts::no_column;
-use descriptions::{check_numbers, held_width, kind_number, options_number};
+use descriptions::{check_numbers, held_width};
 use format::{Column, Refusal, Schema};
-
-// How many of the lent columns are looked at: no more than a list may have.
-pub fn used_columns(lent: usize) -> usize
-    ensures { Used lent result }
-{
-    if format::MAX_COLUMNS < lent {
-        return format::MAX_COLUMNS;
-    }
-    lent
-}
-
-// An array of columns of which none is in use.
-pub fn blank() -> [Column; format::MAX_COLUMNS]
-    ensures { result ≡ replicate max_columns no_column }
-{
-    let none = no_column();
-    [none; format::MAX_COLUMNS]
-}
 
 // The first fault of description i.
 fn check_column(column: Column, i: usize) -> Result<(), Refusal>
@@ -37,25 +16,31 @@ fn check_column(column: Column, i: usize) -> Result<(), Refusal>
     let options = column.options;
     check_numbers(
         i,
-        kind_number(kind),
+        u8::from(kind),
         false,
-        options_number(options),
+        u8::from(options),
         held_width(kind),
     )
 }
 
-// So many columns, of which the first 64 at most stand in the array, left to right: at each 5, then its own faults.
-pub fn judge(columns: [Column; format::MAX_COLUMNS], count: usize) -> Result<Schema, Refusal>
-    ensures { OfArray columns count (λ cols. ListedAs (described cols) result) }
+// Columns that the caller lends, left to right: at each 5, then its own faults. They are copied into an array as they pass. No Vec: the library
+// has no heap.
+pub fn judge(columns: &[Column]) -> Result<Schema, Refusal>
+    ensures { ListedAs (described columns.now) result }
 {
-    if count == 0 {
+    if columns.len() == 0 {
         return Err(Refusal::ListCut(0));
     }
-    for i in 0..count {
+    let mut copy = [Column::default(); format::MAX_COLUMNS];
+    for (i, column) in columns.iter().enumerate() {
         if i == format::MAX_COLUMNS {
             return Err(Refusal::ManyColumns(i));
         }
-        check_column(columns[i], i)?;
+        check_column(*column, i)?;
+        copy[i] = *column;
     }
-    Ok(Schema { columns, count })
+    Ok(Schema {
+        columns: copy,
+        count: columns.len(),
+    })
 }

@@ -2,11 +2,15 @@
 use Prim.Native.Nat.Ordering.{eq}
 use Prim.Native.Nat.{ℕ, suc, ◌+◌, ◌-◌, ◌/◌, ◌<◌, ◌≤◌, Ordering}
 use mathlib.Core.Path.{◌≡◌, refl, ap, ap₂, sym, ◌∙◌}
+use mathlib.Core.Bool.{true, false}
 use mathlib.Core.List.{List, [], ◌∷◌}
 use native.Mathlib.Nat.{sub-zero}
 use native.Mathlib.Numerals.{add-one}
 use native.Mathlib.Omega.{arith}
 use lib.ListN.{length, get_or}
+use Rattle.std.specs.declared.cmp.Ordering.{Ordering as Answer}
+use Rattle.std.specs.declared.cmp.Ordering.TheVariants.{Equal}
+use Rattle.std.specs.Ordering.{is_ne}
 use Rattle.format.specs.declared.Column.{Column}
 use Rattle.format.specs.Lists.{each}
 use Rattle.format.specs.Kinds.{Slot, column_shape}
@@ -21,6 +25,7 @@ use Rattle.sheet_reader.specs.Sheets.{no_facts, Known}
 use Rattle.sheet_reader.proofs.Values.{folded_in, slot_of, slots_known}
 use Rattle.format.specs.CompareSheets.{rank, first_row, second_row, pair_ranks}
 use Rattle.row_pairs.specs.Pairs.{InSheets}
+use Rattle.byte_order.specs.Answers.{ordering}
 use Rattle.number_order.proofs.Found.{Found, found_none, found_more, found_closed, found_last}
 
 -- the first that is no tie
@@ -29,27 +34,27 @@ first_of [] = eq
 first_of (o ∷ os) = then o (first_of os)
 
 -- ---- n orders, of which those from c on are left unless one before decides
-pub record Deciding (f : ℕ → Ordering) (n c r : ℕ) : Type 0 where
+pub record Deciding (f : ℕ → Ordering) (n c : ℕ) (r : Answer) : Type 0 where
   pub within : c ≤ n
-  pub ties : c < n → r ≡ 1
+  pub ties : c < n → is_ne r ≡ false
   pub found : Found (first_of (each 0 n f)) (first_of (each c (n - c) f)) r
 
 module _ (f : ℕ → Ordering) (n : ℕ) where
-  pub deciding_begin : Deciding f n 0 1
+  pub deciding_begin : Deciding f n 0 Equal
   deciding_begin = record { within = omega arith; ties = λ l. refl; found = rw (sub-zero n) (found_none (first_of (each 0 n f))) }
 
-  module _ (c : ℕ) {r q : ℕ} (d : Deciding f n c r) (l : c < n) (e : q ≡ rank (f c)) where
+  module _ (c : ℕ) {r q : Answer} (d : Deciding f n c r) (l : c < n) (e : q ≡ ordering (f c)) where
     next : Found (first_of (each 0 n f)) (first_of (each (suc c) (n - suc c) f)) q
     next =
         found_more (first_of (each 0 n f)) (first_of (each c (n - c) f)) d.found (f c) (first_of (each (suc c) (n - suc c) f)) (d.ties l)
         (ap first_of (each_step f n c l)) e
 
     -- order c ties
-    pub deciding_ties : q ≡ 1 → Deciding f n (c + 1) q
+    pub deciding_ties : is_ne q ≡ false → Deciding f n (c + 1) q
     deciding_ties t = record { within = omega arith; ties = λ k. t; found = rw (add-one c) next }
 
     -- order c decides
-    pub deciding_differs : (q ≡ 1 → ⊥) → Deciding f n n q
+    pub deciding_differs : is_ne q ≡ true → Deciding f n n q
     deciding_differs ne = record {
       within = omega arith;
       ties = λ k. absurd (omega arith);
@@ -57,7 +62,7 @@ module _ (f : ℕ → Ordering) (n : ℕ) where
     }
 
   -- none is left
-  pub deciding_end : (c : ℕ) {r : ℕ} → Deciding f n c r → n ≤ c → r ≡ rank (first_of (each 0 n f))
+  pub deciding_end : (c : ℕ) {r : Answer} → Deciding f n c r → n ≤ c → r ≡ ordering (first_of (each 0 n f))
   deciding_end c d l = found_last (first_of (each 0 n f)) (first_of (each c (n - c) f)) d.found (ap first_of (each_none f n c l))
 
 -- ---- two rows

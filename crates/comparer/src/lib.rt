@@ -2,6 +2,7 @@
 #![tactic(auto)]
 
 ghost use Rattle.std.specs.Prelude.{◌≡◌, ◌≤◌, length};
+ghost use Rattle.std.specs.Ordering.{ordering_index};
 ghost use Rattle.std.proofs.lemmas.List.Edits.{sets};
 ghost use Rattle.format.specs.Limits.{max_columns, max_rows};
 ghost use Rattle.format.specs.Schemas.{cols_of};
@@ -10,10 +11,21 @@ ghost use Rattle.sheet_reader.specs.Sheets.{Known};
 ghost use Rattle.row_pairs.specs.Pairs.{pair_rows, InSheets};
 
 use format::Schema;
-use number_order::EQUAL;
 use row_pairs::{pair_count, row_at};
 use sheet_reader::sheet::Sheeted;
 use slot_order::order_slots;
+use std::cmp::Ordering;
+
+// 0, 1 or 2 for below, equal or above.
+fn rank(order: Ordering) -> u8
+    ensures { result ≡ ordering_index order }
+{
+    match order {
+        Ordering::Less => 0,
+        Ordering::Equal => 1,
+        Ordering::Greater => 2,
+    }
+}
 
 // For each pair of rows of two sheets, whose columns are known by their facts, below, equal or above: up to the first slots that differ.
 pub fn write_orders(
@@ -42,7 +54,7 @@ pub fn write_orders(
     for k in 0..pairs {
         let i = row_at(numbers, bytes, 2 * k) as usize;
         let j = row_at(numbers, bytes, 2 * k + 1) as usize;
-        let mut found = EQUAL;
+        let mut found = Ordering::Equal;
         for c in 0..count {
             let f = known.facts[c];
             let g = other_known.facts[c];
@@ -50,10 +62,10 @@ pub fn write_orders(
             let start = g.base;
             found = order_slots(f.column, n, &sheet[base..], i, m, &other[start..], j);
             // The first difference decides.
-            if found != EQUAL {
+            if found.is_ne() {
                 break;
             }
         }
-        answers[k] = found;
+        answers[k] = rank(found);
     }
 }

@@ -9,12 +9,10 @@ ghost use Rattle.cutter_step.specs.Places.{state_at};
 ghost use Rattle.cutter.specs.Calls.{kept_back, leaves, CutIn};
 
 use crate::{Counted, Cutting, Left, place_of};
-use answers::refusal_numbers;
-use column_facts::no_column;
 use cutter_rule::keeps;
 use cutter_step::Place;
 use cutter_walk::walk::walk;
-use format::{Column, Cutter, MAX_COLUMNS, Refusal, RowFault, Schema, Spot};
+use format::{Column, Cutter, MAX_COLUMNS, Refusal, Returned, RowFault, Schema, Spot};
 
 // No columns. The store changes nothing; that its place is not known beforehand keeps the array one thing in memory, where an array of constants
 // would be taken apart, and with it every copy of a state.
@@ -22,17 +20,19 @@ fn no_columns(c: usize) -> [Column; MAX_COLUMNS]
     requires { c < max_columns }
     ensures { result ≡ replicate max_columns no_column }
 {
-    let none = no_column();
+    // No Vec: the library has no heap.
+    let none = Column::default();
     let mut columns = [none; MAX_COLUMNS];
     columns[c] = none;
     columns
 }
 
-// A refused state holds its refusal and nothing else.
+// A refused state holds its refusal and nothing else. No `From`: by the orphan rule it would stand in crate `format`, away from the calls whose
+// speed `no_columns` keeps.
 fn refused(refusal: Refusal) -> Cutter
     ensures { result ≡ refusedOf refusal }
 {
-    let numbers = refusal_numbers(refusal);
+    let numbers = Returned::from(refusal);
     let number = numbers.0 as usize;
     let columns = no_columns(number % MAX_COLUMNS);
     let schema = Schema {

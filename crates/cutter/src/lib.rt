@@ -19,8 +19,8 @@ pub struct Cutting {
     pub answer: Result<(u64, u64), Refusal>,
 }
 
-// What a call leaves of the state: all of it, its columns with other numbers, or a refusal. Three cases that are matched as such, where a Result
-// of an Option would be matched twice.
+// What a call leaves of the state: all of it, its columns with other numbers, or a refusal. To do: a Result
+// of an Option.
 #[derive(Clone, Copy)]
 pub enum Left {
     Same,

@@ -11,6 +11,7 @@ use format::Schema;
 use lent_bytes::write_offsets;
 
 // Each part is walked, and the ends found in it are stored after those before; a refusal ends it.
+// The room for ends, here and below: it is about two slices, which no type says in plainer words.
 fn walk_parts(
     schema: Schema,
     place: Place,
@@ -62,6 +63,7 @@ fn walk_in<const N: usize>(schema: Schema, place: Place, piece: &[u8], ends: &mu
     requires piece_in_bounds { length piece.now ≤ length ends.old / 8 }
     ensures { WalksLent schema place piece.now ends.old result ends.new }
 {
+    // No Vec: the library has no heap.
     let mut numbers = [0u64; N];
     walk_parts(schema, place, piece, ends, &mut numbers)
 }

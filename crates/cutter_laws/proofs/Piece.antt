@@ -12,7 +12,6 @@ use lib.Seq.{drop-cons, take-add, take_all, take-take, take_at, length-take-le}
 use borrow.Author.Tests.{lt-ltb, le-ltb}
 use Rattle.format.specs.declared.RowFault.{RowFault}
 use Rattle.format.specs.declared.RowFault.TheVariants.{Cut}
-use Rattle.format.specs.declared.FieldRead.TheVariants.{Null, Value, Fault}
 use Rattle.format.specs.declared.Refusal.{Refusal}
 use Rattle.format.specs.declared.Refusal.TheVariants.{Row, ManyBytes}
 use Rattle.std.specs.declared.result.Result.TheVariants.{Ok, Err}
@@ -138,67 +137,3 @@ module _ {s₀ : Cutter} {piece : List ℕ} {i : ℕ} {s : Cutter} {found : List
       pub upto_bad : (f : RowFault) (place : ℕ) → move_in s b ≡ bad f place
           → (fed s₀ piece ≡ refused (Row f s.rows s.column place)) × (ends_in s₀ piece ≡ found)
       upto_bad f place q = refused_byte l (Row f s.rows s.column place) (step_room s b e room ∙ ap (moved s) q)
-
-  -- one of m bytes more is refused
-  broke_off : (q : Refusal) (m : ℕ) → fed s (take m (drop i piece)) ≡ refused q → ends_in s (take m (drop i piece)) ≡ []
-      → (fed s₀ piece ≡ refused q) × (ends_in s₀ piece ≡ found)
-  broke_off q m a b =
-      let v : Upto s₀ piece (i + m) (refused q) (found ++ [])
-      = subst (λ (t : Cutter). Upto s₀ piece (i + m) t (found ++ [])) a
-      (subst (λ (x : List ℕ). Upto s₀ piece (i + m) (fed s (take m (drop i piece))) (found ++ x)) b (upto_more u m)) in
-      let w = upto_refused v q refl in
-      (w.0, w.1 ∙ append-nil found)
-
-  -- ---- a field that begins here, of which the field reader is given m bytes, no more than the stream may still hold
-  module _ (r : Ready s) (bs : Bytes piece) (m : ℕ) (room : s.bytes + length (take m (drop i piece)) ≤ max_total) where
-    abbrev xs : List ℕ
-    xs = take m (drop i piece)
-
-    fits : length xs ≤ m
-    fits = omega (arith, length-take m (drop i piece))
-
-    said : FieldFed s xs (field_in s xs)
-    said = field_fed s xs r (bytes_take m (drop i piece) (bytes_drop i piece bs)) room
-
-    upto_got : (v : Slot) (rest : List ℕ) (n : ℕ) → field_in s xs ≡ got v rest → length xs - length rest ≡ n
-        → Upto s₀ piece (i + n) (field_ended s n) (found ++ new_end s (field_ended s n))
-    upto_got v rest n e q =
-        let h : Ended s xs rest = subst (FieldFed s xs) e said in
-        let long : length h.part ≡ n = omega (arith, ap length h.splits, length-append h.part rest) in
-        let same : take n (drop i piece) ≡ h.part
-        = sym (take-take n m (drop i piece) (omega (arith, fits, ap length h.splits, length-append h.part rest)))
-        ∙ ap (take n) h.splits ∙ take_at h.part rest n long in
-        subst (λ (k : ℕ). Upto s₀ piece (i + n) (field_ended s k) (found ++ new_end s (field_ended s k))) long
-        (subst (λ (t : Cutter). Upto s₀ piece (i + n) t (found ++ new_end s (field_ended s (length h.part)))) (ap (fed s) same ∙ h.state)
-        (subst (λ (x : List ℕ). Upto s₀ piece (i + n) (fed s (take n (drop i piece))) (found ++ x)) (ap (ends_in s) same ∙ h.ends) (upto_more u n)))
-
-    -- it is a null, or a value, of n bytes
-    pub upto_null : (n : ℕ) → field_read xs (field_in s xs) ≡ Null n → Upto s₀ piece (i + n) (field_ended s n) (found ++ new_end s (field_ended s n))
-    upto_null n e = go (field_in s xs) refl e
-      where
-        go : (p : Parsed Slot) → field_in s xs ≡ p → field_read xs p ≡ Null n → Upto s₀ piece (i + n) (field_ended s n) (found ++ new_end s (field_ended s n))
-        go (got none rest) q e = upto_got none rest n q (cc)
-        go (got (some v) rest) q e = absurd (let z : ◌≡◌ {A = ℕ} 0 1 = cc in omega arith)
-        go (fault f l) q e = absurd (let z : ◌≡◌ {A = ℕ} 0 1 = cc in omega arith)
-
-    pub upto_value : (n c : ℕ) → field_read xs (field_in s xs) ≡ Value n c → Upto s₀ piece (i + n) (field_ended s n) (found ++ new_end s (field_ended s n))
-    upto_value n c e = go (field_in s xs) refl e
-      where
-        go : (p : Parsed Slot) → field_in s xs ≡ p → field_read xs p ≡ Value n c → Upto s₀ piece (i + n) (field_ended s n) (found ++ new_end s (field_ended s n))
-        go (got none rest) q e = absurd (let z : ◌≡◌ {A = ℕ} 0 1 = cc in omega arith)
-        go (got (some v) rest) q e = upto_got (some v) rest n q (cc)
-        go (fault f l) q e = absurd (let z : ◌≡◌ {A = ℕ} 0 1 = cc in omega arith)
-
-    -- it has a fault that shows: the rest of the piece makes no difference
-    pub upto_fault : (f : RowFault) (l : ℕ) → field_read xs (field_in s xs) ≡ Fault f l → (f ≡ Cut → ⊥)
-        → (fed s₀ piece ≡ refused (Row f s.rows s.column (s.row + length xs - l))) × (ends_in s₀ piece ≡ found)
-    upto_fault f l e uncut = go (field_in s xs) e said
-      where
-        go : (p : Parsed Slot) → field_read xs p ≡ Fault f l → FieldFed s xs p
-            → (fed s₀ piece ≡ refused (Row f s.rows s.column (s.row + length xs - l))) × (ends_in s₀ piece ≡ found)
-        go (got none rest) e h = absurd (let z : ◌≡◌ {A = ℕ} 0 1 = cc in omega arith)
-        go (got (some v) rest) e h = absurd (let z : ◌≡◌ {A = ℕ} 0 1 = cc in omega arith)
-        go (fault g k) e (inl h) = absurd (uncut (let z : f ≡ g = cc in z ∙ h.0))
-        go (fault g k) e (inr h) =
-            let same : refused (Row g s.rows s.column (s.row + length xs - k)) ≡ refused (Row f s.rows s.column (s.row + length xs - l)) = cc in
-            broke_off (Row f s.rows s.column (s.row + length xs - l)) m (h.state ∙ same) h.ends

@@ -31,7 +31,7 @@ use Rattle.format.specs.CutterRule.{within, may_fold, before, column_kept, colum
 use Rattle.basics.proofs.Sorts.{fixed_arm, plain_arm, PlainArm}
 use Rattle.value_moves.proofs.Arms.{power_up}
 use Rattle.cutter_laws.proofs.RuleMoves.{size_most, and_true, within_true}
-use Rattle.cutter_rule.specs.Standing.{standing_at, is_variable, Small}
+use Rattle.cutter_rule.specs.Standing.{is_variable, Small}
 use Rattle.cutter_rule.specs.Sums.{sums_most}
 
 -- ---- tests
@@ -307,22 +307,25 @@ kept_at [] c e l = absurd (omega arith)
 kept_at (col ∷ cols) zero e l = (and_true {s = column_kept col} {t = columns_kept cols} e).0
 kept_at (col ∷ cols) (suc c) e l = kept_at cols c (and_true {s = column_kept col} {t = columns_kept cols} e).1 (omega arith)
 
-module _ (schema : Schema) (rows bytes row c : ℕ) (spot : Spot) where
-  abbrev here : Cutter
-  here = standing_at schema rows bytes row c spot
+module _ (s : Cutter) where
+  abbrev schema : Schema
+  schema = s.schema
+
+  abbrev c : ℕ
+  c = s.column
 
   abbrev column : Column
   column = get_or schema.columns c no_column
 
-  pub stands_many : max_columns < schema.count → false ≡ standing_kept here
+  pub stands_many : max_columns < schema.count → false ≡ standing_kept s
   stands_many l = rw (lt-leb schema.count max_columns l)
 
   module _ (few : schema.count ≤ max_columns) where
-    pub stands_unkept : columns_kept (cols_of schema) ≡ false → false ≡ standing_kept here
+    pub stands_unkept : columns_kept (cols_of schema) ≡ false → false ≡ standing_kept s
     stands_unkept e = rw (le-leb schema.count max_columns few, e)
 
     module _ (kept : columns_kept (cols_of schema) ≡ true) where
-      pub stands_past : schema.count ≤ c → false ≡ standing_kept here
+      pub stands_past : schema.count ≤ c → false ≡ standing_kept s
       stands_past l = rw (le-leb schema.count max_columns few, kept, le-ltb c schema.count l)
 
       module _ (inside : c < schema.count) where
@@ -333,15 +336,15 @@ module _ (schema : Schema) (rows bytes row c : ℕ) (spot : Spot) where
             let same = get_or-take schema.count schema.columns c no_column inside in
             kept_width column (subst (λ (col : Column). column_kept col ≡ true) same k)
 
-        pub stands_spot : spot_kept (column_shape column) column.options.fold row spot ≡ false → false ≡ standing_kept here
+        pub stands_spot : spot_kept (column_shape column) column.options.fold s.row s.spot ≡ false → false ≡ standing_kept s
         stands_spot e = rw (le-leb schema.count max_columns few, kept, lt-ltb c schema.count inside, e)
 
-        module _ (e : spot_kept (column_shape column) column.options.fold row spot ≡ true) (low high : ℕ)
-            (a : low ≡ over_all fewest (take c (cols_of schema)) + field_seen spot) (b : high ≡ over_all most (take c (cols_of schema)) + field_seen spot) where
-          pub stands_row : within low high row ≡ false → false ≡ standing_kept here
+        module _ (e : spot_kept (column_shape column) column.options.fold s.row s.spot ≡ true) (low high : ℕ)
+            (a : low ≡ over_all fewest (take c (cols_of schema)) + field_seen s.spot) (b : high ≡ over_all most (take c (cols_of schema)) + field_seen s.spot) where
+          pub stands_row : within low high s.row ≡ false → false ≡ standing_kept s
           stands_row f = rw (le-leb schema.count max_columns few, kept, lt-ltb c schema.count inside, e, sym a, sym b, f)
 
-          pub stands_stream : within low high row ≡ true → (t : Bool) → t ≡ stream_kept (cols_of schema) rows row bytes → t ≡ standing_kept here
+          pub stands_stream : within low high s.row ≡ true → (t : Bool) → t ≡ stream_kept (cols_of schema) s.rows s.row s.bytes → t ≡ standing_kept s
           stands_stream f t p = rw (le-leb schema.count max_columns few, kept, lt-ltb c schema.count inside, e, sym a, sym b, f) p
 
 -- no more than all of it
@@ -352,7 +355,7 @@ part_most false n = omega arith
 -- ---- the rule
 
 module _ (s : Cutter) (t : Bool) where
-  pub rule_stands : s.refusal ≡ Ok tt → t ≡ standing_kept (standing_at s.schema s.rows s.bytes s.row s.column s.spot) → t ≡ keeps s
+  pub rule_stands : s.refusal ≡ Ok tt → t ≡ standing_kept s → t ≡ keeps s
   unfolding keeps
   rule_stands e p = p ∙ sym (ap (λ (c : Check). keeps_with c s) e)
 

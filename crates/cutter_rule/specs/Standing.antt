@@ -1,16 +1,10 @@
--- A state in which no refusal stands, by its numbers.
-use Rattle.std.specs.Prelude.{ℕ, ◌≤◌, Bool, true, false, Ok}
-use Rattle.format.specs.declared.Schema.{Schema}
+-- What the rule on a state asks of a kind and of a spot.
+use Rattle.std.specs.Prelude.{◌≤◌, Bool, true, false}
 use Rattle.format.specs.declared.Spot.{Spot}
 use Rattle.format.specs.declared.Spot.TheVariants.{Start, Nulls, Value, Block}
-use Rattle.format.specs.declared.Cutter.{Cutter}
 use Rattle.format.specs.Limits.{max_width, max_slot}
 use Rattle.format.specs.Kinds.{Shape, fixed, variable}
 use Rattle.format.specs.CutterRule.{before}
-
-abbrev pub standing_at : Schema → ℕ → ℕ → ℕ → ℕ → Spot → Cutter
-standing_at schema rows bytes row c spot =
-    record { schema = schema; refusal = Ok tt; rows = rows; bytes = bytes; row = row; column = c; spot = spot }
 
 abbrev pub is_variable : Shape → Bool
 is_variable (fixed k) = false

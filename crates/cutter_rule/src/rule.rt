@@ -1,20 +1,18 @@
 // The rule on a state: what every state from a start or a call keeps.
-ghost use Rattle.std.specs.Prelude.{◌≡◌, Bool, cond, ◌&&◌, ℕ, ◌+◌, ◌*◌, ◌-◌, ◌^◌, ◌≤◌, ltb, eqb};
+ghost use Rattle.std.specs.Prelude.{◌≡◌, Bool, cond, ◌&&◌, ℕ, ◌+◌, ◌*◌, ◌-◌, ◌^◌, ◌≤◌, length, ltb};
 ghost use Rattle.format.specs.declared.Spot.TheVariants.{Nulls, Value, Block};
 ghost use Rattle.format.specs.Limits.{max_columns, max_width, max_total};
 ghost use Rattle.format.specs.Kinds.{column_shape, shape, value_bytes};
 ghost use Rattle.format.specs.Numbers.{four};
-ghost use Rattle.format.specs.Schemas.{cols_of};
-ghost use Rattle.format.specs.CutterRule.{within as withinOf, may_fold, column_kept, field_seen, spot_kept, fewest as fewestOf, most as most_of, standing_kept, at_start, fault_kept, numbers_kept, keeps as keepsOf};
-ghost use Rattle.cutter_rule.specs.Standing.{standing_at, is_variable, Small};
+ghost use Rattle.format.specs.CutterRule.{within as withinOf, may_fold, column_kept, field_seen, spot_kept, fewest as fewestOf, most as most_of, standing_kept, emptied, fault_kept, numbers_kept, keeps as keepsOf};
+ghost use Rattle.cutter_rule.specs.Standing.{is_variable, Small};
 ghost use Rattle.cutter_rule.specs.Sums.{Summed, sums_most};
 
 use crate::Sums;
-use answers::refusal_numbers;
 use block_moves::bytes_before;
 use blocks::block_size;
 use column_facts::width;
-use format::{Column, Cutter, Kind, MAX_COLUMNS, MAX_TOTAL, MAX_WIDTH, Refusal, Schema, Spot};
+use format::{Column, Cutter, Kind, MAX_COLUMNS, MAX_TOTAL, MAX_WIDTH, Refusal, Returned, Spot};
 
 // The longest field: that of 65,535 variable bytes.
 const MAX_FIELD: u64 = 67588;
@@ -88,19 +86,16 @@ fn part(on: bool, n: u64) -> u64
 }
 
 // One pass over the columns; it ends at one that no list may have.
-fn sum_columns(schema: Schema, column: usize) -> Sums
-    requires { schema.count ≤ max_columns }
-    ensures { Summed (cols_of schema) column result }
+fn sum_columns(columns: &[Column], column: usize) -> Sums
+    requires { length columns.now ≤ max_columns }
+    ensures { Summed columns.now column result }
 {
-    let count = schema.count;
-    let columns = schema.columns;
     let mut low: u64 = 0;
     let mut high: u64 = 0;
     let mut few: u64 = 0;
     let mut many: u64 = 0;
-    for c in 0..count {
-        let next = columns[c];
-        if !column_kept(next) {
+    for (c, next) in columns.iter().enumerate() {
+        if !column_kept(*next) {
             return Sums {
                 kept: false,
                 low: low,
@@ -241,56 +236,57 @@ fn stream_kept(low: u64, high: u64, rows: u64, row: u64, bytes: u64) -> bool
 }
 
 // No refusal stands.
-fn stands(schema: Schema, rows: u64, bytes: u64, row: u64, c: usize, spot: Spot) -> bool
-    ensures { result ≡ standing_kept (standing_at schema rows bytes row c spot) }
+fn stands(state: &Cutter) -> bool
+    ensures { result ≡ standing_kept state.now }
 {
-    let count = schema.count;
-    let columns = schema.columns;
+    let count = state.schema.count;
     if MAX_COLUMNS < count {
         return false;
     }
-    let sums = sum_columns(schema, c);
+    let columns = state.schema.in_use();
+    let c = state.column;
+    let sums = sum_columns(columns, c);
     if !sums.kept {
         return false;
     }
     if count <= c {
         return false;
     }
-    let column = columns[c];
-    if !spot_kept(column, row, spot) {
+    let row = state.row;
+    if !spot_kept(columns[c], row, state.spot) {
         return false;
     }
-    let seen = field_seen(spot);
+    let seen = field_seen(state.spot);
     let low = sums.low + seen;
     let high = sums.high + seen;
     if !within(low, high, row) {
         return false;
     }
-    stream_kept(sums.fewest, sums.most, rows, row, bytes)
+    stream_kept(sums.fewest, sums.most, state.rows, row, state.bytes)
 }
 
 // ---- a refused state
 
 // No columns, no counts.
-fn emptied(count: usize, rows: u64, bytes: u64, row: u64, column: usize, spot: Spot) -> bool
-    ensures { result ≡ (eqb (count + rows + bytes + row + column) 0 && at_start spot) }
+fn emptied(state: &Cutter) -> bool
+    ensures { result ≡ emptied state.now }
 {
-    if count != 0 {
+    if state.schema.count != 0 {
         return false;
     }
-    if rows != 0 {
+    if state.rows != 0 {
         return false;
     }
-    if bytes != 0 {
+    if state.bytes != 0 {
         return false;
     }
-    if row != 0 {
+    if state.row != 0 {
         return false;
     }
-    if column != 0 {
+    if state.column != 0 {
         return false;
     }
-    match spot {
+    match state.spot {
         Spot::Start => true,
         _ => false,
     }
@@ -338,21 +334,13 @@ fn numbers_kept(number: u64, second: u64, third: u64, fourth: u64) -> bool
 pub fn keeps(state: Cutter) -> bool
     ensures { result ≡ keepsOf state }
 {
-    let schema = state.schema;
-    let count = schema.count;
-    let refusal = state.refusal;
-    let rows = state.rows;
-    let bytes = state.bytes;
-    let row = state.row;
-    let column = state.column;
-    let spot = state.spot;
-    match refusal {
-        Ok(()) => stands(schema, rows, bytes, row, column, spot),
+    match state.refusal {
+        Ok(()) => stands(&state),
         Err(r) => {
-            if !emptied(count, rows, bytes, row, column, spot) {
+            if !emptied(&state) {
                 return false;
             }
-            let numbers = refusal_numbers(r);
+            let numbers = Returned::from(r);
             numbers_kept(numbers.0, numbers.1, numbers.2, numbers.3)
         }
     }

@@ -15,8 +15,8 @@ pub struct Place {
     pub spot: Spot,
 }
 
-// What a byte does: the row goes on, or it ended; or the stream is refused. Three cases that are matched as such, where a Result with a flag
-// would be matched twice.
+// What a byte does: the row goes on, or it ended; or the stream is refused. To do: a Result
+// with a flag.
 #[derive(Clone, Copy)]
 pub enum Stepped {
     Going(Place),

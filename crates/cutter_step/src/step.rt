@@ -23,6 +23,7 @@ fn going(place: Place, spot: Spot) -> Place
 }
 
 // So many bytes more, which complete the field, and with the last column's the row.
+// `count` here and below, and no schema: a step needs one column and how many there are, which the walk has at hand.
 pub fn field_ended(place: Place, count: usize, len: u64) -> Stepped
     requires { FieldFits place count len }
     ensures { result ≡ ended place count len }

@@ -1,11 +1,10 @@
 -- A whole field of a piece, as the field reader answers it: what its bytes do, one by one. Assumes nothing.
-use Prim.Native.Nat.{ℕ, ◌+◌, ◌-◌, ◌<◌, ◌≤◌}
+use Prim.Native.Nat.{ℕ, ◌+◌, ◌-◌, ◌*◌, ◌/◌, ◌<◌, ◌≤◌}
 use mathlib.Core.Path.{◌≡◌, refl, sym, ap, subst, ◌∙◌}
 use mathlib.Core.Bool.{Bool, true, false, cond, true≢false}
 use mathlib.Core.Logic.{inl, inr}
 use mathlib.Core.Option.{none, some}
 use mathlib.Core.List.{List}
-use native.Mathlib.Nat.{pos_of_ne-zero}
 use native.Mathlib.Omega.{arith}
 use lib.Dec.{leb}
 use lib.ListN.{length, get_or, take, drop, set, length-take, length-drop, length-append}
@@ -16,7 +15,7 @@ use Rattle.format.specs.declared.Schema.{Schema}
 use Rattle.format.specs.declared.RowFault.{RowFault}
 use Rattle.format.specs.declared.RowFault.TheVariants.{Cut, Lead, NullRest, BoolByte, EndByte, Padding, Extra, TooLong, Unfolded}
 use Rattle.format.specs.declared.FieldRead.{FieldRead}
-use Rattle.format.specs.declared.FieldRead.TheVariants.{Null, Value, Fault}
+use Rattle.format.specs.declared.FieldFault.{FieldFault}
 use Rattle.format.specs.declared.Refusal.TheVariants.{Row}
 use Rattle.format.specs.Check.{Check}
 use Rattle.std.specs.declared.result.Result.TheVariants.{Ok, Err}
@@ -24,13 +23,16 @@ use Rattle.format.specs.declared.Spot.{Spot}
 use Rattle.format.specs.declared.Spot.TheVariants.{Start}
 use Rattle.format.specs.Limits.{max_columns, max_total}
 use Rattle.format.specs.Lists.{Bytes}
-use Rattle.format.specs.Kinds.{Slot, column_shape}
+use Rattle.format.specs.Field.{field, field_length}
+use Rattle.format.specs.Kinds.{Shape, fixed, variable, Slot, column_shape}
 use Rattle.format.specs.Schemas.{no_column, cols_of, Limited}
-use Rattle.format.specs.Read.{Parsed, got, fault, read_field, field_read}
+use Rattle.format.specs.Read.{Parsed, got, fault, read_field, FieldAnswer, field_read}
 use Rattle.format.specs.CutterRule.{column_in, columns_kept, keeps}
 use Rattle.format.specs.Cutter.{fed, new_end, ends_in, refused, field_ended}
 use Rattle.basics.proofs.Bytes.{bytes_take, bytes_drop}
 use Rattle.laws.proofs.FaultPlace.{fault_inside}
+use Rattle.laws.proofs.Fields.{length_field}
+use Rattle.laws.proofs.ReadField.{read_field_lem}
 use Rattle.cutter_laws.proofs.RuleMoves.{and_true}
 use Rattle.cutter_laws.proofs.RuleKept.{stands_of}
 use Rattle.cutter_laws.proofs.FieldFed.{Ended as Whole, Broken, FieldFed, field_fed}
@@ -38,7 +40,7 @@ use Rattle.cutter_step.specs.declared.Place.{Place}
 use Rattle.cutter_step.specs.declared.Stepped.TheVariants.{Stopped}
 use Rattle.cutter_walk.specs.declared.Walked.{Walked}
 use Rattle.cutter_step.specs.Places.{state_at, Standing, Advances, ended}
-use Rattle.cutter_walk.specs.Walks.{is_cut, length_read, left_read, fault_shown, placed, Goes}
+use Rattle.cutter_walk.specs.Walks.{is_cut, fault_shown, placed, Goes}
 use Rattle.cutter_rule.proofs.Rules.{column_narrow}
 use Rattle.cutter_step.proofs.Stepping.{field_ended_lem, field_end}
 use Rattle.cutter_walk.proofs.Walking.{Turning, turn_begins, standing, turn_leaves, turn_goes, turn_ends, turn_stops}
@@ -58,30 +60,41 @@ not_cut Unfolded h = refl
 cut_fault : (f : RowFault) → f ≡ Cut → is_cut f ≡ true
 cut_fault f e = ap is_cut e
 
+-- a field that was read has some bytes
+read_some : (col : Column) (s : List ℕ) (v : Slot) (r : List ℕ) → Bytes s → read_field (column_shape col) col.options s ≡ got v r → 1 ≤ length s - length r
+read_some col s v r b h =
+    let e = read_field_lem (column_shape col) col.options s v r b h in
+    omega (arith, ap length e.0, length-append (field (column_shape col) col.options v) r, length_field (column_shape col) col.options v e.1, some_long (column_shape col) v)
+  where
+    some_long : (sh : Shape) (v : Slot) → 1 ≤ field_length sh v
+    some_long (fixed k) v = omega arith
+    some_long variable none = omega arith
+    some_long variable (some v) = padded (leb (length v) 32)
+      where
+        padded : (b : Bool) → 1 ≤ cond b (1 + 9 * ((length v + 7) / 8)) (4 + 33 * ((length v + 31) / 32))
+        padded true = omega arith
+        padded false = omega arith
+
 -- ---- a field that begins at byte i, of which the reader is given m bytes
 
 module _ (column : Column) (count : ℕ) (p : Place) (piece : List ℕ) (i m : ℕ) where
   abbrev xs : List ℕ
   xs = take m (drop i piece)
 
-  abbrev pub Read : FieldRead → Type 0
+  abbrev pub Read : FieldAnswer → Type 0
   Read a = a ≡ field_read xs (read_field (column_shape column) column.options xs)
 
-  -- no field is longer than what the reader was given, and no bad byte stands outside it
-  pub read_inside : (a : FieldRead) → Read a → length_read a ≤ length xs
-  read_inside a e = subst (λ (y : FieldRead). length_read y ≤ length xs) (sym e) (go (read_field (column_shape column) column.options xs))
-    where
-      go : (q : Parsed Slot) → length_read (field_read xs q) ≤ length xs
-      go (got none r) = omega arith
-      go (got (some v) r) = omega arith
-      go (fault f l) = omega arith
+  -- no bad byte stands outside what the reader was given
+  abbrev Within : FieldAnswer → Type 0
+  Within (Ok read) = Unit {0}
+  Within (Err found) = found.1 ≤ length xs
 
-  pub left_inside : (a : FieldRead) → Read a → left_read a ≤ length xs
-  left_inside a e = subst (λ (y : FieldRead). left_read y ≤ length xs) (sym e) (go (read_field (column_shape column) column.options xs) refl)
+  pub left_inside : (found : FieldFault) → Read (Err found) → found.1 ≤ length xs
+  left_inside found e = subst Within (sym e) (go (read_field (column_shape column) column.options xs) refl)
     where
-      go : (q : Parsed Slot) → read_field (column_shape column) column.options xs ≡ q → left_read (field_read xs q) ≤ length xs
-      go (got none r) h = omega arith
-      go (got (some v) r) h = omega arith
+      go : (q : Parsed Slot) → read_field (column_shape column) column.options xs ≡ q → Within (field_read xs q)
+      go (got none r) h = tt
+      go (got (some v) r) h = tt
       go (fault f l) h = fault_inside (column_shape column) column.options xs f l h
 
   module _ (inside : i + m ≤ length piece) (bytes : Bytes piece) (room : p.bytes + m ≤ max_total) (starts : p.spot ≡ Start) where
@@ -120,25 +133,35 @@ module _ (column : Column) (count : ℕ) (p : Place) (piece : List ℕ) (i m : �
         inside = omega (arith, long);
       }
 
-    abbrev Has : FieldRead → Type 0
-    Has y = 1 ≤ length_read y → Advances column count p piece i (record { turn = ended p count (length_read y); by = length_read y })
+    -- its length: some bytes, and no more than the reader was given
+    abbrev Reads : FieldAnswer → Type 0
+    Reads (Ok read) = (1 ≤ read.length) × (read.length ≤ length xs) × Advances column count p piece i (record { turn = ended p count read.length; by = read.length })
+    Reads (Err found) = Unit {0}
 
-    -- a null or a value: any answer with a length
-    pub field_advances : (a : FieldRead) → Read a → 1 ≤ length_read a → Advances column count p piece i (record { turn = ended p count (length_read a); by = length_read a })
-    field_advances a e = subst Has (sym e) (go (read_field (column_shape column) column.options xs) refl)
+    -- a null or a value
+    pub field_advances : (read : FieldRead) → Read (Ok read) → (1 ≤ read.length) × (read.length ≤ length xs)
+        × Advances column count p piece i (record { turn = ended p count read.length; by = read.length })
+    field_advances read e = subst Reads (sym e) (go (read_field (column_shape column) column.options xs) refl)
       where
-        go : (q : Parsed Slot) → read_field (column_shape column) column.options xs ≡ q → Has (field_read xs q)
-        go (got none r) h l = got_advances none r h (length xs - length r) refl l
-        go (got (some v) r) h l = got_advances (some v) r h (length xs - length r) refl l
-        go (fault f k) h l = absurd (omega arith)
+        read_whole : (v : Slot) (r : List ℕ) → read_field (column_shape column) column.options xs ≡ got v r
+            → (1 ≤ length xs - length r) × (length xs - length r ≤ length xs)
+            × Advances column count p piece i (record { turn = ended p count (length xs - length r); by = length xs - length r })
+        read_whole v r h =
+            let some = read_some column xs v r (bytes_take m (drop i piece) (bytes_drop i piece bytes)) h in
+            (some, omega arith, got_advances v r h (length xs - length r) refl some)
+
+        go : (q : Parsed Slot) → read_field (column_shape column) column.options xs ≡ q → Reads (field_read xs q)
+        go (got none r) h = read_whole none r h
+        go (got (some v) r) h = read_whole (some v) r h
+        go (fault f k) h = tt
 
     -- a fault that shows
-    pub fault_advances : (f : RowFault) (l : ℕ) → Read (Fault f l) → is_cut f ≡ false → 1 ≤ m
-        → Advances column count p piece i (record { turn = Stopped (Row f p.rows p.column (p.row + m - l)); by = m })
-    fault_advances f l e uncut least = go (read_field (column_shape column) column.options xs) refl e
+    pub fault_advances : (found : FieldFault) → Read (Err found) → is_cut found.0 ≡ false → 1 ≤ m
+        → Advances column count p piece i (record { turn = Stopped (Row found.0 p.rows p.column (p.row + m - found.1)); by = m })
+    fault_advances found e uncut least = go (read_field (column_shape column) column.options xs) refl e
       where
-        go : (q : Parsed Slot) → read_field (column_shape column) column.options xs ≡ q → Fault f l ≡ field_read xs q
-            → Advances column count p piece i (record { turn = Stopped (Row f p.rows p.column (p.row + m - l)); by = m })
+        go : (q : Parsed Slot) → read_field (column_shape column) column.options xs ≡ q → Err found ≡ field_read xs q
+            → Advances column count p piece i (record { turn = Stopped (Row found.0 p.rows p.column (p.row + m - found.1)); by = m })
         go (got none r) h e = absurd (let z : ◌≡◌ {A = ℕ} 0 1 = cc in omega arith)
         go (got (some v) r) h e = absurd (let z : ◌≡◌ {A = ℕ} 0 1 = cc in omega arith)
         go (fault g k) h e = record {
@@ -148,20 +171,23 @@ module _ (column : Column) (count : ℕ) (p : Place) (piece : List ℕ) (i m : �
           inside = inside;
         }
           where
-            fault_is : f ≡ g
-            fault_is = cc
+            found_is : found ≡ record { 0 = g; 1 = k }
+            found_is = cc
 
-            left_is : l ≡ k
-            left_is = cc
+            fault_is : found.0 ≡ g
+            fault_is = ap (λ (f : FieldFault). f.0) found_is
 
-            same : refused (Row g p.rows p.column (p.row + length xs - k)) ≡ refused (Row f p.rows p.column (p.row + m - l))
+            left_is : found.1 ≡ k
+            left_is = ap (λ (f : FieldFault). f.1) found_is
+
+            same : refused (Row g p.rows p.column (p.row + length xs - k)) ≡ refused (Row found.0 p.rows p.column (p.row + m - found.1))
             same = rw (fault_is, left_is, long)
 
             broken : (schema : Schema) → column_in (state_at schema p) ≡ column → Broken (state_at schema p) xs g k
             broken schema u = pick (subst (FieldFed (state_at schema p) xs) h (fed_in schema u))
               where
                 pick : FieldFed (state_at schema p) xs (fault g k) → Broken (state_at schema p) xs g k
-                pick (inl x) = absurd (true≢false (sym (cut_fault f (fault_is ∙ x.0)) ∙ uncut))
+                pick (inl x) = absurd (true≢false (sym (cut_fault found.0 (fault_is ∙ x.0)) ∙ uncut))
                 pick (inr x) = x
 
 -- ---- the walk over fields
@@ -195,59 +221,57 @@ module _ {schema : Schema} {at₀ : Place} {piece : List ℕ} {i₀ n₀ : ℕ} 
   pub fields_leave : (r : Walked) → r ≡ placed (Ok tt) rows bytes row c n i → Goes schema at₀ piece i₀ n₀ ends₀ r ends
   fields_leave r e = turn_leaves w.turning r e
 
-  module _ (all : Bytes piece) (more : i < end) (a : FieldRead) (is : Read column schema.count here piece i (end - i) a) where
-    inside : i + (end - i) ≤ length piece
-    inside = omega (arith, w.last)
+  inside : i + (end - i) ≤ length piece
+  inside = omega (arith, w.last)
 
-    -- the field has no more bytes than the reader was given
-    pub fields_inside : length_read a ≤ end - i
-    fields_inside =
-        omega (arith, read_inside column schema.count here piece i (end - i) a is, length-take (end - i) (drop i piece))
+  -- a field
+  module _ (all : Bytes piece) (read : FieldRead) (is : Read column schema.count here piece i (end - i) (Ok read)) where
+    abbrev len : ℕ
+    len = read.length
 
-    pub fields_left : left_read a ≤ end - i
+    advances : (1 ≤ len) × (len ≤ length (take (end - i) (drop i piece))) × Advances column schema.count here piece i (record { turn = ended here schema.count len; by = len })
+    advances = field_advances column schema.count here piece i (end - i) inside all w.room refl read is
+
+    pub fields_some : 1 ≤ len
+    fields_some = advances.0
+
+    -- it has no more bytes than the reader was given
+    pub fields_inside : len ≤ end - i
+    fields_inside = omega (arith, advances.1, length-take (end - i) (drop i piece))
+
+    pub fields_go : c + 1 < schema.count → InFields schema at₀ piece i₀ n₀ ends₀ end rows (bytes + len) (row + len) (c + 1) n (i + len) ends
+    fields_go l = record {
+      turning = turn_goes w.turning all _ advances.2 (field_at rows (bytes + len) (row + len) (c + 1)) (rw (lt-ltb (c + 1) schema.count l)) refl refl refl;
+      short = omega (arith, fields_inside, w.short);
+      last = w.last;
+      room = omega (arith, fields_inside, w.room);
+    }
+
+    pub fields_end : schema.count ≤ c + 1 → n < length ends
+        → InFields schema at₀ piece i₀ n₀ ends₀ end (rows + 1) (bytes + len) 0 0 (n + 1) (i + len) (set ends n (bytes + len))
+    fields_end l room = record {
+      turning = turn_ends w.turning all _ advances.2 (field_at (rows + 1) (bytes + len) 0 0) room (rw (le-ltb (c + 1) schema.count l)) refl refl refl;
+      short = omega (arith, fields_inside, w.short);
+      last = w.last;
+      room = omega (arith, fields_inside, w.room);
+    }
+
+  -- a fault, which shows or not
+  module _ (all : Bytes piece) (more : i < end) (found : FieldFault) (is : Read column schema.count here piece i (end - i) (Err found)) where
+    pub fields_left : found.1 ≤ end - i
     fields_left =
-        omega (arith, left_inside column schema.count here piece i (end - i) a is, length-take (end - i) (drop i piece))
+        omega (arith, left_inside column schema.count here piece i (end - i) found is, length-take (end - i) (drop i piece))
 
-    module _ (len : ℕ) (of : len ≡ length_read a) (some : len ≡ 0 → ⊥) where
-      advances : Advances column schema.count here piece i (record { turn = ended here schema.count len; by = len })
-      advances =
-          subst (λ (k : ℕ). Advances column schema.count here piece i (record { turn = ended here schema.count k; by = k })) (sym of)
-          (field_advances column schema.count here piece i (end - i) inside all w.room refl a is (omega (arith, pos_of_ne-zero some)))
-
-      pub fields_go : c + 1 < schema.count → InFields schema at₀ piece i₀ n₀ ends₀ end rows (bytes + len) (row + len) (c + 1) n (i + len) ends
-      fields_go l = record {
-        turning = turn_goes w.turning all _ advances (field_at rows (bytes + len) (row + len) (c + 1)) (rw (lt-ltb (c + 1) schema.count l)) refl refl refl;
-        short = omega (arith, fields_inside);
-        last = w.last;
-        room = omega (arith, fields_inside, w.room);
-      }
-
-      pub fields_end : schema.count ≤ c + 1 → n < length ends
-          → InFields schema at₀ piece i₀ n₀ ends₀ end (rows + 1) (bytes + len) 0 0 (n + 1) (i + len) (set ends n (bytes + len))
-      fields_end l room = record {
-        turning = turn_ends w.turning all _ advances (field_at (rows + 1) (bytes + len) 0 0) room (rw (le-ltb (c + 1) schema.count l)) refl refl refl;
-        short = omega (arith, fields_inside);
-        last = w.last;
-        room = omega (arith, fields_inside, w.room);
-      }
-
-    -- no field, or a fault that shows
-    pub fields_stop : (check : Check) (r : Walked) → check ≡ fault_shown a rows c (row + (end - i)) → r ≡ placed check rows bytes row c n i
+    pub fields_stop : (check : Check) (r : Walked) → check ≡ fault_shown found rows c (row + (end - i)) → r ≡ placed check rows bytes row c n i
         → Goes schema at₀ piece i₀ n₀ ends₀ r ends
-    fields_stop check r e q = rw q (go a is check e)
+    fields_stop check r e q = rw (q, e) (pick (is_cut found.0) refl)
       where
-        go : (y : FieldRead) → Read column schema.count here piece i (end - i) y → (z : Check) → z ≡ fault_shown y rows c (row + (end - i))
-            → Goes schema at₀ piece i₀ n₀ ends₀ (placed z rows bytes row c n i) ends
-        go (Null len) h z e = rw e (turn_leaves w.turning _ refl)
-        go (Value len k) h z e = rw e (turn_leaves w.turning _ refl)
-        go (Fault f l) h z e = rw e (pick (is_cut f) refl)
-          where
-            pick : (t : Bool) → is_cut f ≡ t
-                → Goes schema at₀ piece i₀ n₀ ends₀ (placed (cond t (Ok tt) (Err (Row f rows c (row + (end - i) - l)))) rows bytes row c n i) ends
-            pick true u = turn_leaves w.turning _ refl
-            pick false u =
-                turn_stops w.turning all _ (fault_advances column schema.count here piece i (end - i) inside all w.room refl f l h u (omega arith))
-                (Row f rows c (row + (end - i) - l)) i here refl
+        pick : (t : Bool) → is_cut found.0 ≡ t
+            → Goes schema at₀ piece i₀ n₀ ends₀ (placed (cond t (Ok tt) (Err (Row found.0 rows c (row + (end - i) - found.1)))) rows bytes row c n i) ends
+        pick true u = turn_leaves w.turning _ refl
+        pick false u =
+            turn_stops w.turning all _ (fault_advances column schema.count here piece i (end - i) inside all w.room refl found is u (omega arith))
+            (Row found.0 rows c (row + (end - i) - found.1)) i here refl
 
 -- the columns of a state that keeps the rule
 pub limited : (schema : Schema) (p : Place) → length schema.columns ≡ max_columns → keeps (state_at schema p) ≡ true → Limited schema
@@ -258,7 +282,7 @@ limited schema p held kept =
     record {
       few = t.count;
       narrow = λ c l.
-          column_narrow schema 0 0 0 c Start t.count k.1 l (length-take-le schema.count schema.columns (omega (arith, held, t.count)));
+          column_narrow (state_at schema (field_at 0 0 0 c)) t.count k.1 l (length-take-le schema.count schema.columns (omega (arith, held, t.count)));
     }
 
 -- the walk begins
@@ -271,7 +295,3 @@ fields_begin schema p piece i n ends m held kept e few within most room = record
   last = omega arith;
   room = omega arith;
 }
-
--- a fault that shows is refused
-pub shown_uncut : (f : RowFault) (l r c whole : ℕ) → is_cut f ≡ false → Err (Row f r c (whole - l)) ≡ fault_shown (Fault f l) r c whole
-shown_uncut f l r c whole e = rw e

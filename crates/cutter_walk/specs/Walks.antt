@@ -2,8 +2,7 @@
 use Rattle.std.specs.Prelude.{ℕ, ◌-◌, ◌≤◌, ◌≡◌, Bool, true, false, cond, ◌⊎◌, List, length, take, Ok, Err}
 use Rattle.format.specs.declared.RowFault.{RowFault}
 use Rattle.format.specs.declared.RowFault.TheVariants.{Cut, Lead, NullRest, BoolByte, EndByte, Padding, Extra, TooLong, Unfolded}
-use Rattle.format.specs.declared.FieldRead.{FieldRead}
-use Rattle.format.specs.declared.FieldRead.TheVariants.{Null, Value, Fault}
+use Rattle.format.specs.declared.FieldFault.{FieldFault}
 use Rattle.format.specs.declared.Refusal.TheVariants.{Row}
 use Rattle.format.specs.declared.Schema.{Schema}
 use Rattle.format.specs.Check.{Check}
@@ -16,19 +15,7 @@ use Rattle.cutter_step.specs.declared.Place.{Place}
 use Rattle.cutter_walk.specs.declared.Walked.{Walked}
 use Rattle.cutter_step.specs.Places.{state_at}
 
--- ---- a field reader's answer
-
--- the length of the field, and 0 for a fault
-abbrev pub length_read : FieldRead → ℕ
-length_read (Null len) = len
-length_read (Value len value) = len
-length_read (Fault f left) = 0
-
--- the bytes left from the bad one on
-abbrev pub left_read : FieldRead → ℕ
-left_read (Null len) = 0
-left_read (Value len value) = 0
-left_read (Fault f left) = left
+-- ---- a fault of a field
 
 abbrev pub is_cut : RowFault → Bool
 is_cut Cut = true
@@ -42,10 +29,8 @@ is_cut TooLong = false
 is_cut Unfolded = false
 
 -- the fault that shows, in the first `whole` bytes of a row; a field that is cut off has none yet
-abbrev pub fault_shown : FieldRead → ℕ → ℕ → ℕ → Check
-fault_shown (Null len) r c whole = Ok tt
-fault_shown (Value len value) r c whole = Ok tt
-fault_shown (Fault f left) r c whole = cond (is_cut f) (Ok tt) (Err (Row f r c (whole - left)))
+abbrev pub fault_shown : FieldFault → ℕ → ℕ → ℕ → Check
+fault_shown found r c whole = cond (is_cut found.0) (Ok tt) (Err (Row found.0 r c (whole - found.1)))
 
 -- ---- a walk
 

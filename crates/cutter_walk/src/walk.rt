@@ -8,13 +8,13 @@ ghost use Rattle.format.specs.Kinds.{column_shape};
 ghost use Rattle.format.specs.Read.{field_read, read_field};
 ghost use Rattle.cutter_step.specs.Places.{state_at};
 ghost use Rattle.plain_fields.specs.Plain.{Lengthy};
-ghost use Rattle.cutter_walk.specs.Walks.{StopsAt, Halts, length_read, left_read, fault_shown, is_cut, placed, Goes, WalkedOn};
+ghost use Rattle.cutter_walk.specs.Walks.{StopsAt, Halts, fault_shown, is_cut, placed, Goes, WalkedOn};
 
 use crate::Walked;
 use cutter_step::step::step;
 use cutter_step::{Place, Stepped};
 use field_reader::read_field;
-use format::{Column, FieldRead, MAX_TOTAL, Refusal, RowFault, Schema, Spot};
+use format::{Column, FieldFault, FieldRead, MAX_TOTAL, Refusal, RowFault, Schema, Spot};
 use plain_fields::{plain_lengths, plain_there};
 
 // Whether a walk that goes to the end of a field stands there.
@@ -31,6 +31,7 @@ fn stops_at(field: bool, spot: Spot) -> bool
 }
 
 // Byte by byte, from byte `from` on with `found` ends in the list, to the end of the field or of the piece, or until the list is full.
+// `keeps`, here and above: it is about the columns and the numbers of a state together; a `Cutter` would copy the columns with each place.
 fn by_bytes(
     schema: Schema,
     place: Place,
@@ -99,17 +100,6 @@ fn by_bytes(
     }
 }
 
-// The length of a field that was read, and 0 for a fault.
-fn field_length(read: FieldRead) -> usize
-    ensures { result ≡ length_read read }
-{
-    match read {
-        FieldRead::Null(len) => len,
-        FieldRead::Value(len, _) => len,
-        FieldRead::Fault(_, _) => 0,
-    }
-}
-
 fn is_cut(fault: RowFault) -> bool
     ensures { result ≡ is_cut fault }
 {
@@ -120,21 +110,16 @@ fn is_cut(fault: RowFault) -> bool
 }
 
 // The fault that shows in so many bytes of a field, which begins at a place of its row; one that is cut off has none yet.
-fn fault_shown(read: FieldRead, rows: u64, c: usize, row: u64, size: usize) -> Result<(), Refusal>
-    requires { (left_read read ≤ size) × (row + size ≤ max_total) }
-    ensures { result ≡ fault_shown read rows c (row + size) }
+fn fault_shown(found: FieldFault, rows: u64, c: usize, row: u64, size: usize) -> Result<(), Refusal>
+    requires { (found.1 ≤ size) × (row + size ≤ max_total) }
+    ensures { result ≡ fault_shown found rows c (row + size) }
 {
-    match read {
-        FieldRead::Null(_) => Ok(()),
-        FieldRead::Value(_, _) => Ok(()),
-        FieldRead::Fault(fault, left) => {
-            if is_cut(fault) {
-                return Ok(());
-            }
-            let at = row as usize + size - left;
-            Err(Refusal::Row(fault, rows as usize, c, at))
-        }
+    let FieldFault(fault, left) = found;
+    if is_cut(fault) {
+        return Ok(());
     }
+    let at = row as usize + size - left;
+    Err(Refusal::Row(fault, rows as usize, c, at))
 }
 
 // How many of so many bytes the stream may still hold.
@@ -177,18 +162,21 @@ fn walked(
 }
 
 // The field in front of some bytes: where a plain field stands there, without its reader.
-fn quick_field(rest: &[u8], column: Column, plain: usize) -> FieldRead
+fn quick_field(rest: &[u8], column: Column, plain: usize) -> Result<FieldRead, FieldFault>
     requires { Lengthy column plain }
     ensures { result ≡ field_read rest.now (read_field (column_shape column) column.options rest.now) }
 {
     if plain_there(rest, 0, plain) {
-        return FieldRead::Value(plain, plain - 1);
+        return Ok(FieldRead {
+            length: plain,
+            value: Some(plain - 1),
+        });
     }
     read_field(rest, column)
 }
 
 // Whole fields, to the first that the piece does not have whole, or until the list is full. The field reader is given what is left of the
-// piece, cut to what the stream may still hold, so that 12 comes before a fault past it.
+// piece, cut to what the stream may still hold, so that 12 comes before a fault past it. No `?` in it: the ends before a fault count.
 fn by_fields(
     schema: Schema,
     place: Place,
@@ -221,12 +209,13 @@ fn by_fields(
         let column = columns[c];
         let plain = lengths[c];
         let rest = &piece[i..end];
-        let read = quick_field(rest, column, plain);
-        let len = field_length(read);
-        if len == 0 {
-            let check = fault_shown(read, rows, c, row, end - i);
-            return walked(check, rows, bytes, row, c, n, i);
-        }
+        let len = match quick_field(rest, column, plain) {
+            Ok(read) => read.length,
+            Err(fault) => {
+                let check = fault_shown(fault, rows, c, row, end - i);
+                return walked(check, rows, bytes, row, c, n, i);
+            }
+        };
         bytes += len as u64;
         i += len;
         if c + 1 < count {

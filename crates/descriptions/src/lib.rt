@@ -1,14 +1,15 @@
-// The three numbers of a description, kind, options and width: what is wrong with them, the column that they say, and those of a
-// column.
+// The three numbers of a description, kind, options and width: what is wrong with them, the kind that two of them say, and the width of a
+// kind. The kind byte and the options byte are conversions of crate `format`.
 #![tactic(auto)]
 
-ghost use Rattle.std.specs.Prelude.{◌≡◌, cond, ◌≤◌};
-ghost use Rattle.format.specs.Columns.{kind_of, options_of, most_options, most_width, numbers_fault};
-ghost use Rattle.format.specs.Described.{kind_number, options_number, held_width};
+ghost use Rattle.std.specs.Prelude.{◌≡◌};
+ghost use Rattle.format.specs.Columns.{kind_of, most_options, most_width, numbers_fault};
+ghost use Rattle.format.specs.Described.{held_width};
 
-use format::{Kind, Refusal, SortOptions};
+use format::{Kind, Refusal};
 
-// The kind that a kind byte from 1 to 18 says; fixed binary takes its width along.
+// The kind that a kind byte from 1 to 18 says; fixed binary takes its width along. No `From`: it takes two numbers, and past 18 it means
+// nothing.
 pub fn kind_of(b: u8, width: u16) -> Kind
     ensures { result ≡ kind_of b width }
 {
@@ -31,18 +32,6 @@ pub fn kind_of(b: u8, width: u16) -> Kind
         16 => Kind::Variable,
         17 => Kind::I128,
         _ => Kind::I256,
-    }
-}
-
-// Bits 0 to 3 of an options byte.
-pub fn options_of(o: u8) -> SortOptions
-    ensures { result ≡ options_of o }
-{
-    SortOptions {
-        descending: o % 2 == 1,
-        nulls_first: o / 2 % 2 == 1,
-        required: o / 4 % 2 == 1,
-        fold: o / 8 % 2 == 1,
     }
 }
 
@@ -98,57 +87,11 @@ pub fn check_numbers(
     Ok(())
 }
 
-// The kind byte of a kind.
-pub fn kind_number(kind: Kind) -> u8
-    ensures { result ≡ kind_number kind }
-{
-    match kind {
-        Kind::Bool => 1,
-        Kind::I8 => 2,
-        Kind::I16 => 3,
-        Kind::I32 => 4,
-        Kind::I64 => 5,
-        Kind::U8 => 6,
-        Kind::U16 => 7,
-        Kind::U32 => 8,
-        Kind::U64 => 9,
-        Kind::F16 => 10,
-        Kind::F32 => 11,
-        Kind::F64 => 12,
-        Kind::DayTime => 13,
-        Kind::MonthDayNano => 14,
-        Kind::FixedBinary(_) => 15,
-        Kind::Variable => 16,
-        Kind::I128 => 17,
-        Kind::I256 => 18,
-    }
-}
-
-// What a bit of the options byte is worth.
-fn worth(set: bool, bit: u8) -> u8
-    ensures { (result ≡ cond set bit 0) × (result ≤ bit) }
-{
-    if set {
-        return bit;
-    }
-    0
-}
-
-// The options byte.
-pub fn options_number(options: SortOptions) -> u8
-    ensures { result ≡ options_number options }
-{
-    worth(options.descending, 1)
-        + worth(options.nulls_first, 2)
-        + worth(options.required, 4)
-        + worth(options.fold, 8)
-}
-
 // The width: fixed binary alone has one.
 pub fn held_width(kind: Kind) -> usize
     ensures { result ≡ held_width kind }
 {
-    if kind_number(kind) == 15 {
+    if u8::from(kind) == 15 {
         return column_facts::width(kind);
     }
     0

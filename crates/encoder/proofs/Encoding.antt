@@ -79,7 +79,7 @@ module _ (list : ColumnList) (n : ℕ) (sheet rows offsets : List ℕ) (r : Resu
         -- none of them: what is written goes in front
         pub written : (rows' offsets' : List ℕ) → rows' ≡ sets rows 0 (joined (sheet_rows n (cols_of m.schema) sheet))
             → offsets' ≡ sets offsets 0 (ends_from 0 (sheet_rows n (cols_of m.schema) sheet))
-            → Encoded list n sheet rows offsets (Ok (m.total, m.nulls)) rows' offsets'
+            → Encoded list n sheet rows offsets (Ok (m.total, m.sheeted.nulls)) rows' offsets'
         unfolding encode_answer encode_rows encode_offsets
         written rows' offsets' v w =
             let cols = cols_of m.schema in

@@ -26,6 +26,7 @@ pub fn encode_listed(
     let m = measure_batch(listed, n, sheet)?;
     total_fault(m.total)?;
     room_fault(m.total, rows.len() as u64, n, offsets.len() as u64)?;
-    write_rows(m.schema, n as usize, sheet, m.facts, rows, offsets);
-    Ok((m.total, m.nulls))
+    let facts = &m.sheeted.facts[..m.schema.count];
+    write_rows(n as usize, sheet, facts, rows, offsets);
+    Ok((m.total, m.sheeted.nulls))
 }

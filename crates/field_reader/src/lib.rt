@@ -9,11 +9,11 @@ ghost use Rattle.format.specs.Cleared.{slot_length, added};
 ghost use Rattle.field_reader.specs.Counts.{Adds, Counts};
 
 use column_facts::width;
-use format::{Column, FieldRead, Kind};
+use format::{Column, FieldFault, FieldRead, Kind};
 use variable_reader::{Short, read_short};
 
 // The field in front of a row.
-pub fn read_field(row: &[u8], column: Column) -> FieldRead
+pub fn read_field(row: &[u8], column: Column) -> Result<FieldRead, FieldFault>
     ensures { result ≡ field_read row.now (read_field (column_shape column) column.options row.now) }
 {
     let kind = column.kind;
@@ -40,16 +40,15 @@ pub fn added_bytes(column: Column, value: usize) -> usize
 }
 
 // An answer that is no fault, in two numbers: how long the field is, and what it adds. A field of no bytes says nothing.
-fn counted(read: FieldRead, column: Column) -> Short
-    ensures { 0 < result.field → Adds column result.field result.value read }
+fn counted(answer: Result<FieldRead, FieldFault>, column: Column) -> Short
+    ensures { 0 < result.field → Adds column result.field result.value answer }
 {
-    match read {
-        FieldRead::Null(field) => Short { field, value: 0 },
-        FieldRead::Value(field, value) => Short {
-            field,
-            value: added_bytes(column, value),
+    match answer {
+        Ok(read) => Short {
+            field: read.length,
+            value: read.value.map_or(0, |value| added_bytes(column, value)),
         },
-        FieldRead::Fault(_, _) => Short { field: 0, value: 0 },
+        Err(_) => Short { field: 0, value: 0 },
     }
 }
 

@@ -16,6 +16,7 @@ use format::{Column, Kind, SortOptions};
 use sheet_ends::end_at;
 
 // Null of a fixed kind: the null byte, and zeros to the length of a value.
+// A kind that is not variable, here and above: `Kind` is one enum for every walk, and a second one would need a match to get.
 fn put_null(column: Column, rows: &mut [u8], at: usize) -> usize
     requires fact { column.kind ≡ Variable → ⊥ }
     requires none_in_bounds { at + field_length (column_shape column) none ≤ length rows.old }
@@ -31,6 +32,7 @@ fn put_null(column: Column, rows: &mut [u8], at: usize) -> usize
 }
 
 // Variable bytes: the value of row r lies between ends r and r + 1. The ends stand before it, so that eight bytes do.
+// A row below a count of rows, here and above: a pair of numbers, of which a type would be no plainer than the two.
 fn put_variable(
     values: &[u8],
     n: usize,

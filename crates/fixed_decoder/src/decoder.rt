@@ -12,7 +12,7 @@ use column_facts::{null_lead, width};
 use format::{Kind, SortOptions};
 use number::{Coding, directed};
 use number_reader::{take_number, take_words};
-use runs::{copy_bytes, zeros};
+use runs::copy_bytes;
 
 // A bool: the byte of true, inverted under descending; a null has 00.
 pub fn decode_boolean(row: &[u8], options: SortOptions) -> bool
@@ -33,6 +33,14 @@ fn decode_day_time(row: &[u8], descending: bool, out: &mut [u8], at: usize)
     take_number::<u32>(out, at + 4, row, 5, Coding::Signed, descending);
 }
 
+// Fixed binary, as it stands, from a row whose lead byte is 01.
+fn decode_fixed_size_binary(row: &[u8], width: usize, descending: bool, out: &mut [u8], at: usize)
+    requires { (1 + width ≤ length row.now) × (at + width ≤ length out.old) }
+    ensures { out.new ≡ sets out.old at (directed descending (take width (drop 1 row.now))) }
+{
+    copy_bytes(&mut out[at..at + width], &row[1..1 + width], descending);
+}
+
 // A bytewise kind, from a row whose lead byte is 01.
 fn decode_value(row: &[u8], kind: Kind, descending: bool, out: &mut [u8], at: usize)
     requires kind_value { bytewise kind ≡ true }
@@ -45,7 +53,7 @@ fn decode_value(row: &[u8], kind: Kind, descending: bool, out: &mut [u8], at: us
         Kind::I8 => take_number::<u8>(out, at, row, 1, Coding::Signed, descending),
         Kind::U8 => take_number::<u8>(out, at, row, 1, Coding::Unsigned, descending),
         Kind::DayTime => decode_day_time(row, descending, out, at),
-        Kind::FixedBinary(w) => copy_bytes(out, at, row, 1, w as usize, descending),
+        Kind::FixedBinary(w) => decode_fixed_size_binary(row, w as usize, descending, out, at),
         Kind::I128 => take_words(out, at, row, 1, 2, descending),
         Kind::I256 => take_words(out, at, row, 1, 4, descending),
         // Not handed.
@@ -63,7 +71,7 @@ pub fn decode(row: &[u8], kind: Kind, options: SortOptions, out: &mut [u8], at: 
 {
     let lead = row[0];
     if null_lead(lead, options) {
-        zeros(out, at, width(kind));
+        out[at..at + width(kind)].fill(0);
         return;
     }
     decode_value(row, kind, options.descending, out, at)

@@ -33,7 +33,7 @@ fn put_number<W: Word>(
     or_zero(!null, value).put(out, at);
 }
 
-// The same of so many bytes.
+// The same of so many bytes. A width and no type, here and in `slot`: the 16 bytes of an interval are no word.
 fn put_word(
     out: &mut [u8],
     at: usize,

@@ -9,14 +9,12 @@ use lib.ListN.{length, get_or, take, drop, length-drop}
 use lib.Seq.{length-take-le, get_or-take, get_or-drop}
 use borrow.Author.Tests.{lt-ltb, le-ltb, eq-eqb, ne_eqb}
 use Rattle.format.specs.declared.SortOptions.{SortOptions}
-use Rattle.format.specs.declared.FieldRead.{FieldRead}
-use Rattle.format.specs.declared.FieldRead.TheVariants.{Null, Value, Fault}
 use Rattle.format.specs.declared.RowFault.TheVariants.{Cut, Lead, NullRest}
 use Rattle.format.specs.Kinds.{Fixed, bool, plain, number, integer, float, parts, width}
 use Rattle.format.specs.Key.{allowed}
 use Rattle.format.specs.Fold.{folds}
 use Rattle.format.specs.Field.{directed}
-use Rattle.format.specs.Read.{fault, field_read, null_lead, read_bytes, read_fixed, read_key, read_null}
+use Rattle.format.specs.Read.{fault, field_read, null_lead, read_bytes, read_fixed, read_key, read_null, FieldAnswer, found_null, found_value, found_fault}
 use Rattle.laws.proofs.Directed.{length_directed}
 use Rattle.laws.proofs.Unkey.{length_unkey}
 use Rattle.basics.specs.Wide.{WideShape}
@@ -45,13 +43,13 @@ module _ (row : List ℕ) (w : ℕ) (some_lead : 0 < length row) where
     null_more i k h z = clean_more rest i k (omega (arith, long)) (at i h ∙ z)
 
     pub null_bad : (i : ℕ) → Clean rest i → i < w → (get_or row (1 + i) 0 ≡ 0 → ⊥)
-        → Fault NullRest (length row - 1 - i) ≡ field_read row (read_null w (drop 1 row))
+        → found_fault NullRest (length row - 1 - i) ≡ field_read row (read_null w (drop 1 row))
     null_bad i k h z =
         let b = clean_bad rest i k (omega (arith, long)) (λ e. z (sym (at i h) ∙ e)) in
-        rw (whole, b.0) (ap (Fault NullRest) (omega (arith, b.1, long, room, length-drop w (drop 1 row))))
+        rw (whole, b.0) (ap (found_fault NullRest) (omega (arith, b.1, long, room, length-drop w (drop 1 row))))
 
-    pub null_end : (i : ℕ) → Clean rest i → w ≤ i → Null (1 + w) ≡ field_read row (read_null w (drop 1 row))
-    null_end i k h = rw (whole, clean_end rest i k (omega (arith, long))) (ap Null (omega (arith, room, length-drop w (drop 1 row))))
+    pub null_end : (i : ℕ) → Clean rest i → w ≤ i → found_null (1 + w) ≡ field_read row (read_null w (drop 1 row))
+    null_end i k h = rw (whole, clean_end rest i k (omega (arith, long))) (ap found_null (omega (arith, room, length-drop w (drop 1 row))))
 
 -- ---- by the lead byte
 
@@ -90,7 +88,7 @@ wide_allowed (parts ns) f h = refl
 -- ---- a field that is not a bool's nor of a folding float, as `read` answers it
 
 module _ (row : List ℕ) (w : ℕ) (o : SortOptions) (k : Fixed) (f : WideShape w k) (free : folds k o.fold ≡ false) where
-  abbrev answer : FieldRead
+  abbrev answer : FieldAnswer
   answer = field_read row (read_fixed k o row)
 
   pub read_null_lem : 0 < length row → null_lead o (get_or row 0 0) ≡ true → field_read row (read_null w (drop 1 row)) ≡ answer
@@ -107,8 +105,8 @@ module _ (row : List ℕ) (w : ℕ) (o : SortOptions) (k : Fixed) (f : WideShape
       value_long : length value ≡ width k
       value_long = length_directed o.descending (take (width k) (drop 1 row)) ∙ length-take-le (width k) (drop 1 row) enough
 
-      pub read_whole : Value (1 + w) w ≡ answer
+      pub read_whole : found_value (1 + w) w ≡ answer
       read_whole =
           rw (lead_value k o row h n e, bytes_whole k o (drop 1 row) enough, wide_allowed k value f.other, free)
-          (ap₂ Value (omega (arith, f.bytes, length-drop 1 row, length-drop (width k) (drop 1 row)))
+          (ap₂ found_value (omega (arith, f.bytes, length-drop 1 row, length-drop (width k) (drop 1 row)))
           (omega (arith, f.bytes, length_unkey k value value_long)))

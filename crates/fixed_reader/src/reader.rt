@@ -9,67 +9,70 @@ ghost use Rattle.basics.specs.Wide.{WideShape};
 ghost use Rattle.number_reader.specs.Words.{WordWidth};
 
 use column_facts::null_lead;
-use format::{FieldRead, RowFault, SortOptions};
+use format::{FieldFault, FieldRead, RowFault, SortOptions};
 use number::directed;
 use number_reader::is_folded;
 
-// After the null byte: zeros, as many as a value has bytes.
-fn read_null(row: &[u8], width: usize) -> FieldRead
+// After the null byte: zeros, as many as a value has bytes. `0 < length row.now`: of a slice that is not empty a type is no plainer.
+fn read_null(row: &[u8], width: usize) -> Result<FieldRead, FieldFault>
     requires { 0 < length row.now }
     ensures { result ≡ field_read row.now (read_null width (drop 1 row.now)) }
 {
     let room = row.len() - 1;
     if room < width {
-        return FieldRead::Fault(RowFault::Cut, 0);
+        return Err(FieldFault(RowFault::Cut, 0));
     }
     for i in 0..width {
         if row[1 + i] != 0 {
-            return FieldRead::Fault(RowFault::NullRest, room - i);
+            return Err(FieldFault(RowFault::NullRest, room - i));
         }
     }
-    FieldRead::Null(1 + width)
+    Ok(FieldRead {
+        length: 1 + width,
+        value: None,
+    })
 }
 
 // Every fixed kind but bool, by its count of value bytes: all of them are allowed, but where a column folds.
-pub fn read(row: &[u8], width: usize, options: SortOptions) -> FieldRead
+pub fn read(row: &[u8], width: usize, options: SortOptions) -> Result<FieldRead, FieldFault>
     ensures { (k : Fixed) → WideShape width k → folds k options.fold ≡ false
         → result ≡ field_read row.now (read_fixed k options row.now) }
 {
     let len = row.len();
     if len == 0 {
-        return FieldRead::Fault(RowFault::Cut, 0);
+        return Err(FieldFault(RowFault::Cut, 0));
     }
     let lead = row[0];
     if null_lead(lead, options) {
         return read_null(row, width);
     }
     if lead != 1 {
-        return FieldRead::Fault(RowFault::Lead, len);
+        return Err(FieldFault(RowFault::Lead, len));
     }
     if len - 1 < width {
-        return FieldRead::Fault(RowFault::Cut, 0);
+        return Err(FieldFault(RowFault::Cut, 0));
     }
-    FieldRead::Value(1 + width, width)
+    Ok(FieldRead {
+        length: 1 + width,
+        value: Some(width),
+    })
 }
 
 // A bool: as one byte, and that byte is 00 or 01.
-pub fn read_boolean(row: &[u8], options: SortOptions) -> FieldRead
+pub fn read_boolean(row: &[u8], options: SortOptions) -> Result<FieldRead, FieldFault>
     ensures { result ≡ field_read row.now (read_fixed bool options row.now) }
 {
-    let field = read(row, 1, options);
-    match field {
-        FieldRead::Null(_) => field,
-        FieldRead::Value(_, _) => {
-            if 1 < directed(options.descending, row[1]) {
-                return FieldRead::Fault(RowFault::BoolByte, row.len() - 1);
-            }
-            field
+    let field = read(row, 1, options)?;
+    if let Some(_) = field.value {
+        if 1 < directed(options.descending, row[1]) {
+            return Err(FieldFault(RowFault::BoolByte, row.len() - 1));
         }
-        FieldRead::Fault(_, _) => field,
     }
+    Ok(field)
 }
 
 // Whether the float after a lead byte may stand in its column: any where the column does not fold, and else a folded one.
+// A width and no type, here and in `read_float`: a kind hands its width, and here it becomes a type.
 fn may_stand(row: &[u8], width: usize, options: SortOptions) -> bool
     requires word_width { WordWidth width }
     requires width_in_bounds { 1 + width ≤ length row.now }
@@ -87,19 +90,15 @@ fn may_stand(row: &[u8], width: usize, options: SortOptions) -> bool
 }
 
 // A float: as its bytes, which are those of a folded one where the column folds.
-pub fn read_float(row: &[u8], width: usize, options: SortOptions) -> FieldRead
+pub fn read_float(row: &[u8], width: usize, options: SortOptions) -> Result<FieldRead, FieldFault>
     requires { WordWidth width }
     ensures { result ≡ field_read row.now (read_fixed (float width) options row.now) }
 {
-    let field = read(row, width, options);
-    match field {
-        FieldRead::Null(_) => field,
-        FieldRead::Value(_, _) => {
-            if may_stand(row, width, options) {
-                return field;
-            }
-            FieldRead::Fault(RowFault::Unfolded, row.len() - 1)
+    let field = read(row, width, options)?;
+    if let Some(_) = field.value {
+        if !may_stand(row, width, options) {
+            return Err(FieldFault(RowFault::Unfolded, row.len() - 1));
         }
-        FieldRead::Fault(_, _) => field,
     }
+    Ok(field)
 }

@@ -19,6 +19,7 @@ use part_writer::{encode_day_time, encode_month_day_nano, put_words};
 use runs::copy_bytes;
 
 // Fixed binary, as it stands.
+// A value's room at a place, here and above: it is about a slice, a place and a width, which no type says in plainer words.
 fn encode_fixed_size_binary(
     out: &mut [u8],
     at: usize,
@@ -31,7 +32,11 @@ fn encode_fixed_size_binary(
     requires width_in_bounds_2 { at + width ≤ length out.old }
     ensures { Wrote (directed descending (take width (drop from values.now))) at out.old out.new result }
 {
-    copy_bytes(out, at, values, from, width, descending);
+    copy_bytes(
+        &mut out[at..at + width],
+        &values[from..from + width],
+        descending,
+    );
     at + width
 }
 

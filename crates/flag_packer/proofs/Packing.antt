@@ -6,24 +6,27 @@ use mathlib.Core.List.{List, [], ◌∷◌, ◌++◌, map, map-append}
 use native.Mathlib.Numerals.{add-one}
 use native.Mathlib.Omega.{arith}
 use lib.Dec.{ltb}
-use lib.ListN.{length, get_or, set, take, drop, length-drop, length-map}
-use lib.Seq.{take-suc, take_all, length-take-le, drop-drop}
-use borrow.Author.Tests.{le-ltb, ltb-true, ltb-false}
+use lib.ListN.{length, get_or, set, take, drop, length-take, length-drop, length-map}
+use lib.Seq.{take-suc, take_all, length-take-le, drop-drop, get_or-take, get_or-drop}
+use borrow.Author.Tests.{lt-ltb, le-ltb, ltb-true, ltb-false}
 use Rattle.format.specs.Sheet.{packed}
 use Rattle.format.specs.Cleared.{byte_of, pack}
-use Rattle.bits.proofs.Flags.{byte_last, byte_small}
-use Rattle.basics.proofs.Append.{Walk, walk_piece}
+use Rattle.bits.proofs.Flags.{byte_last}
+use Rattle.basics.specs.Wrote.{Wrote}
+use Rattle.basics.proofs.Append.{Walk, walk_piece, walk_first, walk_end}
 use Rattle.basics.proofs.Lists.{map_take, map_drop}
+use Rattle.flag_packer.specs.Flags.{Asks, Tells, flags_at}
 
 -- ---- a byte
+
+-- there is room above the first k flags, and so above one more
+pub room_more : (b k : ℕ) (on : Bool) → b < 2 ^ k → b + cond on (2 ^ k) 0 < 2 ^ (k + 1)
+room_more b k true h = rw add-one (omega arith)
+room_more b k false h = rw add-one (omega arith)
 
 module _ (f : ℕ → Bool) (xs : List ℕ) (k : ℕ) (h : k < length xs) where
   count : length (map f (take k xs)) ≡ k
   count = length-map (take k xs) f ∙ length-take-le k xs (omega arith)
-
-  -- there is room above the first k flags
-  pub byte_room : byte_of (map f (take k xs)) < 2 ^ k
-  byte_room = subst (λ (m : ℕ). byte_of (map f (take k xs)) < 2 ^ m) count (byte_small (map f (take k xs)))
 
   -- one more
   pub byte_more : byte_of (map f (take k xs)) + cond (f (get_or xs k 0)) (2 ^ k) 0 ≡ byte_of (map f (take (k + 1) xs))
@@ -47,12 +50,22 @@ pub record Packing (f : ℕ → Bool) (xs out₀ : List ℕ) (at₀ : ℕ) (out 
   pub within : base ≤ length xs
   pub wrote : Walk (pack (packed (length xs)) (map f xs)) (packed_from f xs base) out₀ at₀ out at
 
+-- none are at the start
+pub packing : (f : ℕ → Bool) (xs out : List ℕ) (at : ℕ) → Packing f xs out at out (at + 0) 0
+packing f xs out at = record { within = omega arith; wrote = walk_first (flags_at f xs) (packed_from f xs 0) out at all }
+  where
+    all : packed_from f xs 0 ≡ flags_at f xs
+    all = ap (λ (n : ℕ). pack (packed n) (map f xs)) {x = length xs - 0} {y = length xs} (omega arith)
+
 -- how many of the flags that are left go into the next byte
 abbrev pub in_byte : ℕ → ℕ
 in_byte left = cond (ltb left 8) left 8
 
 pub eight : (left : ℕ) → 8 ≤ left → 8 ≡ in_byte left
 eight left h = rw (le-ltb left 8 h) refl
+
+pub fewer : (left : ℕ) → left < 8 → left ≡ in_byte left
+fewer left h = rw (lt-ltb left 8 h) refl
 
 -- some, eight at most
 in_byte_lem : (left : ℕ) → 0 < left → (0 < in_byte left) × (in_byte left ≤ 8) × (in_byte left ≤ left)
@@ -103,3 +116,26 @@ module _ {f : ℕ → Bool} {xs out₀ : List ℕ} {at₀ : ℕ} {out : List ℕ
               walk_piece 1 (b ∷ []) (packed_from f xs (base + size)) t.wrote
               (next_is ∙ ap (λ (x : ℕ). x ∷ packed_from f xs (base + size)) same) refl;
         }
+
+  -- none is left
+  pub pack_end : length xs ≤ base → Wrote (flags_at f xs) at₀ out₀ out at
+  pack_end l =
+      let none : packed (length xs - base) ≡ 0 = omega arith in
+      let end = walk_end t.wrote (ap (λ (n : ℕ). pack n (map f (drop base xs))) none) in
+      record { place = end.0; bytes = end.1 }
+
+-- ---- a part of the cursors
+
+module _ (xs : List ℕ) (n base : ℕ) where
+  part_at : (r : ℕ) → r < length (take n (drop base xs)) → get_or (take n (drop base xs)) r 0 ≡ get_or xs (base + r) 0
+  part_at r l = get_or-take n (drop base xs) r 0 (omega (arith, length-take n (drop base xs))) ∙ get_or-drop base xs r 0
+
+  part_in : (r : ℕ) → r < length (take n (drop base xs)) → base + r < length xs
+  part_in r l = omega (arith, length-take n (drop base xs), length-drop base xs)
+
+  pub part_asks : (may : ℕ → Type 0) → Asks may xs → Asks may (take n (drop base xs))
+  part_asks may h r l = subst may (sym (part_at r l)) (h (base + r) (part_in r l))
+
+  pub part_tells : (gives : ℕ → Bool → Type 0) (flag : ℕ → Bool) → Tells gives flag xs → Tells gives flag (take n (drop base xs))
+  part_tells gives flag t r l on e =
+      subst (λ (p : ℕ). on ≡ flag p) (sym (part_at r l)) (t (base + r) (part_in r l) on (subst (λ (p : ℕ). gives p on) (part_at r l) e))

@@ -1,40 +1,35 @@
 -- The flags of a field, as they are read. Assumes nothing.
 use Prim.Native.Nat.{ℕ}
 use mathlib.Core.Path.{◌≡◌, sym, ap, ◌∙◌, subst}
-use mathlib.Core.Bool.{Bool, not}
+use mathlib.Core.Bool.{not}
 use mathlib.Core.List.{List}
+use native.Mathlib.Nat.{add-zero}
 use lib.Dec.{eqb}
-use lib.ListN.{get_or}
+use lib.ListN.{get_or, drop}
+use lib.Seq.{get_or-drop}
 use Rattle.format.specs.declared.Column.{Column}
 use Rattle.format.specs.Lists.{Bytes}
 use Rattle.format.specs.Kinds.{bool, Shape, fixed, column_shape}
 use Rattle.format.specs.Cleared.{is_true}
 use Rattle.format.specs.Field.{null_byte}
 use Rattle.format.specs.Read.{Good, slot_read, read_field, read_fixed}
+use Rattle.basics.proofs.Bytes.{bytes_drop}
+use Rattle.cursors.specs.Cursors.{cursor_field}
 use Rattle.cursors.proofs.Lead.{valid_lead}
-use Rattle.flag_packer.specs.declared.Flag.{Flag}
-use Rattle.flag_packer.specs.declared.Flag.TheVariants.{Valid, True}
-use Rattle.flag_packer.specs.Flags.{flag_of, Flagged}
+use Rattle.flag_packer.specs.Flags.{valid_at, true_at}
 
-module _ (which : Flag) (col : Column) (s : List ℕ) (g : Good (read_field (column_shape col) col.options s)) where
-  abbrev flag : Bool
-  flag = flag_of which (slot_read (read_field (column_shape col) col.options s))
-
+module _ (col : Column) (rows : List ℕ) (p : ℕ) (g : Good (cursor_field col rows p)) where
   -- validity, by the lead byte
-  pub valid_flag : Bytes s → which ≡ Valid → not (eqb (get_or s 0 0) (null_byte col.options)) ≡ flag
-  valid_flag b e =
-      sym (valid_lead (column_shape col) col.options s b g)
-      ∙ sym (ap (λ (w : Flag). flag_of w (slot_read (read_field (column_shape col) col.options s))) e)
+  pub valid_flag : Bytes rows → not (eqb (get_or rows p 0) (null_byte col.options)) ≡ valid_at col rows p
+  valid_flag b =
+      let lead : get_or (drop p rows) 0 0 ≡ get_or rows p 0 = get_or-drop p rows 0 0 ∙ ap (λ (i : ℕ). get_or rows i 0) (add-zero p) in
+      ap (λ (n : ℕ). not (eqb n (null_byte col.options))) (sym lead)
+      ∙ sym (valid_lead (column_shape col) col.options (drop p rows) (bytes_drop p rows b) g)
 
-  module _ (e : which ≡ True) (f : Flagged which col) where
-    shape_is : column_shape col ≡ fixed bool
-    shape_is = subst (λ (w : Flag). Flagged w col) e f
-
+  module _ (e : column_shape col ≡ fixed bool) where
     -- a bool can be read
-    pub bool_good : Good (read_fixed bool col.options s)
-    bool_good = subst (λ (sh : Shape). Good (read_field sh col.options s)) shape_is g
+    pub bool_good : Good (read_fixed bool col.options (drop p rows))
+    bool_good = subst (λ (sh : Shape). Good (read_field sh col.options (drop p rows))) e g
 
-    pub bool_flag : is_true (slot_read (read_fixed bool col.options s)) ≡ flag
-    bool_flag =
-        sym (ap (λ (sh : Shape). is_true (slot_read (read_field sh col.options s))) shape_is)
-        ∙ sym (ap (λ (w : Flag). flag_of w (slot_read (read_field (column_shape col) col.options s))) e)
+    pub bool_flag : is_true (slot_read (read_fixed bool col.options (drop p rows))) ≡ true_at col rows p
+    bool_flag = sym (ap (λ (sh : Shape). is_true (slot_read (read_field sh col.options (drop p rows)))) e)

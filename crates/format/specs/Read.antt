@@ -1,12 +1,12 @@
 -- Reading rows back: each field is read from the part of the row that the previous one left.
-use Rattle.std.specs.Prelude.{ℕ, zero, suc, ◌+◌, ◌-◌, Bool, true, cond, not, ◌&&◌, ◌||◌, List, [], ◌∷◌, ◌++◌, ltb, leb, eqb, length, take, drop, get_or, Ok, Err}
+use Rattle.std.specs.Prelude.{ℕ, zero, suc, ◌+◌, ◌-◌, Bool, true, cond, not, ◌&&◌, ◌||◌, List, [], ◌∷◌, ◌++◌, ltb, leb, eqb, length, take, drop, get_or, Result, Ok, Err, Some, None}
 use Rattle.std.proofs.Math.Option.{none, some}
 use Rattle.format.specs.declared.SortOptions.{SortOptions}
 use Rattle.format.specs.declared.Column.{Column}
 use Rattle.format.specs.declared.RowFault.{RowFault}
 use Rattle.format.specs.declared.RowFault.TheVariants.{Cut, Lead, NullRest, BoolByte, EndByte, Padding, Extra, TooLong, Unfolded}
 use Rattle.format.specs.declared.FieldRead.{FieldRead}
-use Rattle.format.specs.declared.FieldRead.TheVariants.{Null, Value, Fault}
+use Rattle.format.specs.declared.FieldFault.{FieldFault}
 use Rattle.format.specs.Check.{Check, both}
 use Rattle.format.specs.declared.Refusal.TheVariants.{Row}
 use Rattle.format.specs.Limits.{max_slot}
@@ -130,11 +130,24 @@ abbrev pub left_after : Parsed Slot → List ℕ
 left_after (got s r) = r
 left_after (fault f l) = []
 
--- the same as a field reader answers it, of the bytes s: a field's length, and the count of a value's bytes in the sheet
-abbrev pub field_read : List ℕ → Parsed Slot → FieldRead
-field_read s (got none r) = Null (length s - length r)
-field_read s (got (some v) r) = Value (length s - length r) (length v)
-field_read s (fault f l) = Fault f l
+-- a field reader's answer: a null of so many bytes; a value's field, with the count of the value's bytes in the sheet; a fault
+abbrev pub FieldAnswer : Type 0
+FieldAnswer = Result FieldRead FieldFault
+
+abbrev pub found_null : ℕ → FieldAnswer
+found_null len = Ok (record { length = len; value = None })
+
+abbrev pub found_value : ℕ → ℕ → FieldAnswer
+found_value len n = Ok (record { length = len; value = Some n })
+
+abbrev pub found_fault : RowFault → ℕ → FieldAnswer
+found_fault f l = Err (record { 0 = f; 1 = l })
+
+-- what was read, as a field reader answers it, of the bytes s
+abbrev pub field_read : List ℕ → Parsed Slot → FieldAnswer
+field_read s (got none r) = found_null (length s - length r)
+field_read s (got (some v) r) = found_value (length s - length r) (length v)
+field_read s (fault f l) = found_fault f l
 
 -- a fault is refused with its row and column and its place in the row of len bytes, and else what follows is judged
 abbrev pub field_check : ℕ → ℕ → ℕ → Parsed Slot → (List ℕ → Check) → Check

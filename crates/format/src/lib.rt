@@ -1,5 +1,13 @@
-// The types that every crate shares. What a column list, a sheet and a row mean stands in specs/.
+// The types that every crate shares, and in `columns` and `numbers` their conversions. What a column list, a sheet and a row mean stands in
+// specs/.
 #![tactic(auto)]
+
+ghost use Rattle.std.specs.Prelude.{◌≡◌, ◌≤◌, length};
+ghost use Rattle.format.specs.Limits.{max_columns};
+ghost use Rattle.format.specs.Schemas.{cols_of};
+
+mod columns;
+mod numbers;
 
 // The ceilings of document 01; specs/Limits.antt has the same numbers.
 pub const MAX_COLUMNS: usize = 64;
@@ -56,11 +64,22 @@ pub struct Column {
     pub options: SortOptions,
 }
 
-// The columns of a list: the first `count` of the array.
+// The columns of a list: the first `count` of the array. No Vec: the library has no heap.
 #[derive(Clone, Copy)]
 pub struct Schema {
     pub columns: [Column; MAX_COLUMNS],
     pub count: usize,
+}
+
+impl Schema {
+    // The columns in use.
+    pub fn in_use(&self) -> &[Column]
+        requires { self.now.count ≤ max_columns }
+        ensures says { result.now ≡ cols_of self.now }
+        ensures long { length result.now ≡ self.now.count }
+    {
+        &self.columns[..self.count]
+    }
 }
 
 // What can be wrong in the bytes of a row: refusals 16 to 23, and 28.
@@ -131,14 +150,17 @@ pub struct Cutter {
     pub spot: Spot,
 }
 
-// What a field reader answers of the part of the row that is left: a null or a value with the field's length, and how many
-// bytes the value has in the sheet; or the fault, and how many bytes are left from the bad byte on.
+// What a field reader finds in front of the part of the row that is left: the field's length, and how many bytes its value has in the
+// sheet; a null has none.
 #[derive(Clone, Copy)]
-pub enum FieldRead {
-    Null(usize),
-    Value(usize, usize),
-    Fault(RowFault, usize),
+pub struct FieldRead {
+    pub length: usize,
+    pub value: Option<usize>,
 }
+
+// What is wrong with a field, and how many bytes are left from the bad byte on.
+#[derive(Clone, Copy)]
+pub struct FieldFault(pub RowFault, pub usize);
 
 // The four numbers returned.
 #[derive(Clone, Copy)]

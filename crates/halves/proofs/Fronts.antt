@@ -2,24 +2,22 @@
 use Prim.Native.Nat.Ordering.{eq}
 use Prim.Native.Nat.Ordering.{gt}
 use Prim.Native.Nat.Ordering.{lt}
-use Prim.Native.Nat.{ℕ, zero, suc, ◌<◌, ◌≤◌, compare, Ordering}
+use Prim.Native.Nat.{ℕ, zero, suc, compare, Ordering}
 use mathlib.Core.Path.{◌≡◌, refl, ap, ap₂, sym, ◌∙◌}
-use mathlib.Core.Bool.{Bool, true, false, cond, not, ◌&&◌, true≢false}
-use mathlib.Core.Logic.{◌⊎◌, inl, inr}
+use mathlib.Core.Bool.{Bool, true, false, not, true≢false}
 use mathlib.Core.List.{List, [], ◌∷◌, ◌++◌}
 use native.Mathlib.Omega.{arith}
 use lib.Dec.{eqb}
 use lib.ListN.{length, get_or, take, drop, take-append-drop}
-use lib.Seq.{take_all, take_at}
+use lib.Seq.{take_at}
 use borrow.Author.Tests.{eqb-true, eq-eqb, not-true, not-false}
 use Rattle.format.specs.Order.{Begins, cmp, then}
 use Rattle.format.specs.Batch.{is_below, below}
-use Rattle.basics.proofs.Compare.{Tri, below as less, same, above, tri, choose}
-use Rattle.byte_order.specs.Least.{Least}
+use Rattle.basics.proofs.Compare.{Tri, below as less, same, above, tri}
 use Rattle.laws.proofs.Below.{heads_below, heads_above, heads_same, none_below, below_self, below_not, up_trans, up_antisym}
 use Rattle.laws.proofs.Parsed.{and_true}
 use Rattle.format.specs.Lookup.{begins}
-use Rattle.halves.specs.Turns.{front, reached, passed, turned}
+use Rattle.halves.specs.Turns.{front, reached, passed, Rises}
 
 -- ---- of two rows neither cut to m bytes is below the other, where it was not before
 front_up : (m : ℕ) (x y : List ℕ) → below y x ≡ false → below (take m y) (take m x) ≡ false
@@ -98,27 +96,13 @@ pub passed_reached : (key x : List ℕ) → passed key x ≡ true → reached ke
 passed_reached key x h = ap not (below_not key (front key x) h)
 
 -- ---- a row that is not below one that passes a test passes it
-pub turned_up : (past : Bool) (key x y : List ℕ) → below y x ≡ false → turned past key x ≡ true → turned past key y ≡ true
-turned_up false key x y h k =
+pub reached_rises : (key : List ℕ) → Rises (reached key)
+reached_rises key x y h k =
     ap not (up_trans key (front key x) (front key y) (not-true (below (front key x) key) k) (front_up (length key) x y h))
-turned_up true key x y h k = go (passed key y) refl
+
+pub passed_rises : (key : List ℕ) → Rises (passed key)
+passed_rises key x y h k = go (passed key y) refl
   where
     go : (t : Bool) → passed key y ≡ t → t ≡ true
     go true e = refl
     go false e = absurd (true≢false (sym k ∙ up_trans (front key x) (front key y) key (front_up (length key) x y h) e))
-
--- ---- the tests as the code makes them: of the row cut to the lesser of the two lengths
-module _ (key row : List ℕ) (end : ℕ) (least : Least (length row) (length key) end) where
-  front_cut : take end row ≡ front key row
-  front_cut = go (choose (length row) (length key))
-    where
-      go : (length row < length key) ⊎ (length key ≤ length row) → take end row ≡ front key row
-      go (inl l) =
-          ap (λ (n : ℕ). take n row) (least.first (omega arith)) ∙ take_all (length row) row (omega arith) ∙ sym (take_all (length key) row (omega arith))
-      go (inr l) = ap (λ (n : ℕ). take n row) (least.second l)
-
-  pub first_test : (past t : Bool) → past ≡ false → t ≡ below (take end row) key → not t ≡ turned past key row
-  first_test past t e h = rw e (ap not (h ∙ ap (λ (x : List ℕ). below x key) front_cut))
-
-  pub second_test : (past t : Bool) → past ≡ true → t ≡ below key (take end row) → t ≡ turned past key row
-  second_test past t e h = rw e (h ∙ ap (below key) front_cut)

@@ -12,8 +12,7 @@ use Rattle.format.specs.Batch.{below, order_from, order_fault}
 use Rattle.basics.proofs.Checks.{fail_if_pass}
 use Rattle.basics.proofs.Lists.{length_each, each_at}
 use Rattle.laws.proofs.Below.{below_self, up_trans}
-use Rattle.halves.specs.Turns.{turned, Turns}
-use Rattle.halves.proofs.Fronts.{turned_up}
+use Rattle.halves.specs.Turns.{Rises, Turns}
 
 -- ---- sorted rows: none is below one before it
 
@@ -39,58 +38,43 @@ in_order p [] e i j h l = absurd (omega arith)
 in_order p (x ∷ xs) e i j h l = ordered_from p 0 x xs e i j h l
 
 -- ---- the loop, over n rows f
-module _ (past : Bool) (key : List ℕ) (n : ℕ) (f : ℕ → List ℕ) where
+module _ (test : List ℕ → Bool) (n : ℕ) (f : ℕ → List ℕ) where
   abbrev rows : List (List ℕ)
   rows = each 0 n f
 
   -- the rows before `low` fail the test, and those from `high` on pass it
   pub record Narrows (low high : ℕ) : Type 0 where
-    pub inside : high ≤ n
-    pub around : low ≤ high
-    pub fail : (i : ℕ) → i < low → turned past key (get_or rows i []) ≡ false
-    pub pass : (i : ℕ) → high ≤ i → i < length rows → turned past key (get_or rows i []) ≡ true
+    pub fail : (i : ℕ) → i < low → test (get_or rows i []) ≡ false
+    pub pass : (i : ℕ) → high ≤ i → i < length rows → test (get_or rows i []) ≡ true
 
   long : length rows ≡ n
   long = length_each 0 n f
 
   pub begin : Narrows 0 n
-  begin = record {
-    inside = omega arith;
-    around = omega arith;
-    fail = λ i h. absurd (omega arith);
-    pass = λ i h l. absurd (omega (arith, long));
-  }
+  begin = record { fail = λ i h. absurd (omega arith); pass = λ i h l. absurd (omega (arith, long)) }
 
-  module _ {low high : ℕ} (t : Narrows low high) where
-    pub end : high ≤ low → Turns (turned past key) rows low
-    end h = record { inside = omega (arith, t.inside, t.around, long); fail = t.fail; pass = λ i l k. t.pass i (omega arith) k }
+  module _ {low high : ℕ} (t : Narrows low high) (inside : high ≤ n) where
+    pub end : low ≤ high → high ≤ low → Turns test rows low
+    end around h = record { inside = omega (arith, long); fail = t.fail; pass = λ i l k. t.pass i (omega arith) k }
 
     -- the rows are sorted, and what one between `low` and `high` answers is b
-    module _ (p : ℕ) (sorted : order_fault p rows ≡ Ok tt) (m : ℕ) (after-low : low ≤ m) (before_high : m < high)
-        (b : Bool) (said : b ≡ turned past key (f m)) where
-      answers : turned past key (get_or rows m []) ≡ b
-      answers = ap (turned past key) (each_at n f [] m (omega (arith, t.inside))) ∙ sym said
+    module _ (rises : Rises test) (p : ℕ) (sorted : order_fault p rows ≡ Ok tt) (m : ℕ) (before_high : m < high) (b : Bool) (said : b ≡ test (f m)) where
+      answers : test (get_or rows m []) ≡ b
+      answers = ap test (each_at n f [] m (omega arith)) ∙ sym said
 
       -- it passes, and so does every row from it on
       pub lower_half : b ≡ true → Narrows low m
       lower_half e = record {
-        inside = omega (arith, t.inside);
-        around = after-low;
         fail = t.fail;
-        pass = λ i h l. turned_up past key (get_or rows m []) (get_or rows i []) (in_order p rows sorted m i h l) (answers ∙ e);
+        pass = λ i h l. rises (get_or rows m []) (get_or rows i []) (in_order p rows sorted m i h l) (answers ∙ e);
       }
 
       -- it fails, and so does every row before it
       pub upper_half : b ≡ false → Narrows (m + 1) high
-      upper_half e = record {
-        inside = t.inside;
-        around = omega arith;
-        fail = λ i h. go i (omega arith) (turned past key (get_or rows i [])) refl;
-        pass = t.pass;
-      }
+      upper_half e = record { fail = λ i h. go i (omega arith) (test (get_or rows i [])) refl; pass = t.pass }
         where
-          go : (i : ℕ) → i ≤ m → (x : Bool) → turned past key (get_or rows i []) ≡ x → x ≡ false
+          go : (i : ℕ) → i ≤ m → (x : Bool) → test (get_or rows i []) ≡ x → x ≡ false
           go i h false q = refl
           go i h true q =
-              let up = in_order p rows sorted i m h (omega (arith, t.inside, long)) in
-              absurd (true≢false (sym (turned_up past key (get_or rows i []) (get_or rows m []) up q) ∙ answers ∙ e))
+              let up = in_order p rows sorted i m h (omega (arith, long)) in
+              absurd (true≢false (sym (rises (get_or rows i []) (get_or rows m []) up q) ∙ answers ∙ e))

@@ -1,17 +1,16 @@
 -- Places where a test turns: the first row that passes it, one past the last, and the two numbers of a look-up. Assumes nothing.
 use Prim.Native.Nat.{ℕ, zero, suc, ◌<◌, ◌≤◌}
-use mathlib.Core.Path.{◌≡◌, refl, ap, ap₂, sym, ◌∙◌}
-use mathlib.Core.Bool.{Bool, true, false, cond, true≢false}
+use mathlib.Core.Path.{◌≡◌, refl, ap, sym, ◌∙◌}
+use mathlib.Core.Bool.{Bool, true, false, true≢false}
 use mathlib.Core.Logic.{◌⊎◌, inl, inr}
 use mathlib.Core.List.{List, [], ◌∷◌}
 use native.Mathlib.Omega.{arith}
-use lib.Dec.{eqb}
 use lib.ListN.{length, get_or}
 use borrow.Author.Tests.{eq-eqb, ne_eqb}
 use Rattle.format.specs.Batch.{below}
 use Rattle.basics.proofs.Compare.{choose}
 use Rattle.laws.proofs.Below.{below_not}
-use Rattle.format.specs.Lookup.{begins, first_that, past_one, past_last, missing, found_first, found_past}
+use Rattle.format.specs.Lookup.{begins, first_that, past_last, missing, found_first, found_past}
 use Rattle.halves.specs.Turns.{reached, passed, Turns}
 use Rattle.halves.proofs.Fronts.{passed_above, short_below, begun_reached, begun_left, left_begun, passed_reached}
 

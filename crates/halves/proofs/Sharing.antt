@@ -1,7 +1,7 @@
 -- Sorted rows: every row that a look-up finds shares the key and no other does, and where none does the place is where the key would
 -- stand. Assumes nothing.
 use Prim.Native.Nat.{ℕ, zero, suc, ◌<◌, ◌≤◌}
-use mathlib.Core.Path.{◌≡◌, refl, ap, sym, subst, ◌∙◌}
+use mathlib.Core.Path.{◌≡◌, refl, sym, subst, ◌∙◌}
 use mathlib.Core.Bool.{Bool, true, false, cond, true≢false}
 use mathlib.Core.Logic.{◌⊎◌, inl, inr, ◌↔◌}
 use mathlib.Core.List.{List, [], ◌∷◌}
@@ -12,9 +12,9 @@ use Rattle.format.specs.Order.{Begins}
 use Rattle.format.specs.Batch.{order_fault}
 use Rattle.format.specs.Lookup.{begins, first_that, found_first, found_past}
 use Rattle.basics.proofs.Compare.{choose}
-use Rattle.halves.specs.Turns.{reached, passed, turned, Turns}
+use Rattle.halves.specs.Turns.{reached, passed, Rises, Turns}
 use Rattle.halves.specs.Shares.{Shares}
-use Rattle.halves.proofs.Fronts.{begins_begun, begun_begins, turned_up}
+use Rattle.halves.proofs.Fronts.{begins_begun, begun_begins, reached_rises, passed_rises}
 use Rattle.halves.proofs.Narrowing.{in_order}
 use Rattle.halves.proofs.Places.{in_turn, lower, upper, inner, places}
 
@@ -50,13 +50,12 @@ module _ (test : List ℕ → Bool) where
 
 module _ (p : ℕ) (key : List ℕ) (rows : List (List ℕ)) (sorted : order_fault p rows ≡ Ok tt) where
   -- is where the test turns
-  turns : (past : Bool) → Turns (turned past key) rows (first_that (turned past key) rows)
-  turns past = record {
-    inside = first_inside (turned past key) rows;
-    fail = before_first (turned past key) rows;
+  turns : (test : List ℕ → Bool) → Rises test → Turns test rows (first_that test rows)
+  turns test rises = record {
+    inside = first_inside test rows;
+    fail = before_first test rows;
     pass = λ i l h.
-        turned_up past key (get_or rows (first_that (turned past key) rows) []) (get_or rows i []) (in_order p rows sorted _ i l h)
-        (at_first (turned past key) rows (omega arith));
+        rises (get_or rows (first_that test rows) []) (get_or rows i []) (in_order p rows sorted _ i l h) (at_first test rows (omega arith));
   }
 
   -- ---- the two places
@@ -66,10 +65,16 @@ module _ (p : ℕ) (key : List ℕ) (rows : List (List ℕ)) (sorted : order_fau
   abbrev b : ℕ
   b = first_that (passed key) rows
 
+  first : Turns (reached key) rows a
+  first = turns (reached key) (reached_rises key)
+
+  past : Turns (passed key) rows b
+  past = turns (passed key) (passed_rises key)
+
   -- a row between them begins with the key, and one that does is between them
   between : (i : ℕ) → i < length rows → (a ≤ i) × (i < b) ↔ Begins key (get_or rows i [])
   between i l = (
-    λ h. begins_begun key (get_or rows i []) (inner key rows a b (turns false) (turns true) i h.0 h.1),
+    λ h. begins_begun key (get_or rows i []) (inner key rows a b first past i h.0 h.1),
     λ h. (after h (choose i a), before h (choose i b)),
   )
     where
@@ -77,31 +82,31 @@ module _ (p : ℕ) (key : List ℕ) (rows : List (List ℕ)) (sorted : order_fau
       apart t e f = true≢false (sym f ∙ e)
 
       after : Begins key (get_or rows i []) → (i < a) ⊎ (a ≤ i) → a ≤ i
-      after h (inl q) = absurd (apart (begins key (get_or rows i [])) (lower key rows a b (turns false) (turns true) i q).1 (begun_begins key (get_or rows i []) h))
+      after h (inl q) = absurd (apart (begins key (get_or rows i [])) (lower key rows a b first past i q).1 (begun_begins key (get_or rows i []) h))
       after h (inr q) = q
 
       before : Begins key (get_or rows i []) → (i < b) ⊎ (b ≤ i) → i < b
       before h (inl q) = q
-      before h (inr q) = absurd (apart (begins key (get_or rows i [])) (upper key rows a b (turns false) (turns true) i q l).1 (begun_begins key (get_or rows i []) h))
+      before h (inr q) = absurd (apart (begins key (get_or rows i [])) (upper key rows a b first past i q l).1 (begun_begins key (get_or rows i []) h))
 
   both_places : Shares key rows a b
   both_places = record {
-    ordered = in_turn key rows a b (turns false) (turns true);
-    inside = (turns true).inside;
-    lower = λ i l. (lower key rows a b (turns false) (turns true) i l).0;
+    ordered = in_turn key rows a b first past;
+    inside = past.inside;
+    lower = λ i l. (lower key rows a b first past i l).0;
     found = between;
-    upper = λ i l h. (upper key rows a b (turns false) (turns true) i l h).0;
+    upper = λ i l h. (upper key rows a b first past i l h).0;
     none = λ never. go never (choose a b);
   }
     where
       go : ((i : ℕ) → i < length rows → ¬ Begins key (get_or rows i [])) → (a < b) ⊎ (b ≤ a) → a ≡ b
       go never (inl l) =
-          let h : a < length rows = omega (arith, (turns true).inside) in
+          let h : a < length rows = omega (arith, past.inside) in
           absurd (never a h ((between a h).0 (omega arith, l)))
-      go never (inr l) = omega (arith, in_turn key rows a b (turns false) (turns true))
+      go never (inr l) = omega (arith, in_turn key rows a b first past)
 
   -- ---- the two numbers of a look-up
   pub shares : Shares key rows (found_first key rows) (found_past key rows)
   shares =
-      let q = places key rows a b (turns false) (turns true) in
+      let q = places key rows a b first past in
       subst (λ (m : ℕ). Shares key rows m (found_past key rows)) q.0 (subst (λ (m : ℕ). Shares key rows a m) q.1 both_places)

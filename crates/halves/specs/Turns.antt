@@ -1,5 +1,7 @@
 -- Searches by halves: the place where a test turns, and the two that a look-up finds.
-use Rattle.std.specs.Prelude.{ℕ, ◌<◌, ◌≤◌, ◌≡◌, Bool, true, false, cond, not, List, [], length, get_or, take}
+use Rattle.std.specs.Prelude.{ℕ, ◌<◌, ◌≤◌, ◌≡◌, Bool, true, false, not, List, [], length, get_or, take}
+use Rattle.std.specs.Fn.{Shared, FnReturnsAt}
+use Rattle.std.specs.Borrow.{Bor}
 use Rattle.format.specs.Batch.{below}
 use Rattle.halves.specs.declared.Found.{Found}
 use Rattle.format.specs.Lookup.{found_first, found_past}
@@ -16,8 +18,13 @@ reached key x = not (below (front key x) key)
 abbrev pub passed : List ℕ → List ℕ → Bool
 passed key x = below key (front key x)
 
-abbrev pub turned : Bool → List ℕ → List ℕ → Bool
-turned past key x = cond past (passed key x) (reached key x)
+-- what a call answers of a row is the test
+abbrev pub Tests : {T : Type 0} → Shared T (Bor (List ℕ) × Unit {0}) Bool → T → (List ℕ → Bool) → Type 0
+Tests g passes test = (row : List ℕ) (answer : Bool) → FnReturnsAt g passes row answer → answer ≡ test row
+
+-- a row passes that is not below one that does
+abbrev pub Rises : (List ℕ → Bool) → Type 0
+Rises test = (x y : List ℕ) → below y x ≡ false → test x ≡ true → test y ≡ true
 
 -- the rows before place r fail the test, and those from r on pass it
 pub record Turns (test : List ℕ → Bool) (rows : List (List ℕ)) (r : ℕ) : Type 0 where

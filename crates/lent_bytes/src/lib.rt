@@ -7,7 +7,7 @@ ghost use Rattle.format.specs.Numbers.{numbers_of};
 ghost use Rattle.format.specs.Lent.{answer_room, eight_bytes, number_bytes};
 ghost use Rattle.lent_bytes.specs.Offsets.{first_eights, Used};
 
-use format::Refusal;
+use format::{Refusal, Returned};
 use number::Word;
 
 mod entries;
@@ -19,7 +19,7 @@ pub fn put_answer(lent: &mut [u8], answer: Result<(u64, u64), Refusal>)
     requires { answer_room ≤ length lent.old }
     ensures { lent.new ≡ over (number_bytes (numbers_of answer)) lent.old }
 {
-    let numbers = answers::numbers(answer);
+    let numbers = Returned::from(answer);
     numbers.0.put(lent, 0);
     numbers.1.put(lent, 8);
     numbers.2.put(lent, 16);

@@ -7,9 +7,8 @@ ghost use Rattle.format.specs.Columns.{description_bytes, width_at, column_at, d
 ghost use Rattle.format.specs.Described.{spelled};
 ghost use Rattle.list_reader.specs.Listing.{ListedAs};
 
-use column_facts::no_column;
-use descriptions::{check_numbers, kind_of, options_of};
-use format::{Column, Refusal, Schema};
+use descriptions::{check_numbers, kind_of};
+use format::{Column, Refusal, Schema, SortOptions};
 
 // The bytes of a description: kind and options, and for kind 15 also the width.
 fn description_bytes(b: u8) -> usize
@@ -51,7 +50,7 @@ fn column_at(list: &[u8], at: usize) -> Column
     ensures { result ≡ column_at list.now at }
 {
     let kind = kind_of(list[at], width_at(list, at));
-    let options = options_of(list[at + 1]);
+    let options = SortOptions::from(list[at + 1]);
     Column {
         kind: kind,
         options: options,
@@ -62,8 +61,8 @@ fn column_at(list: &[u8], at: usize) -> Column
 pub fn read_list(list: &[u8]) -> Result<Schema, Refusal>
     ensures { ListedAs (spelled list.now) result }
 {
-    let none = no_column();
-    let mut columns = [none; format::MAX_COLUMNS];
+    // An array and a count, no Vec: the library has no heap.
+    let mut columns = [Column::default(); format::MAX_COLUMNS];
     let mut count: usize = 0;
     let mut at: usize = 0;
     if list.len() == 0 {

@@ -46,9 +46,9 @@ module _ (list : ColumnList) (n : ℕ) (sheet : List ℕ) where
       bad_sheet x f = refused x (fault ∙ ap verdict f)
 
       pub measured : (t : Sheeted) → r ≡ Ok t → (total : ℕ) → total ≡ sheet_total n (cols_of schema) sheet
-          → Measures list n sheet (Ok (record { schema = schema; facts = t.facts; total = total; nulls = t.nulls }))
+          → Measures list n sheet (Ok (record { schema = schema; sheeted = t; total = total }))
       measured t f total w =
-          let it : Measuring = record { schema = schema; facts = t.facts; total = total; nulls = t.nulls } in
+          let it : Measuring = record { schema = schema; sheeted = t; total = total } in
           let found : Found list n sheet it = record {
             few = (begun_sound list n b begun schema e).1;
             sound = (begun_sound list n b begun schema e).0;
@@ -87,9 +87,9 @@ module _ (list : ColumnList) (n : ℕ) (sheet : List ℕ) (r : Result Measuring 
         let says : measure_answer list n sheet ≡ Err x = rw (batch_first list n sheet, ← h.check, e, ← (h.found m e).total, t) in
         record { answers = ap numbers_of (sym says) }
 
-    pub light : total_fault m.total ≡ Ok tt → Measured list n sheet (Ok (m.total, m.nulls))
+    pub light : total_fault m.total ≡ Ok tt → Measured list n sheet (Ok (m.total, m.sheeted.nulls))
     unfolding measure_answer
     light t =
-        let says : measure_answer list n sheet ≡ Ok (m.total, m.nulls) =
+        let says : measure_answer list n sheet ≡ Ok (m.total, m.sheeted.nulls) =
         rw (batch_first list n sheet, ← h.check, e, ← (h.found m e).total, t, ← (h.found m e).nulls) refl in
         record { answers = ap numbers_of (sym says) }

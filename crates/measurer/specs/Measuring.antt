@@ -19,9 +19,9 @@ batch_check list n sheet = both (list_fault list) (both (row_count_fault n) (she
 pub record Found (list : ColumnList) (n : ℕ) (sheet : List ℕ) (m : Measuring) : Type 0 where
   pub few : n ≤ max_rows
   pub sound : Sound list m.schema
-  pub known : Known n (cols_of m.schema) sheet m.facts
+  pub known : Known n (cols_of m.schema) sheet m.sheeted.facts
   pub total : m.total ≡ sheet_total n (columns list) sheet
-  pub nulls : m.nulls ≡ nulls (sheet_slots n (columns list) sheet)
+  pub nulls : m.sheeted.nulls ≡ nulls (sheet_slots n (columns list) sheet)
 
 -- the first fault of list, 6 and sheet, and what is found where there is none
 pub record Measures (list : ColumnList) (n : ℕ) (sheet : List ℕ) (r : Result Measuring Refusal) : Type 0 where

@@ -8,18 +8,18 @@ ghost use Rattle.measurer.specs.Measuring.{Measures};
 use checks::{begin, total_fault};
 use format::{Refusal, Schema};
 use sheet_measurer::measure_sheet;
-use sheet_reader::sheet::{Facts, check_sheet};
+use sheet_reader::sheet::{Sheeted, check_sheet};
 
-// What is known of a batch that is not refused: its columns and their facts, the total and the null total.
+// What is known of a batch that is not refused: its columns, what its sheet was found to be, and the total.
 #[derive(Clone, Copy)]
 pub struct Measuring {
     pub schema: Schema,
-    pub facts: [Facts; format::MAX_COLUMNS],
+    pub sheeted: Sheeted,
     pub total: u64,
-    pub nulls: u64,
 }
 
 // List, 6, sheet; and the total, of which 12 is not asked here.
+// To do: `OfList`, here and above, in a type of lists that were read.
 pub fn measure_batch(
     listed: Result<Schema, Refusal>,
     n: u64,
@@ -30,13 +30,11 @@ pub fn measure_batch(
 {
     let schema = begin(listed, n)?;
     let sheeted = check_sheet(schema, n as usize, sheet)?;
-    let facts = sheeted.facts;
-    let total = measure_sheet(schema, n as usize, sheet, facts);
+    let total = measure_sheet(n as usize, sheet, &sheeted.facts[..schema.count]);
     Ok(Measuring {
         schema,
-        facts,
+        sheeted,
         total,
-        nulls: sheeted.nulls,
     })
 }
 
@@ -51,5 +49,5 @@ pub fn measure_listed(
 {
     let m = measure_batch(listed, n, sheet)?;
     total_fault(m.total)?;
-    Ok((m.total, m.nulls))
+    Ok((m.total, m.sheeted.nulls))
 }

@@ -7,7 +7,8 @@ use format::{RowFault, Spot};
 pub mod lead;
 pub mod nulls;
 
-// The field goes on, it is whole, or a fault shows: which, and the place of the bad byte in the row.
+// The field goes on, it is whole, or a fault shows: which, and the place of the bad byte in the row. To do: a
+// Result of an Option.
 #[derive(Clone, Copy)]
 pub enum Moved {
     On(Spot),

@@ -20,6 +20,7 @@ fn first_bad(known: u64, at: u64, byte: u8) -> u64
 }
 
 // 18 shows at the last of them.
+// `seen < width`, here and above: two numbers of a spot and its column, which no type holds together in plainer words.
 pub fn null_byte(width: usize, seen: usize, known: u64, at: u64, byte: u8) -> Moved
     requires { seen < width }
     ensures { as_move result ≡ null_move width seen known at byte }

@@ -13,7 +13,7 @@ ghost use Rattle.basics.specs.Wrote.{Wrote};
 use column_facts::null_sentinel;
 use format::SortOptions;
 use number::directed;
-use runs::{put_byte, zeros};
+use runs::put_byte;
 
 // Null: the null byte, which descending does not invert, then zeros to the length of a value.
 pub fn encode_null(out: &mut [u8], at: usize, width: usize, options: SortOptions) -> usize
@@ -21,7 +21,7 @@ pub fn encode_null(out: &mut [u8], at: usize, width: usize, options: SortOptions
     ensures { Wrote (null_byte options ∷ replicate width 0) at out.old out.new result }
 {
     put_byte(out, at, null_sentinel(options), false);
-    zeros(out, at + 1, width);
+    out[at + 1..at + 1 + width].fill(0);
     at + 1 + width
 }
 

@@ -1,5 +1,5 @@
 -- Numbers by what their keys spell, over the count of bytes; and parts of a value. Assumes nothing.
-use Prim.Native.Nat.{ℕ, ◌+◌, ◌-◌, ◌^◌, ◌<◌, ◌≤◌, compare as compareℕ}
+use Prim.Native.Nat.{ℕ, ◌+◌, ◌-◌, ◌^◌, ◌<◌, ◌≤◌}
 use mathlib.Core.Path.{◌≡◌, ap, sym, ◌∙◌}
 use mathlib.Core.Bool.{Bool, cond}
 use mathlib.Core.List.{List, reverse}
@@ -13,7 +13,10 @@ use Rattle.number.proofs.Folds.{folded_spelled}
 use Rattle.number.proofs.Tops.{drop_take}
 use Rattle.number.proofs.Words.{read_back, read_fits}
 use Rattle.byte_order.proofs.Alike.{word_order}
-use Rattle.format.specs.CompareSheets.{rank}
+use Rattle.std.specs.declared.cmp.Ordering.{Ordering}
+use Rattle.std.specs.Ordering.{nat_cmp}
+use Rattle.byte_order.specs.Answers.{ordering}
+use Rattle.byte_order.proofs.Answered.{numbers}
 use Rattle.number_order.specs.Orders.{Spells, Ordered}
 
 -- the number x that stands at a place of s, by its bytes there
@@ -30,11 +33,12 @@ folded_at n key_of b s at known inside x f z a e t =
     (record { bytes = t.bytes ∙ ap (λ (v : List ℕ). reverse (key_of v)) (folded_spelled n x f (read_fits n s at x known inside a) b e) })
 
 -- two such words stand as the keys do
-pub spelled_order : {n : ℕ} {f g : List ℕ} {x y r : ℕ} → Spells n f x → Spells n g y → x < 256 ^ n → y < 256 ^ n → r ≡ rank (compareℕ x y) → Ordered f g r
-spelled_order {n} {f} {g} {x} {y} sx sy fx fy e = record { says = e ∙ ap rank (sym (word_order n x y f g fx fy sx.bytes sy.bytes)) }
+pub spelled_order : {n : ℕ} {f g : List ℕ} {x y : ℕ} {r : Ordering} → Spells n f x → Spells n g y → x < 256 ^ n → y < 256 ^ n → r ≡ nat_cmp x y → Ordered f g r
+spelled_order {n} {f} {g} {x} {y} sx sy fx fy e =
+    record { says = e ∙ numbers x y ∙ ap ordering (sym (word_order n x y f g fx fy sx.bytes sy.bytes)) }
 
 -- the same of bytes that are said another way
-pub ordered_as : {f g h k : List ℕ} {r : ℕ} → Ordered f g r → f ≡ h → g ≡ k → Ordered h k r
+pub ordered_as : {f g h k : List ℕ} {r : Ordering} → Ordered f g r → f ≡ h → g ≡ k → Ordered h k r
 ordered_as o p q = rw (← p, ← q) o
 
 -- n bytes at k of the m bytes from a place on

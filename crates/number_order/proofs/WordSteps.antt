@@ -1,10 +1,13 @@
 -- Numbers word by word, from the top down: the top word decides unless it ties. Over the count of words. Assumes nothing.
 use Prim.Native.Nat.{ℕ, ◌+◌, ◌*◌, ◌<◌, ◌≤◌, Ordering}
 use mathlib.Core.Path.{◌≡◌, ap, ap₂, sym, ◌∙◌}
+use mathlib.Core.Bool.{false}
 use mathlib.Core.List.{List, ◌++◌, reverse-append}
 use native.Mathlib.Omega.{arith}
 use lib.ListN.{length, take, drop, length-drop, length-reverse}
 use lib.Seq.{length-take-le}
+use Rattle.std.specs.declared.cmp.Ordering.{Ordering as Answer}
+use Rattle.std.specs.Ordering.{is_ne}
 use Rattle.format.specs.Key.{signed_key, unsigned_key}
 use Rattle.format.specs.Order.{then, cmp}
 use Rattle.basics.proofs.Bytes.{long_signed}
@@ -51,6 +54,6 @@ module _ (K : TopKey) (a : List ℕ) (at : ℕ) (b : List ℕ) (to m n u v : ℕ
       (K.long (take 8 (drop u a)) ∙ top_long a at u ia eu ∙ sym (K.long (take 8 (drop v b)) ∙ top_long b to v ib ev))
 
   -- that one has the answer s
-  pub words_more : (whole : Ordering) {r s : ℕ} → Found whole (words_order K a at b to m) r → r ≡ 1
+  pub words_more : (whole : Ordering) {r s : Answer} → Found whole (words_order K a at b to m) r → is_ne r ≡ false
       → Ordered (K.key_of (take 8 (drop u a))) (K.key_of (take 8 (drop v b))) s → Found whole (words_order unsigned_top a at b to n) s
   words_more whole f t o = found_more whole (words_order K a at b to m) f top (words_order unsigned_top a at b to n) t word_step o.says

@@ -5,11 +5,12 @@ use Rattle.format.specs.Order.{cmp}
 use Rattle.format.specs.Kinds.{Shape, fixed, variable}
 use Rattle.format.specs.Key.{key}
 use Rattle.format.specs.Fold.{folded_value}
-use Rattle.format.specs.CompareSheets.{rank}
+use Rattle.std.specs.declared.cmp.Ordering.{Ordering}
+use Rattle.byte_order.specs.Answers.{ordering}
 
 -- r says how f stands to g
-pub record Ordered (f g : List ℕ) (r : ℕ) : Type 0 where
-  pub says : r ≡ rank (cmp f g)
+pub record Ordered (f g : List ℕ) (r : Ordering) : Type 0 where
+  pub says : r ≡ ordering (cmp f g)
 
 -- x is the number that the n bytes f spell, high byte first
 pub record Spells (n : ℕ) (f : List ℕ) (x : ℕ) : Type 0 where

@@ -13,6 +13,7 @@ ghost use Rattle.number.specs.Codings.{coding_unkey};
 use number::{Coding, Float, Word, decode, directed, folded};
 
 // The number.
+// A word at a place, here and above: it is about a slice and a place, which no type says in plainer words.
 pub fn number_at<W: Word>(row: &[u8], from: usize, coding: Coding, descending: bool) -> W
     requires { from + W.SIZE ≤ length row.now }
     ensures { low_bytes W.SIZE (W.value result) ≡ coding_unkey coding (directed descending (take W.SIZE (drop from row.now))) }
@@ -38,6 +39,7 @@ pub fn take_number<W: Word>(
 }
 
 // A signed number of so many words of 64 bits: from the lowest word, which stands last, up to the top one, which has the sign.
+// To do: a const parameter, as in `put_words`, here and in `order_words`.
 pub fn take_words(
     out: &mut [u8],
     at: usize,

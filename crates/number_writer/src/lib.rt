@@ -12,6 +12,7 @@ ghost use Rattle.number.specs.Codings.{coding_key};
 
 use number::{Coding, Float, Word, directed, encode, folded};
 
+// A word's room at a place, here and above: it is about a slice and a place, which no type says in plainer words.
 pub fn put_number<W: Word>(
     out: &mut [u8],
     at: usize,

@@ -8,6 +8,7 @@ ghost use Rattle.format.specs.Entries.{offsets_fault};
 use format::{MAX_TOTAL, Refusal};
 
 // 14, 15 (first, falling in order, last), 12: the first of these that the offsets break.
+// `n ≤ max_rows`, here and above: docs/ name check_offsets, check_fields, check_column and others, which so take no narrower type.
 pub fn check_offsets(n: usize, rows: &[u8], offsets: &[u64]) -> Result<(), Refusal>
     requires { n ≤ max_rows }
     ensures { result ≡ offsets_fault n rows.now offsets.now }

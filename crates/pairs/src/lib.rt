@@ -77,14 +77,9 @@ pub fn compare_numbers_listed(
     ensures { OfEach listed (λ list. PairsCompared list n0 sheet0.now n1 sheet1.now pairs.now
         answers.old result answers.new) }
 {
+    // None: all row numbers are in the list.
     let bytes = [0u8; 0];
     compare_pairs_listed(listed, n0, sheet0, n1, sheet1, pairs, &bytes, answers)
-}
-
-fn wide(x: u8) -> u64
-    ensures { result ≡ x }
-{
-    x as u64
 }
 
 // One pair: its answer and 0, or the refusal.
@@ -100,6 +95,7 @@ pub fn compare_sheets_listed(
     requires { OfList listed }
     ensures { OfEach listed (λ list. SheetsCompared list n0 sheet0.now row0 n1 sheet1.now row1 result) }
 {
+    // Arrays: there is no heap, and one pair has two rows and one answer.
     let numbers = [row0, row1];
     let bytes = [0u8; 0];
     let mut answers = [0u8; 1];
@@ -113,5 +109,5 @@ pub fn compare_sheets_listed(
         &bytes,
         &mut answers,
     )?;
-    Ok((wide(answers[0]), 0))
+    Ok((u64::from(answers[0]), 0))
 }

@@ -5,12 +5,11 @@ use mathlib.Core.Bool.{false}
 use mathlib.Core.List.{List, []}
 use native.Mathlib.Omega.{arith}
 use lib.ListN.{length, take, drop, length-take, drop_of_length-le}
-use Rattle.format.specs.declared.FieldRead.TheVariants.{Value}
 use Rattle.format.specs.declared.Kind.{Kind}
 use Rattle.format.specs.declared.SortOptions.{SortOptions}
 use Rattle.format.specs.Kinds.{Fixed, bool, plain, number, integer, float, parts, Shape, value_bytes}
 use Rattle.format.specs.Fold.{folds}
-use Rattle.format.specs.Read.{all_zero, field_read, from_bad, null_lead, read_field}
+use Rattle.format.specs.Read.{all_zero, field_read, from_bad, null_lead, read_field, found_value}
 use Rattle.format.specs.Sheet.{Layout}
 use Rattle.format.specs.Cleared.{added}
 use Rattle.basics.specs.Wide.{WideKind}
@@ -43,7 +42,7 @@ plain_field k o w free n e = record {
   reads = λ s l one.
       let null = subst (λ (b : ℕ). null_lead o b ≡ false) (sym one) (not_null o 1 (omega arith) (omega arith)) in
       let whole = read_whole s n o w.k (rw e (wide_shape w)) (ap (folds w.k) free ∙ unfolded w.k) (omega arith) null one (omega arith) in
-      ap (λ (sh : Shape). field_read s (read_field sh o s)) w.says ∙ sym whole ∙ ap (Value (1 + n)) (omega arith);
+      ap (λ (sh : Shape). field_read s (read_field sh o s)) w.says ∙ sym whole ∙ ap (found_value (1 + n)) (omega arith);
   nulls = λ s l null z.
       let some_lead : 0 < length s = omega arith in
       let fits : n ≤ length s - 1 = omega arith in

@@ -2,7 +2,7 @@
 // the null byte with zeros. How long they are is worked out once a column, outside of the walk.
 #![tactic(auto)]
 
-ghost use Rattle.std.specs.Prelude.{◌≡◌, true, ℕ, ◌-◌, ◌<◌, ◌≤◌, length, get_or, take, drop};
+ghost use Rattle.std.specs.Prelude.{◌≡◌, true, ℕ, ◌-◌, ◌<◌, ◌≤◌, length, get_or, drop};
 ghost use Rattle.format.specs.Kinds.{value_bytes};
 ghost use Rattle.format.specs.Limits.{max_width};
 ghost use Rattle.format.specs.Read.{from_bad};
@@ -35,12 +35,10 @@ pub fn plain_lengths(schema: Schema) -> [usize; MAX_COLUMNS]
     requires { Limited schema }
     ensures { (c : ℕ) → c < schema.count → Lengthy (get_or schema.columns c no_column) (get_or result c 0) }
 {
-    let count = schema.count;
-    let columns = schema.columns;
+    // No Vec: the library has no heap.
     let mut lengths = [0usize; MAX_COLUMNS];
-    for c in 0..count {
-        let column = columns[c];
-        lengths[c] = plain_length(column);
+    for (c, column) in schema.in_use().iter().enumerate() {
+        lengths[c] = plain_length(*column);
     }
     lengths
 }
@@ -67,24 +65,23 @@ pub fn plain_there(row: &[u8], at: usize, len: usize) -> bool
     false
 }
 
-// Whether the bytes from a place up to another are zeros, a word at a time. No value decides where the walk goes on.
-fn clear(row: &[u8], from: usize, to: usize) -> bool
-    requires from_le_to { from ≤ to }
-    requires to_in_bounds { to ≤ length row.now }
-    ensures { result ≡ true → from_bad (take (to - from) (drop from row.now)) ≡ 0 }
+// Whether all bytes are zeros, a word at a time. No value decides where the walk goes on.
+fn clear(part: &[u8]) -> bool
+    ensures { result ≡ true → from_bad part.now ≡ 0 }
 {
+    let to = part.len();
     let mut zero = true;
-    let mut i = from;
+    let mut i = 0;
     // A `while`: its steps are of eight, four or one byte, which a `for` takes three loops for.
     while i < to {
         if 8 <= to - i {
-            zero = zero & (u64::low(row, i) == 0);
+            zero = zero & (u64::low(part, i) == 0);
             i += 8;
         } else if 4 <= to - i {
-            zero = zero & (u32::low(row, i) == 0);
+            zero = zero & (u32::low(part, i) == 0);
             i += 4;
         } else {
-            zero = zero & (row[i] == 0);
+            zero = zero & (part[i] == 0);
             i += 1;
         }
     }
@@ -98,6 +95,6 @@ pub fn slot_there(row: &[u8], at: usize, len: usize, options: SortOptions) -> bo
     ensures { result ≡ true → Opens options len (drop at row.now) }
 {
     let lead = row[at];
-    let zero = clear(row, at + 1, at + len);
+    let zero = clear(&row[at + 1..at + len]);
     (lead == 1) | (null_lead(lead, options) & zero)
 }

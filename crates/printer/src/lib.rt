@@ -1,4 +1,5 @@
-// What the program prints for what it reads: document 01's input taken apart, encoded, and shown as text.
+// What the program prints for what it reads: document 01's input taken apart, encoded, and shown as text, into a lent buffer and not by
+// `write!`, as crate `texts` says.
 #![tactic(auto)]
 
 ghost use Rattle.std.specs.Prelude.{◌≤◌, length};

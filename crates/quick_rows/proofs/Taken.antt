@@ -7,21 +7,22 @@ use mathlib.Core.List.{List, ◌∷◌}
 use native.Mathlib.Omega.{arith}
 use lib.ListN.{length, take, drop, length-append, length-drop}
 use lib.Seq.{drop_at, take_all}
+use Rattle.std.specs.declared.option.Option.{Option}
+use Rattle.std.specs.declared.option.Option.TheVariants.{Some, None}
+use Rattle.std.specs.declared.result.Result.TheVariants.{Ok, Err}
 use Rattle.format.specs.declared.SortOptions.{SortOptions}
 use Rattle.format.specs.declared.Column.{Column}
-use Rattle.format.specs.declared.FieldRead.{FieldRead}
-use Rattle.format.specs.declared.FieldRead.TheVariants.{Null, Value, Fault}
 use Rattle.format.specs.Field.{field}
 use Rattle.format.specs.Fits.{SlotFits}
 use Rattle.format.specs.Kinds.{bool, plain, number, integer, float, parts, Shape, fixed, variable, Slot, column_shape}
 use Rattle.format.specs.Limits.{max_slot}
 use Rattle.format.specs.Lists.{Bytes}
-use Rattle.format.specs.Read.{Parsed, got, fault, field_check, field_read, left_after, read_field, row_fault, row_slots, slot_read}
+use Rattle.format.specs.Read.{Parsed, got, fault, field_check, field_read, left_after, read_field, row_fault, row_slots, slot_read, FieldAnswer}
 use Rattle.format.specs.Sheet.{Layout, bits, ended, wide, layout, layout_for}
 use Rattle.format.specs.Cleared.{added, row_added}
 use Rattle.basics.proofs.Bytes.{bytes_drop}
 use Rattle.plain_fields.specs.Plain.{Opens, Plain}
-use Rattle.field_reader.specs.Counts.{Adds, Counts}
+use Rattle.field_reader.specs.Counts.{Adds, AddsOf, Counts}
 use Rattle.laws.proofs.ReadField.{read_field_lem}
 
 -- the field in front of s is slot x, and takes len bytes
@@ -30,11 +31,15 @@ pub record Took (col : Column) (s : List ℕ) (x : Slot) (len : ℕ) : Type 0 wh
   pub inside : len ≤ length s
   pub fits : SlotFits max_slot (column_shape col) col.options x
 
+-- a null, or a value of k bytes
+abbrev pub TookOf : Column → List ℕ → ℕ → Option ℕ → Type 0
+TookOf col s len None = Took col s none len
+TookOf col s len (Some k) = (v : List ℕ) × (length v ≡ k) × Took col s (some v) len
+
 -- what each answer says
-abbrev pub Says : Column → List ℕ → FieldRead → Type 0
-Says col s (Null len) = Took col s none len
-Says col s (Value len k) = (v : List ℕ) × (length v ≡ k) × Took col s (some v) len
-Says col s (Fault f l) = read_field (column_shape col) col.options s ≡ fault f l
+abbrev pub Says : Column → List ℕ → FieldAnswer → Type 0
+Says col s (Ok read) = TookOf col s read.length read.value
+Says col s (Err found) = read_field (column_shape col) col.options s ≡ fault found.0 found.1
 
 took : (col : Column) (s : List ℕ) (x : Slot) (r : List ℕ) → Bytes s → read_field (column_shape col) col.options s ≡ got x r
     → Took col s x (length s - length r)
@@ -45,7 +50,7 @@ took col s x r b q =
     let d : drop (length s - length r) s ≡ r = ap (drop (length s - length r)) e.0 ∙ drop_at f r (length s - length r) (omega arith) in
     record { is = q ∙ ap (got x) (sym d); inside = omega arith; fits = e.1 }
 
-pub says : (col : Column) (s : List ℕ) (a : FieldRead) → Bytes s → a ≡ field_read s (read_field (column_shape col) col.options s) → Says col s a
+pub says : (col : Column) (s : List ℕ) (a : FieldAnswer) → Bytes s → a ≡ field_read s (read_field (column_shape col) col.options s) → Says col s a
 says col s a b e = subst (Says col s) (sym e) (go (read_field (column_shape col) col.options s) refl)
   where
     go : (p : Parsed Slot) → read_field (column_shape col) col.options s ≡ p → Says col s (field_read s p)
@@ -54,7 +59,7 @@ says col s a b e = subst (Says col s) (sym e) (go (read_field (column_shape col)
     go (fault f l) q = q
 
 -- the same of the rest of a row, as a walk hands it over
-pub says_rest : (col : Column) (row : List ℕ) (at : ℕ) (a : FieldRead) → Bytes row
+pub says_rest : (col : Column) (row : List ℕ) (at : ℕ) (a : FieldAnswer) → Bytes row
     → a ≡ field_read (take (length row - at) (drop at row)) (read_field (column_shape col) col.options (take (length row - at) (drop at row)))
     → Says col (drop at row) a
 says_rest col row at a b e =
@@ -94,10 +99,13 @@ null_added ended = refl
 pub adds_took : (col : Column) (s : List ℕ) (len more : ℕ) → Bytes s → Counts col s len more → (x : Slot) × Took col s x len × (more ≡ added (layout col) x)
 adds_took col s len more b h = let a = field_read s (read_field (column_shape col) col.options s) in go a (says col s a b refl) h
   where
-    go : (a : FieldRead) → Says col s a → Adds col len more a → (x : Slot) × Took col s x len × (more ≡ added (layout col) x)
-    go (Null l) t h = (none, subst (Took col s none) (sym h.0) t, h.1 ∙ sym (null_added (layout col)))
-    go (Value l v) t h = (some t.0, subst (Took col s (some t.0)) (sym h.0) t.2, h.1 (some t.0) t.1)
-    go (Fault f l) t h = absurd h
+    of : (l : ℕ) (n : Option ℕ) → TookOf col s l n → (len ≡ l) × AddsOf col more n → (x : Slot) × Took col s x len × (more ≡ added (layout col) x)
+    of l None t h = (none, subst (Took col s none) (sym h.0) t, h.1 ∙ sym (null_added (layout col)))
+    of l (Some n) t h = (some t.0, subst (Took col s (some t.0)) (sym h.0) t.2, h.1 (some t.0) t.1)
+
+    go : (a : FieldAnswer) → Says col s a → Adds col len more a → (x : Slot) × Took col s x len × (more ≡ added (layout col) x)
+    go (Ok read) t h = of read.length read.value t h
+    go (Err found) t h = absurd h
 
 -- a plain field is a slot
 pub plain_took : (col : Column) (s : List ℕ) (len : ℕ) → Bytes s → Plain col len → len ≤ length s → Opens col.options len s → (x : Slot) × Took col s x len

@@ -9,6 +9,7 @@ ghost use Rattle.format.specs.Passed.{Lies};
 use byte_order::below;
 
 // Whether row r of one batch is below row q of another.
+// `Lies`, here and above: it is about rows, offsets and a number together, which no type says in plainer words.
 pub fn row_below(
     rows: &[u8],
     offsets: &[u64],

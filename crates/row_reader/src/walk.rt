@@ -7,7 +7,7 @@ ghost use Rattle.format.specs.Entries.{cut_rows};
 ghost use Rattle.row_reader.specs.Walk.{Finds};
 
 use field_reader::{added_bytes, read_field};
-use format::{FieldRead, Refusal, RowFault, Schema};
+use format::{FieldFault, Refusal, RowFault, Schema};
 use quick_rows::pass_rows;
 
 // The first fault in row order, then column order, looked for from the first row on that the quick check did not pass; each field is
@@ -38,20 +38,18 @@ pub fn check_fields(
         for c in 0..count {
             let column = columns[c];
             let rest = &row[at..];
-            let read = read_field(rest, column);
-            match read {
-                FieldRead::Null(len) => {
-                    at += len;
-                }
-                FieldRead::Value(len, value) => {
-                    at += len;
-                    bytes += added_bytes(column, value);
-                }
-                FieldRead::Fault(fault, left) => {
+            // No `?`: the label leaves both loops, with the place of the fault.
+            let read = match read_field(rest, column) {
+                Ok(read) => read,
+                Err(FieldFault(fault, left)) => {
                     let place = row.len() - left;
                     check = Err(Refusal::Row(fault, r, c, place));
                     break 'rows;
                 }
+            };
+            at += read.length;
+            if let Some(value) = read.value {
+                bytes += added_bytes(column, value);
             }
         }
         if at < row.len() {

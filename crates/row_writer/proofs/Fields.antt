@@ -24,7 +24,7 @@ use Rattle.sheet_reader.specs.declared.sheet.Facts.{Facts}
 use Rattle.sheet_reader.specs.Sheets.{Known}
 use Rattle.sheet_reader.proofs.Values.{slot_of, slots_known}
 use Rattle.chunk_writer.specs.Cursors.{slot_field}
-use Rattle.row_writer.specs.Rows.{row_at}
+use Rattle.row_writer.specs.Rows.{field_at, row_at}
 
 -- ---- a row, field by field
 
@@ -37,16 +37,17 @@ row_each (col ∷ cols) d g =
     (ap (row cols) (each_next 0 (length cols) g) ∙ row_each cols d (λ c. g (suc c))
     ∙ ap joined (sym (each_next 0 (length cols) (λ c. field (column_shape (get_or (col ∷ cols) c d)) (get_or (col ∷ cols) c d).options (g c)))))
 
-module _ (n : ℕ) (cols : List Column) (s : List ℕ) (facts : List Facts) (k : Known n cols s facts) where
+module _ (n : ℕ) (cols : List Column) (s : List ℕ) (facts : List Facts) (k : Known n cols s facts) (many : length facts ≡ length cols) where
   -- row r
-  row_known : (r : ℕ) → r < n → row cols (slots_in (sheet_slots n cols s) r) ≡ row_at n s facts (length cols) r
+  row_known : (r : ℕ) → r < n → row cols (slots_in (sheet_slots n cols s) r) ≡ row_at n s facts r
   row_known r l =
       ap (row cols) (slots_known n cols s facts k r l) ∙ row_each cols no_column (slot_of n s facts r)
       ∙ ap joined (each_same 0 (length cols) _ _ (λ c a b.
       ap (λ (col : Column). field (column_shape col) col.options (slot_of n s facts r c)) (sym (k c (omega arith)).column)))
+      ∙ ap (λ (m : ℕ). joined (each 0 m (field_at n s facts r))) (sym many)
 
   -- and all of them
-  pub rows_known : sheet_rows n cols s ≡ each 0 n (row_at n s facts (length cols))
+  pub rows_known : sheet_rows n cols s ≡ each 0 n (row_at n s facts)
   rows_known = map_each (row cols) 0 n (slots_in (sheet_slots n cols s)) ∙ each_same 0 n _ _ (λ r a b. row_known r (omega arith))
 
 -- ---- the field of row r in a column that stands at a place is as long as the table says

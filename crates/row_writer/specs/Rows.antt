@@ -6,17 +6,17 @@ use Rattle.sheet_reader.specs.declared.sheet.Facts.{Facts}
 use Rattle.sheet_reader.specs.Sheets.{no_facts}
 use Rattle.chunk_writer.specs.Cursors.{slot_field}
 
--- the field of row r and column c, and row r
+-- the field of row r and column c, and row r, by the facts of the columns in use
 abbrev pub field_at : ℕ → List ℕ → List Facts → ℕ → ℕ → List ℕ
 field_at n s facts r c = slot_field (get_or facts c no_facts).column n (drop (get_or facts c no_facts).base s) r
 
-abbrev pub row_at : ℕ → List ℕ → List Facts → ℕ → ℕ → List ℕ
-row_at n s facts count r = joined (each 0 count (field_at n s facts r))
+abbrev pub row_at : ℕ → List ℕ → List Facts → ℕ → List ℕ
+row_at n s facts r = joined (each 0 (length facts) (field_at n s facts r))
 
 -- the bytes of n rows together
-abbrev pub rows_total : ℕ → List ℕ → List Facts → ℕ → ℕ
-rows_total n s facts count = length (joined (each 0 n (row_at n s facts count)))
+abbrev pub rows_total : ℕ → List ℕ → List Facts → ℕ
+rows_total n s facts = length (joined (each 0 n (row_at n s facts)))
 
 -- each column stands where its facts say
-abbrev pub AllStand : ℕ → List ℕ → List Facts → ℕ → Type 0
-AllStand n s facts count = (c : ℕ) → c < count → Stands (get_or facts c no_facts).column n c (get_or facts c no_facts).base s
+abbrev pub AllStand : ℕ → List ℕ → List Facts → Type 0
+AllStand n s facts = (c : ℕ) → c < length facts → Stands (get_or facts c no_facts).column n c (get_or facts c no_facts).base s

@@ -1,6 +1,6 @@
 // The rows at their starts: some rows at a time, column by column.
 ghost use Rattle.std.specs.Prelude.{◌≡◌, ◌+◌, ◌<◌, ◌≤◌, length, min};
-ghost use Rattle.format.specs.Limits.{max_columns, max_rows};
+ghost use Rattle.format.specs.Limits.{max_rows};
 ghost use Rattle.chunk_writer.specs.Cursors.{WroteEach};
 ghost use Rattle.row_writer.specs.Rows.{AllStand, row_at, rows_total};
 ghost use Rattle.row_writer.specs.Starts.{AtStarts};
@@ -23,27 +23,18 @@ fn chunk_end(from: usize, n: usize) -> usize
 }
 
 // Every row at its cursor, which moves to the row's end.
-pub fn write_chunks(
-    count: usize,
-    n: usize,
-    sheet: &[u8],
-    facts: [Facts; format::MAX_COLUMNS],
-    rows: &mut [u8],
-    offsets: &mut [u64],
-)
-    requires n_le_max_rows { (n ≤ max_rows) × (n < length offsets.old) × (count ≤ max_columns) }
-    requires all_stand { AllStand n sheet.now facts count }
-    requires count_in_bounds { rows_total n sheet.now facts count ≤ length rows.old }
-    requires at_starts { AtStarts (row_at n sheet.now facts count) n offsets.old }
-    ensures { WroteEach (row_at n sheet.now facts count) 0 n rows.old offsets.old
+pub fn write_chunks(n: usize, sheet: &[u8], facts: &[Facts], rows: &mut [u8], offsets: &mut [u64])
+    requires n_le_max_rows { (n ≤ max_rows) × (n < length offsets.old) }
+    requires all_stand { AllStand n sheet.now facts.now }
+    requires total_in_bounds { rows_total n sheet.now facts.now ≤ length rows.old }
+    requires at_starts { AtStarts (row_at n sheet.now facts.now) n offsets.old }
+    ensures { WroteEach (row_at n sheet.now facts.now) 0 n rows.old offsets.old
         rows.new offsets.new }
 {
     for from in (0..n).step_by(CHUNK) {
         let to = chunk_end(from, n);
-        for c in 0..count {
-            let f = facts[c];
-            let base = f.base;
-            write_column(f.column, n, &sheet[base..], from, to, rows, offsets);
+        for f in facts {
+            write_column(f.column, n, &sheet[f.base..], from, to, rows, offsets);
         }
     }
 }

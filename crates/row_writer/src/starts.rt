@@ -1,6 +1,6 @@
 // Where each row begins: the lengths of its fields are added up at its cursor, and then those of the rows before it.
 ghost use Rattle.std.specs.Prelude.{false, ◌^◌, ◌<◌, ◌≤◌, length};
-ghost use Rattle.format.specs.Limits.{max_columns, max_rows};
+ghost use Rattle.format.specs.Limits.{max_rows};
 ghost use Rattle.format.specs.Sheet.{column_fault, ended, layout};
 ghost use Rattle.format.specs.Passed.{Passes};
 ghost use Rattle.row_writer.specs.Rows.{AllStand, row_at, rows_total};
@@ -11,6 +11,7 @@ use sheet_lengths::variable_length;
 use sheet_reader::sheet::Facts;
 
 // Every cursor is 0.
+// A cursor for each row, here and below: it is about a slice and a number, which no type says in plainer words.
 fn clear(n: usize, offsets: &mut [u64])
     requires { n < length offsets.old }
     ensures { CursorsAt (λ r. 0) n offsets.old offsets.new }
@@ -62,24 +63,16 @@ fn add_up(n: usize, fixed: u64, offsets: &mut [u64])
 }
 
 // The starts of the rows of a checked sheet, at their cursors.
-pub fn write_starts(
-    count: usize,
-    n: usize,
-    sheet: &[u8],
-    facts: [Facts; format::MAX_COLUMNS],
-    offsets: &mut [u64],
-)
-    requires n_nonzero { (0 < n) × (n ≤ max_rows) × (n < length offsets.old) × (count ≤ max_columns) }
-    requires all_stand { AllStand n sheet.now facts count }
-    requires count_bound { rows_total n sheet.now facts count < 2 ^ 64 }
-    ensures { CursorsAt (row_start (row_at n sheet.now facts count)) n offsets.old offsets.new }
+pub fn write_starts(n: usize, sheet: &[u8], facts: &[Facts], offsets: &mut [u64])
+    requires n_nonzero { (0 < n) × (n ≤ max_rows) × (n < length offsets.old) }
+    requires all_stand { AllStand n sheet.now facts.now }
+    requires total_bound { rows_total n sheet.now facts.now < 2 ^ 64 }
+    ensures { CursorsAt (row_start (row_at n sheet.now facts.now)) n offsets.old offsets.new }
 {
     clear(n, offsets);
     let mut fixed: u64 = 0;
-    for c in 0..count {
-        let f = facts[c];
-        let base = f.base;
-        fixed = add_column(f.column, n, &sheet[base..], fixed, offsets);
+    for f in facts {
+        fixed = add_column(f.column, n, &sheet[f.base..], fixed, offsets);
     }
     add_up(n, fixed, offsets);
 }

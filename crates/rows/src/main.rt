@@ -33,6 +33,7 @@ fn more_follows<R: Read>(reader: &mut R, input: &[u8]) -> bool
     if input.len() < INPUT_ROOM {
         return false;
     }
+    // An array, here and in `main`: fixed memory, no heap.
     let mut next = [0u8; 1];
     read_full(reader, &mut next) == 1
 }

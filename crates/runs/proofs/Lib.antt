@@ -2,3 +2,4 @@
 pub mod Direction
 pub mod Copying
 pub mod Written
+pub mod Parts

@@ -2,18 +2,11 @@
 // or read.
 #![tactic(auto)]
 
-ghost use Rattle.std.specs.Prelude.{◌≡◌, [], ◌∷◌, ◌+◌, ◌%◌, ◌<◌, ◌≤◌, length, get_or, take, drop, replicate};
+ghost use Rattle.std.specs.Prelude.{◌≡◌, [], ◌∷◌, ◌%◌, ◌<◌, length, get_or};
 ghost use Rattle.std.proofs.lemmas.List.Edits.{sets};
 ghost use Rattle.format.specs.Field.{directed};
 
 use number::{Word, directed};
-
-// A byte as a number.
-pub fn wide(x: u8) -> usize
-    ensures { (result ≡ x) × (result < 256) }
-{
-    x as usize
-}
 
 // One byte, written at a place.
 pub fn put_byte(out: &mut [u8], at: usize, byte: u8, descending: bool)
@@ -31,69 +24,38 @@ pub fn byte_at(row: &[u8], i: usize, descending: bool) -> u8
     directed(descending, row[i])
 }
 
-// m zeros from a place on.
-pub fn zeros(out: &mut [u8], at: usize, m: usize)
-    requires { at + m ≤ length out.old }
-    ensures { out.new ≡ sets out.old at (replicate m 0) }
-{
-    out[at..at + m].fill(0);
-}
-
-// Bytes of src from a place on, as many as whole words hold: of a value into a row, or of a row back into the sheet.
-pub fn copy_words(
-    out: &mut [u8],
-    at: usize,
-    src: &[u8],
-    from: usize,
-    count: usize,
-    descending: bool,
-)
-    requires count_value { count % 8 ≡ 0 }
-    requires count_in_bounds { from + count ≤ length src.now }
-    requires count_in_bounds_2 { at + count ≤ length out.old }
-    ensures { out.new ≡ sets out.old at (directed descending (take count (drop from src.now))) }
+// The bytes of src into a part of a buffer that is as long, whole words: of a value into a row, or of a row back into the sheet.
+// `length out.old ≡ length src.now`, here and above: it is about two slices, which no type says in plainer words.
+pub fn copy_words(out: &mut [u8], src: &[u8], descending: bool)
+    requires words { length src.now % 8 ≡ 0 }
+    requires room { length out.old ≡ length src.now }
+    ensures { out.new ≡ directed descending src.now }
 {
     let mut i = 0;
     // A `while`: a `for` over the words costs more on the few words that a name has.
-    while i < count {
-        let word = u64::low(src, from + i);
-        directed(descending, word).put(out, at + i);
+    while i < src.len() {
+        let word = u64::low(src, i);
+        directed(descending, word).put(out, i);
         i += 8;
     }
 }
 
 // The same, a byte at a time.
-fn copy_rest(out: &mut [u8], at: usize, src: &[u8], from: usize, count: usize, descending: bool)
-    requires count_in_bounds { from + count ≤ length src.now }
-    requires count_in_bounds_2 { at + count ≤ length out.old }
-    ensures { out.new ≡ sets out.old at (directed descending (take count (drop from src.now))) }
+fn copy_rest(out: &mut [u8], src: &[u8], descending: bool)
+    requires { length out.old ≡ length src.now }
+    ensures { out.new ≡ directed descending src.now }
 {
-    for i in 0..count {
-        out[at + i] = byte_at(src, from + i, descending);
+    for i in 0..src.len() {
+        out[i] = byte_at(src, i, descending);
     }
 }
 
 // The same of any count: words, then the rest.
-pub fn copy_bytes(
-    out: &mut [u8],
-    at: usize,
-    src: &[u8],
-    from: usize,
-    count: usize,
-    descending: bool,
-)
-    requires count_in_bounds { from + count ≤ length src.now }
-    requires count_in_bounds_2 { at + count ≤ length out.old }
-    ensures { out.new ≡ sets out.old at (directed descending (take count (drop from src.now))) }
+pub fn copy_bytes(out: &mut [u8], src: &[u8], descending: bool)
+    requires { length out.old ≡ length src.now }
+    ensures { out.new ≡ directed descending src.now }
 {
-    let words = count - count % 8;
-    copy_words(out, at, src, from, words, descending);
-    copy_rest(
-        out,
-        at + words,
-        src,
-        from + words,
-        count - words,
-        descending,
-    );
+    let words = src.len() - src.len() % 8;
+    copy_words(&mut out[..words], &src[..words], descending);
+    copy_rest(&mut out[words..], &src[words..], descending);
 }

@@ -11,6 +11,7 @@ use format::{Column, Kind, Refusal};
 use sheet_ends::{check_ends, end_at};
 
 // Packed bits in front of the part: 7, 8.
+// The facts about n, kinds and parts, here and below: `Kind` may hold any width, and the others are about a number and a slice.
 fn check_bits(part: &[u8], n: usize, c: usize) -> Result<(), Refusal>
     requires { n ≤ max_rows }
     ensures { result ≡ bits_fault n c part.now }

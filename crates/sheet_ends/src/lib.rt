@@ -20,6 +20,7 @@ pub fn end_at(part: &[u8], i: usize) -> usize
 
 // How far the ends of n rows step beyond the limit, in sum: 0 where none falls and no slot is too long. No turn leaves the loop, so that
 // the compiler can take several ends in one.
+// Room for the ends, here and below: it is about a slice and a number, which no type says in plainer words.
 fn ends_excess(part: &[u8], n: usize) -> u64
     requires n_le_max_rows { n ≤ max_rows }
     requires n_in_bounds { 4 * suc n ≤ length part.now }

@@ -19,6 +19,7 @@ use sheet_ends::end_at;
 const NULL_LENGTH: u64 = 1;
 
 // The length of the field of a row in the column of variable bytes in front of the part: 1 for a null, and that of its value.
+// `Passes`, here and above: it is about a layout, n and the bytes together, which no type says in plainer words.
 pub fn variable_length(part: &[u8], n: usize, row: usize) -> u64
     requires n_le_max_rows { (n ≤ max_rows) × (row < n) }
     requires passes { Passes (λ c. column_fault false ended n c part.now) }

@@ -5,7 +5,8 @@ use mathlib.Core.Bool.{false}
 use mathlib.Core.Option.{none}
 use mathlib.Core.List.{List, [], ◌∷◌}
 use native.Mathlib.Omega.{arith}
-use lib.ListN.{length, get_or, drop, get_or-map}
+use lib.ListN.{length, get_or, take, drop, get_or-map, length-map, length-take}
+use lib.Seq.{ext_get_or, get_or-take}
 use Rattle.format.specs.declared.Column.{Column}
 use Rattle.format.specs.Lists.{each}
 use Rattle.format.specs.Kinds.{Slot, column_shape}
@@ -17,7 +18,7 @@ use Rattle.basics.proofs.Lists.{each_at, each_next, each_same}
 use Rattle.laws.proofs.Places.{past_column}
 use Rattle.laws.proofs.Sheets.{not_asked}
 use Rattle.sheet_reader.specs.declared.sheet.Facts.{Facts}
-use Rattle.sheet_reader.specs.Sheets.{no_facts, Known}
+use Rattle.sheet_reader.specs.Sheets.{no_facts, columns_of, Known}
 
 -- that of a column that stands at a place, and the same as encode takes it
 abbrev pub slot_in : ℕ → List ℕ → ℕ → Column → ℕ → Slot
@@ -50,6 +51,27 @@ slots_known n cols s facts k r l =
     ∙ each_same 0 (length cols) _ _ (λ c a b.
     let f = k c (omega arith) in
     sym (ap₂ (folded_in n s r) f.column f.base))
+
+-- facts are of the columns that they are known for
+facts_columns : (n : ℕ) (cols : List Column) (s : List ℕ) (facts : List Facts) → Known n cols s facts → length facts ≡ length cols → columns_of facts ≡ cols
+facts_columns n cols s facts known many =
+    let column : Facts → Column = λ f. f.column in
+    ext_get_or no_column (columns_of facts) cols (length-map facts column ∙ many)
+    (λ i l. get_or-map column facts i no_facts ∙ (known i (omega (arith, length-map facts column, many))).column)
+
+-- an array of facts, cut to as many as there are columns
+module _ (n : ℕ) (cols : List Column) (s : List ℕ) (all : List Facts) (known : Known n cols s all) (count : ℕ) (many : length (take count all) ≡ length cols) where
+  abbrev facts : List Facts
+  facts = take count all
+
+  kept : Known n cols s facts
+  kept c l = rw (get_or-take count all c no_facts (omega (arith, many, length-take count all))) (known c l)
+
+  pub columns_cut : columns_of facts ≡ cols
+  columns_cut = facts_columns n cols s facts kept many
+
+  pub known_cut : Known n (columns_of facts) s facts
+  known_cut = rw columns_cut kept
 
 -- a column that stands at a place passes there
 pub stands_passes : (n c at : ℕ) (col : Column) (s : List ℕ) → Stands col n c at s → Passes (λ c. column_fault false (layout col) n c (drop at s))

@@ -1,5 +1,5 @@
 -- What is known of a sheet that was checked.
-use Rattle.std.specs.Prelude.{ℕ, ◌<◌, ◌≡◌, List, length, get_or, Result, Ok}
+use Rattle.std.specs.Prelude.{ℕ, ◌<◌, ◌≡◌, List, length, get_or, map, Result, Ok}
 use Rattle.format.specs.declared.Column.{Column}
 use Rattle.format.specs.declared.Refusal.{Refusal}
 use Rattle.format.specs.Check.{verdict}
@@ -18,6 +18,10 @@ pub record FactsOf (n : ℕ) (cols : List Column) (sheet : List ℕ) (c : ℕ) (
   pub column : f.column ≡ get_or cols c no_column
   pub base : f.base ≡ place n cols sheet c
   pub stands : Stands f.column n c f.base sheet
+
+-- the columns that facts are of
+abbrev pub columns_of : List Facts → List Column
+columns_of facts = map (λ (f : Facts). f.column) facts
 
 -- the facts of every column
 abbrev pub Known : ℕ → List Column → List ℕ → List Facts → Type 0

@@ -5,7 +5,6 @@ ghost use Rattle.format.specs.Limits.{max_rows};
 ghost use Rattle.format.specs.Schemas.{cols_of, Limited};
 ghost use Rattle.sheet_reader.specs.Sheets.{SheetedAs};
 
-use column_facts::no_column;
 use format::{Column, Refusal, Schema};
 use sheet_columns::{check_column, column_bytes, null_rows};
 
@@ -16,7 +15,7 @@ pub struct Facts {
     pub base: usize,
 }
 
-// What is known of a sheet that passes: the facts of each column and the null total.
+// What is known of a sheet that passes: the facts of each column in use, and the null total. No Vec: the library has no heap.
 #[derive(Clone, Copy)]
 pub struct Sheeted {
     pub facts: [Facts; format::MAX_COLUMNS],
@@ -24,29 +23,25 @@ pub struct Sheeted {
 }
 
 // The sheet, column by column, and at the end 11.
+// `Limited`, here and above: `Schema` is a public field of the public `Cutter`, and so has no invariant.
 pub fn check_sheet(schema: Schema, n: usize, sheet: &[u8]) -> Result<Sheeted, Refusal>
     requires n_le_max_rows { n ≤ max_rows }
     requires limited { Limited schema }
     ensures { SheetedAs n (cols_of schema) sheet.now result }
 {
-    let count = schema.count;
-    let columns = schema.columns;
-    let none = no_column();
     let blank = Facts {
-        column: none,
+        column: Column::default(),
         base: 0,
     };
     let mut facts = [blank; format::MAX_COLUMNS];
     let mut nulls: u64 = 0;
     let mut at: usize = 0;
-    for c in 0..count {
-        let column = columns[c];
-        let kind = column.kind;
+    for (c, column) in schema.in_use().iter().enumerate() {
         let part = &sheet[at..];
-        check_column(column, part, n, c)?;
-        let next = at + column_bytes(kind, part, n);
+        check_column(*column, part, n, c)?;
+        let next = at + column_bytes(column.kind, part, n);
         facts[c] = Facts {
-            column: column,
+            column: *column,
             base: at,
         };
         nulls += null_rows(part, n);

@@ -1,4 +1,4 @@
-// A sheet encoded, and shown as text.
+// A sheet encoded, and shown as text: into a lent buffer and not by `write!`, as crate `texts` says.
 #![tactic(auto)]
 
 ghost use Rattle.std.specs.Prelude.{◌≤◌, length};
@@ -16,6 +16,7 @@ pub fn print_sheet(list: &[u8], n: u64, sheet: &[u8], out: &mut [u8]) -> usize
     requires { text_room ≤ length out.old }
     ensures { Wrote (sheet_text (spelled list.now) n sheet.now) 0 out.old out.new result }
 {
+    // Arrays: fixed memory, no heap.
     let mut rows = [0u8; ROW_ROOM];
     let mut offsets = [0u64; format::MAX_OFFSETS];
     let answer = station::encode::encode(list, n, sheet, &mut rows, &mut offsets);

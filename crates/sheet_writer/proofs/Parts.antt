@@ -1,6 +1,7 @@
 -- A column part by part: validity, and then what its kind's layout has. Assumes nothing.
 use Prim.Native.Nat.{ℕ, ◌+◌, ◌<◌, ◌≤◌}
 use mathlib.Core.Path.{◌≡◌, sym, ap, ◌∙◌, subst}
+use mathlib.Core.Bool.{Bool}
 use mathlib.Core.List.{List, ◌++◌, map, map-map}
 use native.Mathlib.Omega.{arith}
 use lib.ListN.{length, get_or, drop, length-drop, length-map}
@@ -15,10 +16,8 @@ use Rattle.bits.specs.Ones.{ones_in}
 use Rattle.bits.proofs.Bits.{length_pack}
 use Rattle.basics.specs.Wide.{WideKind}
 use Rattle.basics.proofs.Bytes.{bytes_drop}
-use Rattle.flag_packer.specs.declared.Flag.{Flag}
-use Rattle.flag_packer.specs.declared.Flag.TheVariants.{Valid, True}
 use Rattle.cursors.specs.Cursors.{cursor_slot, next_at, Readable, cursor_slots, nexts_at}
-use Rattle.flag_packer.specs.Flags.{flag_at, flags_at}
+use Rattle.flag_packer.specs.Flags.{valid_at, true_at, flags_at}
 use Rattle.cursors.specs.Cursors.{wides_at}
 use Rattle.end_mover.specs.Ends.{variable_column, ends_at, data_at}
 use Rattle.sheet_writer.specs.Writing.{values_at}
@@ -28,17 +27,17 @@ use Rattle.cursors.proofs.Maps.{map_same}
 use Rattle.sheet_writer.proofs.Ones.{ones_nulls}
 
 module _ (col : Column) (rows cursors : List ℕ) where
-  pub flags_long : (which : Flag) → length (flags_at which col rows cursors) ≡ packed (length cursors)
-  flags_long which = length_pack (packed (length cursors)) (map (flag_at which col rows) cursors)
+  pub flags_long : (flag : ℕ → Bool) → length (flags_at flag cursors) ≡ packed (length cursors)
+  flags_long flag = length_pack (packed (length cursors)) (map flag cursors)
 
   -- the validity, and how many slots are null by its ones
-  validity : flags_at Valid col rows cursors ≡ pack (packed (length cursors)) (map valid (cursor_slots col rows cursors))
+  validity : flags_at (valid_at col rows) cursors ≡ pack (packed (length cursors)) (map valid (cursor_slots col rows cursors))
   validity = ap (pack (packed (length cursors))) (sym (map-map valid (cursor_slot col rows) cursors))
 
-  pub column_is : flags_at Valid col rows cursors ++ values_at col rows cursors ≡ cleared_column (layout col) (length cursors) (cursor_slots col rows cursors)
+  pub column_is : flags_at (valid_at col rows) cursors ++ values_at col rows cursors ≡ cleared_column (layout col) (length cursors) (cursor_slots col rows cursors)
   column_is = ap (λ (l : List ℕ). l ++ values_at col rows cursors) validity
 
-  pub validity_nulls : ones_in (flags_at Valid col rows cursors) + nulls_in (cursor_slots col rows cursors) ≡ length cursors
+  pub validity_nulls : ones_in (flags_at (valid_at col rows) cursors) + nulls_in (cursor_slots col rows cursors) ≡ length cursors
   validity_nulls =
       let many : length (cursor_slots col rows cursors) ≡ length cursors = length-map cursors (cursor_slot col rows) in
       ap (λ (l : List ℕ). ones_in l + nulls_in (cursor_slots col rows cursors)) (
@@ -50,7 +49,7 @@ module _ (col : Column) (rows cursors : List ℕ) where
   -- ---- bools
 
   module _ (e : col.kind ≡ KindBool) where
-    pub bool_values : values_at col rows cursors ≡ flags_at True col rows cursors
+    pub bool_values : values_at col rows cursors ≡ flags_at (true_at col rows) cursors
     bool_values =
         ap (λ (k : Kind). cleared_values (layout_for (shape k)) (length cursors) (cursor_slots col rows cursors)) e
         ∙ ap (pack (packed (length cursors))) (map-map is_true (cursor_slot col rows) cursors)

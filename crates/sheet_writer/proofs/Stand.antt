@@ -30,9 +30,8 @@ use Rattle.laws.proofs.ReadRow.{passed_row}
 use Rattle.basics.proofs.Checks.{both_pass}
 use Rattle.basics.proofs.Lists.{Every, every_at, each_is}
 use Rattle.laws.proofs.Turned.{turned_tails}
-use Rattle.flag_packer.specs.declared.Flag.TheVariants.{Valid}
 use Rattle.cursors.specs.Cursors.{Readable, cursor_field, cursor_slots, next_at, nexts_at}
-use Rattle.flag_packer.specs.Flags.{flags_at}
+use Rattle.flag_packer.specs.Flags.{valid_at, flags_at}
 use Rattle.sheet_writer.specs.Writing.{AllFields, Clears, Fields, slots_to_come, values_at}
 use Rattle.cursors.proofs.Maps.{at_map, map_same}
 use Rattle.sheet_writer.proofs.Parts.{column_is, validity_nulls}
@@ -48,7 +47,7 @@ sheet_to_come cols rows cursors = cleared_sheet (length cursors) cols (slots_to_
 
 -- a column, validity and values
 abbrev pub column_to_come : Column → List ℕ → List ℕ → List ℕ
-column_to_come col rows cursors = flags_at Valid col rows cursors ++ values_at col rows cursors
+column_to_come col rows cursors = flags_at (valid_at col rows) cursors ++ values_at col rows cursors
 
 -- ---- a column more
 
@@ -92,9 +91,9 @@ module _ (col : Column) (rows : List ℕ) (b : Bytes rows) where
 
     -- the ones of its validity leave its nulls
     nulls_next : nulls (slots_to_come (col ∷ cols) rows cursors)
-        ≡ (length cursors - ones_in (flags_at Valid col rows cursors)) + nulls (slots_to_come cols rows (nexts_at col rows cursors))
+        ≡ (length cursors - ones_in (flags_at (valid_at col rows) cursors)) + nulls (slots_to_come cols rows (nexts_at col rows cursors))
     nulls_next =
-        let own : nulls_in (cursor_slots col rows cursors) ≡ length cursors - ones_in (flags_at Valid col rows cursors)
+        let own : nulls_in (cursor_slots col rows cursors) ≡ length cursors - ones_in (flags_at (valid_at col rows) cursors)
         = omega (arith, validity_nulls col rows cursors) in
         ap nulls slots_next ∙ ap (λ (k : ℕ). k + nulls (slots_to_come cols rows (nexts_at col rows cursors))) own
 
@@ -205,7 +204,7 @@ module _ {cols : List Column} {rows cursors₀ out₀ cursors out : List ℕ} {e
 
     -- which is written, its nulls counted, and the cursors moved
     pub stand_more : length cursors₀ ≤ max_rows → {out' cursors' : List ℕ} {at' : ℕ} → Wrote (column_to_come col rows cursors) at out out' at'
-        → cursors' ≡ nexts_at col rows cursors → (ones : ℕ) → ones ≡ ones_in (flags_at Valid col rows cursors)
+        → cursors' ≡ nexts_at col rows cursors → (ones : ℕ) → ones ≡ ones_in (flags_at (valid_at col rows) cursors)
         → Standing cols rows cursors₀ out₀ cursors' out' (empty + (length cursors₀ - ones)) at' (c + 1)
     stand_more most w e ones k = rw (add-one, w.place, w.bytes, e, k) (record {
       within = omega (arith, ap length next, length-drop c cols);

@@ -10,7 +10,7 @@ ghost use Rattle.sheet_writer.specs.Writing.{Clears, Decodable, Writable, slots_
 use crate::Written;
 use bits::count_ones;
 use end_mover::move_ended;
-use flag_packer::{Flag, pack};
+use flag_packer::{pack_true, pack_valid};
 use format::{Column, Kind, Schema};
 use local_numbers::with_numbers;
 use value_mover::{advance, move_wide};
@@ -31,7 +31,7 @@ fn write_values(
 {
     match column.kind {
         Kind::Bool => {
-            let end = pack(rows, cursors, column, Flag::True, sheet, at);
+            let end = pack_true(rows, cursors, column, sheet, at);
             advance(cursors, 2);
             end
         }
@@ -51,7 +51,7 @@ fn write_columns(schema: Schema, rows: &[u8], cursors: &mut [usize], sheet: &mut
     let mut at = 0;
     for c in 0..schema.count {
         let column = schema.columns[c];
-        let values = pack(rows, cursors, column, Flag::Valid, sheet, at);
+        let values = pack_valid(rows, cursors, column, sheet, at);
         nulls += (n - count_ones(&sheet[at..values])) as u64;
         at = write_values(rows, cursors, column, sheet, values);
     }

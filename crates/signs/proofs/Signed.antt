@@ -33,16 +33,18 @@ module _ (k x : ℕ) (h : x < 2 ^ k + 2 ^ k) where
       let p : P ≡ 1 * P + 0 = omega arith in
       ap₂ bit_xor a p ∙ xor_block k 1 1 (x - P) 0 (omega arith) (pow_pos k) ∙ omega (arith, xor_zero_r (x - P))
 
-  -- and with the mask that the top bit gives
-  ranks : (t : Bool) → ltb x P ≡ t → bit_xor x (x / P * (P - 1)) ≡ cond t x (P + ((P - 1) - (x - P)))
-  ranks true e = rw (div-eq_of_lt (ltb-true x P e), zero-mul (P - 1)) (xor_zero_r x)
+  -- and with the mask that the sign gives, all bits or none
+  ranks : (t : Bool) → ltb x P ≡ t → bit_xor x (bit_and (x / P * (P + P - 1)) (P - 1)) ≡ cond t x (P + ((P - 1) - (x - P)))
+  ranks true e = rw (div-eq_of_lt (ltb-true x P e), zero-mul (P + P - 1)) (xor_zero_r x)
   ranks false e =
       let l = ltb-false x P e in
       let a : x ≡ 1 * P + (x - P) = omega arith in
       let d : x - P < P = omega arith in
       let q : x / P ≡ 1 = ap (λ (n : ℕ). n / P) a ∙ digits_div 1 d in
+      let all : P + P - 1 ≡ 1 * P + (P - 1) = omega (arith, pow_pos k) in
+      let mask : bit_and (P + P - 1) (P - 1) ≡ P - 1 = and_mask (P + P - 1) k ∙ ap (λ (n : ℕ). n % P) all ∙ digits_mod 1 (omega (arith, pow_pos k)) in
       let r : bit_and x (P - 1) ≡ x - P = and_mask x k ∙ ap (λ (n : ℕ). n % P) a ∙ digits_mod 1 d in
-      rw (q, one-mul (P - 1)) (omega (arith, xor_add_and x (P - 1), r, pow_pos k))
+      rw (q, one-mul (P + P - 1), mask) (omega (arith, xor_add_and x (P - 1), r, pow_pos k))
 
   -- either is a word of as many bits
   flip_small : (t : Bool) → ltb x P ≡ t → cond t (x + P) (x - P) < P + P
@@ -80,12 +82,17 @@ flipped =
     (rw (e, half m, halves m) (flip_small (7 + 8 * m) x g (ltb x (2 ^ (7 + 8 * m))) refl), rw e (top_flipped m x h)))
 
 -- and with the mask, one whose other bits are inverted under the sign
-pub ranked : (n top : ℕ) → top + top ≡ 256 ^ n → (x : ℕ) → x < 256 ^ n
-    → (bit_xor x (x / top * (top - 1)) < 256 ^ n) × (reverse (low_bytes n (bit_xor x (x / top * (top - 1)))) ≡ rest_inverted (reverse (low_bytes n x)))
-ranked =
-    by_size (λ n top. (x : ℕ) → x < 256 ^ n
-    → (bit_xor x (x / top * (top - 1)) < 256 ^ n) × (reverse (low_bytes n (bit_xor x (x / top * (top - 1)))) ≡ rest_inverted (reverse (low_bytes n x))))
+pub ranked : (n top all : ℕ) → top + top ≡ 256 ^ n → all + 1 ≡ 256 ^ n → (x : ℕ) → x < 256 ^ n
+    → (bit_xor x (bit_and (x / top * all) (top - 1)) < 256 ^ n)
+    × (reverse (low_bytes n (bit_xor x (bit_and (x / top * all) (top - 1)))) ≡ rest_inverted (reverse (low_bytes n x)))
+ranked n top all h a =
+    let e : all ≡ top + top - 1 = omega (arith, h, a) in
+    rw e (by_size (λ n top. (x : ℕ) → x < 256 ^ n
+    → (bit_xor x (bit_and (x / top * (top + top - 1)) (top - 1)) < 256 ^ n)
+    × (reverse (low_bytes n (bit_xor x (bit_and (x / top * (top + top - 1)) (top - 1)))) ≡ rest_inverted (reverse (low_bytes n x))))
     (λ m x h.
+    let P : ℕ = 128 * 256 ^ m in
     let g : x < 2 ^ (7 + 8 * m) + 2 ^ (7 + 8 * m) = rw (halves m) at h in
-    let e : bit_xor x (x / (128 * 256 ^ m) * (128 * 256 ^ m - 1)) ≡ invert_rest (128 * 256 ^ m) x = rw (half m) (ranks (7 + 8 * m) x g (ltb x (2 ^ (7 + 8 * m))) refl) in
+    let e : bit_xor x (bit_and (x / P * (P + P - 1)) (P - 1)) ≡ invert_rest P x = rw (half m) (ranks (7 + 8 * m) x g (ltb x (2 ^ (7 + 8 * m))) refl) in
     (rw (e, half m, halves m) (rank_small (7 + 8 * m) x g (ltb x (2 ^ (7 + 8 * m))) refl), rw e (rest_inverted_lem m x h)))
+    n top h)

@@ -14,11 +14,10 @@ pub fn flip<W: Word>(x: W) -> W
     W::of(x.number() ^ W::TOP)
 }
 
-// A float's rank: where the sign is set, all other bits are inverted. The sign, shifted down and multiplied, gives the mask; a second
-// rank undoes the first.
+// A float's rank: where the sign is set, all other bits are inverted. The sign gives the mask; a second rank undoes the first.
 pub fn rank<W: Word>(x: W) -> W
     ensures { reverse (low_bytes W.SIZE (W.value result)) ≡ rest_inverted (reverse (low_bytes W.SIZE (W.value x))) }
 {
-    let bits = x.number();
-    W::of(bits ^ bits / W::TOP * (W::TOP - 1))
+    let mask = x.sign().number() & (W::TOP - 1);
+    W::of(x.number() ^ mask)
 }

@@ -11,27 +11,39 @@ ghost use Rattle.format.specs.Fold.{folded_slot};
 ghost use Rattle.format.specs.Sheet.{layout, packed as packedFor, value_at, column_fault, slot_at};
 ghost use Rattle.format.specs.Value.{slot_order};
 ghost use Rattle.format.specs.Passed.{Passes};
-ghost use Rattle.format.specs.CompareSheets.{rank};
+ghost use Rattle.byte_order.specs.Answers.{ordering};
 
 use bits::{bit, packed};
 use format::Column;
-use number_order::{ABOVE, BELOW, EQUAL};
+use std::cmp::Ordering;
 use value_order::order_values;
 
 // A value against a null, which stands where nulls first says, whatever descending says.
-fn value_to_null(nulls_first: bool) -> u8
-    ensures { result ≡ rank (cond nulls_first gt lt) }
+fn value_to_null(nulls_first: bool) -> Ordering
+    ensures { result ≡ ordering (cond nulls_first gt lt) }
 {
-    if nulls_first { ABOVE } else { BELOW }
+    if nulls_first {
+        Ordering::Greater
+    } else {
+        Ordering::Less
+    }
 }
 
 // Two slots that have values, as encode takes them.
-fn order_valid(column: Column, n: usize, a: &[u8], i: usize, m: usize, b: &[u8], j: usize) -> u8
+fn order_valid(
+    column: Column,
+    n: usize,
+    a: &[u8],
+    i: usize,
+    m: usize,
+    b: &[u8],
+    j: usize,
+) -> Ordering
     requires n_le_max_rows { (n ≤ max_rows) × (i < n) }
     requires m_le_max_rows { (m ≤ max_rows) × (j < m) }
     requires passes { Passes (λ c. column_fault false (layout column) n c a.now) }
     requires passes_2 { Passes (λ c. column_fault false (layout column) m c b.now) }
-    ensures { result ≡ rank (slot_order (column_shape column) column.options
+    ensures { result ≡ ordering (slot_order (column_shape column) column.options
         (folded_slot (column_shape column) column.options (some (value_at (layout column) n (drop (packedFor n) a.now) i)))
         (folded_slot (column_shape column) column.options (some (value_at (layout column) m (drop (packedFor m) b.now) j)))) }
 {
@@ -39,18 +51,26 @@ fn order_valid(column: Column, n: usize, a: &[u8], i: usize, m: usize, b: &[u8],
     let start = packed(m);
     let found = order_values(column, n, &a[from..], i, m, &b[start..], j);
     if column.options.descending {
-        return ABOVE - found;
+        return found.reverse();
     }
     found
 }
 
 // The slot of row i of n in the column in front of a, and that of row j of m in the column in front of b, as encode takes them.
-pub fn order_slots(column: Column, n: usize, a: &[u8], i: usize, m: usize, b: &[u8], j: usize) -> u8
+pub fn order_slots(
+    column: Column,
+    n: usize,
+    a: &[u8],
+    i: usize,
+    m: usize,
+    b: &[u8],
+    j: usize,
+) -> Ordering
     requires n_le_max_rows { (n ≤ max_rows) × (i < n) }
     requires m_le_max_rows { (m ≤ max_rows) × (j < m) }
     requires passes { Passes (λ c. column_fault false (layout column) n c a.now) }
     requires passes_2 { Passes (λ c. column_fault false (layout column) m c b.now) }
-    ensures { result ≡ rank (slot_order (column_shape column) column.options
+    ensures { result ≡ ordering (slot_order (column_shape column) column.options
         (folded_slot (column_shape column) column.options (slot_at (layout column) n a.now i))
         (folded_slot (column_shape column) column.options (slot_at (layout column) m b.now j))) }
 {
@@ -62,7 +82,7 @@ pub fn order_slots(column: Column, n: usize, a: &[u8], i: usize, m: usize, b: &[
         return value_to_null(nulls_first);
     }
     if bit(b, j) {
-        return ABOVE - value_to_null(nulls_first);
+        return value_to_null(nulls_first).reverse();
     }
-    EQUAL
+    Ordering::Equal
 }

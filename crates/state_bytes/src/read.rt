@@ -10,12 +10,12 @@ ghost use Rattle.state_bytes.specs.Written.{state_with};
 use crate::write::put_state;
 use crate::{NUMBER_BYTES, STATE_BYTES};
 use code_reader::coded_column;
-use column_facts::no_column;
 use cutter_step::Place;
-use format::{Cutter, MAX_COLUMNS, Refusal, RowFault, Schema, Spot};
+use format::{Column, Cutter, MAX_COLUMNS, Refusal, RowFault, Schema, Spot};
 use number::Word;
 
-// The refusal of four numbers; any that a state cannot hold is 33.
+// The refusal of four numbers; any that a state cannot hold is 33. No `From`, here and below: these read this crate's layout, which by the
+// orphan rule would then stand in crate `format`.
 fn check_of(a: u64, b: u64, c: u64, d: u64) -> Result<(), Refusal>
     ensures { result ≡ check_of a b c d }
 {
@@ -63,13 +63,13 @@ fn columns_said(said: u64) -> usize
 }
 
 // So many columns, four bytes each.
+// `count` is a number of the state, not the length of what is lent. An array, here and below, no Vec: the library has no heap.
 fn read_columns(codes: &[u8], count: usize) -> Schema
     requires count_le_max_columns { count ≤ max_columns }
     requires max_columns_in_bounds { 4 * max_columns ≤ length codes.now }
     ensures { result ≡ schema_of (each 0 count (λ i. column_of (code_at codes.now i))) }
 {
-    let none = no_column();
-    let mut columns = [none; MAX_COLUMNS];
+    let mut columns = [Column::default(); MAX_COLUMNS];
     for i in 0..count {
         columns[i] = coded_column(codes, i);
     }
@@ -109,7 +109,7 @@ pub fn read_state(state: &[u8]) -> Cutter
     }
 }
 
-// Whether the bytes of two states are the same, word by word; bytes after them mean nothing.
+// Whether the bytes of two states are the same, word by word; bytes after them mean nothing. To do: `==` of slices.
 fn same_bytes(a: &[u8], b: &[u8]) -> bool
     requires state_size_in_bounds { state_size ≤ length a.now }
     requires state_size_in_bounds_2 { state_size ≤ length b.now }

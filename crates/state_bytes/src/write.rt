@@ -1,32 +1,21 @@
 // A state, written.
-ghost use Rattle.std.specs.Prelude.{◌≡◌, [], ◌+◌, ◌*◌, ◌≤◌, length};
+ghost use Rattle.std.specs.Prelude.{◌≡◌, [], ◌+◌, ◌*◌, ◌≤◌, length, replicate};
 ghost use Rattle.std.proofs.lemmas.List.Edits.{sets};
 ghost use Rattle.format.specs.Limits.{max_columns};
 ghost use Rattle.format.specs.Lists.{over};
 ghost use Rattle.format.specs.Lent.{eight_bytes, number_bytes};
 ghost use Rattle.format.specs.Cutter.{refused};
-ghost use Rattle.format.specs.CutterBytes.{check_numbers, spot_numbers, numbers_size, state_bytes, state_size};
+ghost use Rattle.format.specs.CutterBytes.{spot_numbers, numbers_size, state_bytes, state_size};
 ghost use Rattle.state_bytes.specs.Written.{four_numbers, state_with, place_numbers, column_bytes};
 
 use crate::NUMBER_BYTES;
-use answers::refusal_numbers;
 use code_writer::put_codes;
 use cutter_step::Place;
 use format::{MAX_COLUMNS, Refusal, Returned, Schema, Spot};
 use number::Word;
-use runs::zeros;
 
-// Numbers 0 to 3: those of the refusal that stands, or zeros.
-fn check_numbers(check: Result<(), Refusal>) -> Returned
-    ensures { result ≡ check_numbers check }
-{
-    match check {
-        Ok(()) => Returned(0, 0, 0, 0),
-        Err(r) => refusal_numbers(r),
-    }
-}
-
-// Numbers 8 to 11: where in its field the cutter stands.
+// Numbers 8 to 11: where in its field the cutter stands. No `From`: these are the layout of this crate, which by the orphan rule would then
+// stand in crate `format`.
 fn spot_numbers(spot: Spot) -> Returned
     ensures { four_numbers result ≡ spot_numbers spot }
 {
@@ -50,12 +39,13 @@ fn put_four(out: &mut [u8], at: usize, numbers: Returned)
 }
 
 // The thirteen numbers, in front of the lent bytes.
+// `count` is a number of the state, written like the others: no columns are here.
 pub fn put_numbers(out: &mut [u8], check: Result<(), Refusal>, place: Place, count: usize)
     requires { numbers_size ≤ length out.old }
     ensures { out.new ≡ over (eight_bytes (place_numbers check place count)) out.old }
 {
     let spot = place.spot;
-    put_four(out, 0, check_numbers(check));
+    put_four(out, 0, Returned::from(check));
     put_four(
         out,
         32,
@@ -63,6 +53,14 @@ pub fn put_numbers(out: &mut [u8], check: Result<(), Refusal>, place: Place, cou
     );
     put_four(out, 64, spot_numbers(spot));
     (count as u64).put(out, 96);
+}
+
+// m zeros from a place on.
+fn zeros(out: &mut [u8], at: usize, m: usize)
+    requires { at + m ≤ length out.old }
+    ensures { out.new ≡ sets out.old at (replicate m 0) }
+{
+    out[at..at + m].fill(0);
 }
 
 // The columns in use, and zeros for those that are not there.

@@ -291,6 +291,7 @@ pub extern "C" fn station_compare_pairs(
     if answer.len() < ANSWER_BYTES {
         return;
     }
+    // None: the row numbers stand in the bytes.
     let numbers = [0u64; 0];
     let r = compare_pairs_listed(
         read_list(list),
@@ -323,6 +324,7 @@ pub extern "C" fn station_compare_pairs_read(
     if answer.len() < ANSWER_BYTES {
         return;
     }
+    // None: the row numbers stand in the bytes.
     let numbers = [0u64; 0];
     let r = compare_pairs_listed(
         read_codes(descriptions),

@@ -1,4 +1,5 @@
-// The text of rows and of refusals. Each writer puts its piece at a place and returns the place after it.
+// The text of rows and of refusals. Each writer puts its piece at a place and returns the place after it. No `Display` and `write!`: these
+// promise their text only where they return `Ok`, and no clause says when that is, so that `Printed` of `printer::print` would not follow.
 #![tactic(auto)]
 
 ghost use Rattle.std.specs.Prelude.{◌≡◌, ◌+◌, ◌<◌, ◌≤◌, length};
@@ -9,7 +10,7 @@ ghost use Rattle.format.specs.Passed.{Cuts};
 ghost use Rattle.basics.specs.Wrote.{Wrote};
 ghost use Rattle.texts.specs.Text.{refused_room, row_line, number_text};
 
-use format::Refusal;
+use format::{Refusal, Returned};
 
 // A hex digit, in lower case.
 fn digit(d: u8) -> u8
@@ -35,6 +36,7 @@ fn put_row(row: &[u8], out: &mut [u8], at: usize) -> usize
 }
 
 // The n rows that the offsets cut out of the row bytes, a line each.
+// `Cuts`, here and above: it is about n, rows and offsets together, which no type says in plainer words.
 pub fn put_rows(rows: &[u8], offsets: &[u64], n: usize, out: &mut [u8]) -> usize
     requires cuts { Cuts n rows.now offsets.now }
     requires offsets_in_bounds { length (hex_lines (cut_rows n rows.now offsets.now)) ≤ length out.old }
@@ -64,6 +66,7 @@ fn put_number(n: u64, after: u8, out: &mut [u8], at: usize) -> usize
     requires { at + 21 ≤ length out.old }
     ensures { Wrote (number_text n after) at out.old out.new result }
 {
+    // An array: fixed memory, no heap.
     let mut digits = [0u8; 20];
     let k = io::decimal(n, &mut digits);
     let end = put_bytes(&digits[..k], out, at);
@@ -76,7 +79,7 @@ pub fn put_refused(r: Refusal, out: &mut [u8]) -> usize
     requires { refused_room ≤ length out.old }
     ensures { Wrote (refused_line (refusal_numbers r)) 0 out.old out.new result }
 {
-    let numbers = answers::refusal_numbers(r);
+    let numbers = Returned::from(r);
     let first = put_bytes(b"refused ", out, 0);
     let second = put_number(numbers.0, b' ', out, first);
     let third = put_number(numbers.1, b' ', out, second);

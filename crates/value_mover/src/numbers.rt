@@ -12,7 +12,7 @@ use fixed_decoder::slot;
 use format::{Column, Kind, SortOptions};
 use number::Coding;
 
-// Values of so many bytes: each is stored, and its cursor moved past the field.
+// Values of so many bytes: each is stored, and its cursor moved past the field. A width and no type: the 16 bytes of an interval are no word.
 fn move_words(
     rows: &[u8],
     cursors: &mut [usize],
@@ -40,6 +40,7 @@ fn move_words(
 }
 
 // The values of any fixed kind but bool.
+// `Readable`, here and above: it is about a column, rows and cursors together, which no type says in plainer words.
 pub fn move_wide(
     rows: &[u8],
     cursors: &mut [usize],

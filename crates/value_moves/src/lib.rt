@@ -17,7 +17,6 @@ use format::{Kind, RowFault, SortOptions, Spot};
 use moves::Moved;
 use moves::lead::turned;
 use number::{Coding, Float, Word, decode, folded};
-use runs::wide;
 
 // A bool's only one: 19.
 fn boolean_byte(options: SortOptions, seen: usize, at: u64, byte: u8) -> Moved
@@ -48,7 +47,7 @@ fn stands_folded<F: Float>(spelt: F) -> bool
     folded(true, value).number() == value.number()
 }
 
-// Whether it may stand in a column that folds.
+// Whether it may stand in a column that folds. A width and no type, here and below: a kind hands its width, and here it becomes a type.
 fn may_stand(width: usize, spelt: u64) -> bool
     requires fact { (width ≡ 2) ⊎ ((width ≡ 4) ⊎ (width ≡ 8)) }
     requires spelt_bound { spelt < 256 ^ width }
@@ -71,7 +70,7 @@ fn folding_byte(width: usize, seen: usize, spelt: u64, at: u64, byte: u8) -> Mov
     requires seen_le_at { seen ≤ at }
     ensures { as_move result ≡ folding_move width seen spelt at byte }
 {
-    let number = 256 * spelt + wide(byte) as u64;
+    let number = 256 * spelt + u64::from(byte);
     if seen + 1 < width {
         return Moved::On(Spot::Value(seen + 1, number));
     }

@@ -1,9 +1,11 @@
 -- What is promised of two slots that have values, by their keys. Assumes nothing.
-use Prim.Native.Nat.{ℕ, ◌-◌, Ordering}
+use Prim.Native.Nat.{ℕ, Ordering}
 use mathlib.Core.Path.{◌≡◌, refl, ap, sym, ◌∙◌}
 use mathlib.Core.Bool.{Bool as Truth, true, false, cond}
 use mathlib.Core.Option.{some}
 use mathlib.Core.List.{List}
+use Rattle.std.specs.declared.cmp.Ordering.{Ordering as Answer}
+use Rattle.std.specs.Ordering.{ordering_reverse}
 use Rattle.format.specs.declared.SortOptions.{SortOptions}
 use Rattle.format.specs.Limits.{max_slot}
 use Rattle.format.specs.Kinds.{Shape, fixed, variable, Slot}
@@ -13,10 +15,10 @@ use Rattle.format.specs.Order.{swap, cmp}
 use Rattle.format.specs.Value.{slot_order}
 use Rattle.basics.proofs.Sorts.{ShapeSigns}
 use Rattle.laws.proofs.Folding.{folded_bytes, folded_length}
-use Rattle.format.specs.CompareSheets.{rank}
+use Rattle.byte_order.specs.Answers.{ordering}
+use Rattle.byte_order.proofs.Answered.{reversed}
 use Rattle.number_order.specs.Orders.{value_key, Ordered}
 use Rattle.number_order.proofs.KeyOrder.{key_order}
-use Rattle.number_order.proofs.Found.{rank_swap}
 
 -- the order of two slots as encode takes them
 abbrev pub folded_order : Shape → SortOptions → Slot → Slot → Ordering
@@ -31,17 +33,17 @@ keyed_order (fixed k) o x y so fx fy =
     (folded_length k o.fold x fx.1) (folded_length k o.fold y fy.1)))
 keyed_order variable o x y so fx fy = refl
 
-module _ (sh : Shape) (o : SortOptions) (x y : List ℕ) (so : ShapeSigns sh) (fx : Fits max_slot sh false x) (fy : Fits max_slot sh false y) {r : ℕ}
+module _ (sh : Shape) (o : SortOptions) (x y : List ℕ) (so : ShapeSigns sh) (fx : Fits max_slot sh false x) (fy : Fits max_slot sh false y) {r : Answer}
     (h : Ordered (value_key sh o.fold x) (value_key sh o.fold y) r) where
   -- as the options say
   told : (d : Truth) → o.descending ≡ d
-      → rank (folded_order sh o (some x) (some y)) ≡ rank (cond d (swap (cmp (value_key sh o.fold x) (value_key sh o.fold y))) (cmp (value_key sh o.fold x) (value_key sh o.fold y)))
+      → ordering (folded_order sh o (some x) (some y)) ≡ ordering (cond d (swap (cmp (value_key sh o.fold x) (value_key sh o.fold y))) (cmp (value_key sh o.fold x) (value_key sh o.fold y)))
   told d e =
-      ap rank (keyed_order sh o x y so fx fy)
-      ∙ ap (λ (z : Truth). rank (cond z (swap (cmp (value_key sh o.fold x) (value_key sh o.fold y))) (cmp (value_key sh o.fold x) (value_key sh o.fold y)))) e
+      ap ordering (keyed_order sh o x y so fx fy)
+      ∙ ap (λ (z : Truth). ordering (cond z (swap (cmp (value_key sh o.fold x) (value_key sh o.fold y))) (cmp (value_key sh o.fold x) (value_key sh o.fold y)))) e
 
-  pub values_rise : o.descending ≡ false → r ≡ rank (folded_order sh o (some x) (some y))
+  pub values_rise : o.descending ≡ false → r ≡ ordering (folded_order sh o (some x) (some y))
   values_rise e = h.says ∙ sym (told false e)
 
-  pub values_fall : o.descending ≡ true → 2 - r ≡ rank (folded_order sh o (some x) (some y))
-  values_fall e = ap (λ (k : ℕ). 2 - k) h.says ∙ rank_swap (cmp (value_key sh o.fold x) (value_key sh o.fold y)) ∙ sym (told true e)
+  pub values_fall : o.descending ≡ true → ordering_reverse r ≡ ordering (folded_order sh o (some x) (some y))
+  values_fall e = ap ordering_reverse h.says ∙ reversed (cmp (value_key sh o.fold x) (value_key sh o.fold y)) ∙ sym (told true e)

@@ -6,22 +6,11 @@ ghost use Rattle.format.specs.Passed.{Ended};
 ghost use Rattle.number_order.specs.Orders.{Ordered};
 
 use byte_order::compare;
-use number_order::{ABOVE, BELOW, EQUAL};
 use sheet_ends::end_at;
-
-// Of two byte strings: unsigned bytes, a proper beginning first.
-fn order_bytes(a: &[u8], b: &[u8]) -> u8
-    ensures { Ordered a.now b.now result }
-{
-    let found = compare(a, b);
-    if found == 0 {
-        return EQUAL;
-    }
-    if found == 1 { ABOVE } else { BELOW }
-}
+use std::cmp::Ordering;
 
 // Fixed binary: value i of a and value j of b.
-pub(crate) fn order_binary(w: usize, a: &[u8], i: usize, b: &[u8], j: usize) -> u8
+pub(crate) fn order_binary(w: usize, a: &[u8], i: usize, b: &[u8], j: usize) -> Ordering
     requires { (i * w + w ≤ length a.now) × (j * w + w ≤ length b.now) }
     ensures { Ordered (take w (drop (i * w) a.now)) (take w (drop (j * w) b.now)) result }
 {
@@ -29,11 +18,12 @@ pub(crate) fn order_binary(w: usize, a: &[u8], i: usize, b: &[u8], j: usize) -> 
     let to = from + w;
     let start = j * w;
     let end = start + w;
-    order_bytes(&a[from..to], &b[start..end])
+    compare(&a[from..to], &b[start..end])
 }
 
 // Variable bytes: row i of n values in front of a, and row j of m values in front of b. Each lies between two ends.
-pub(crate) fn order_variable(n: usize, a: &[u8], i: usize, m: usize, b: &[u8], j: usize) -> u8
+// A row below a count of rows, here and above: a pair of numbers, of which a type would be no plainer than the two.
+pub(crate) fn order_variable(n: usize, a: &[u8], i: usize, m: usize, b: &[u8], j: usize) -> Ordering
     requires n_le_max_rows { (n ≤ max_rows) × (i < n) }
     requires m_le_max_rows { (m ≤ max_rows) × (j < m) }
     requires ended { Ended n a.now }
@@ -46,5 +36,5 @@ pub(crate) fn order_variable(n: usize, a: &[u8], i: usize, m: usize, b: &[u8], j
     let rest = 4 * (m + 1);
     let start = rest + end_at(b, j);
     let end = rest + end_at(b, j + 1);
-    order_bytes(&a[from..to], &b[start..end])
+    compare(&a[from..to], &b[start..end])
 }

@@ -10,12 +10,11 @@ ghost use Rattle.number_order.specs.Orders.{value_key, Ordered};
 use crate::bytes::{order_binary, order_variable};
 use format::{Column, Kind};
 use number::Coding;
-use number_order::{
-    EQUAL, order, order_day_time, order_folded, order_month_day_nano, order_number, order_words,
-};
+use number_order::{order_day_time, order_folded, order_month_day_nano, order_number, order_words};
+use std::cmp::Ordering;
 
 // Every fixed kind but bool: value i of a and value j of b. One match, so that a slot costs one jump.
-fn order_wide(kind: Kind, fold: bool, a: &[u8], i: usize, b: &[u8], j: usize) -> u8
+fn order_wide(kind: Kind, fold: bool, a: &[u8], i: usize, b: &[u8], j: usize) -> Ordering
     requires wide_kind { WideKind kind }
     requires kind_in_bounds { (i * value_bytes kind + value_bytes kind ≤ length a.now) × (j * value_bytes kind + value_bytes kind ≤ length b.now) }
     ensures { Ordered (value_key (shape kind) fold (take (value_bytes kind) (drop (i * value_bytes kind) a.now)))
@@ -39,8 +38,8 @@ fn order_wide(kind: Kind, fold: bool, a: &[u8], i: usize, b: &[u8], j: usize) ->
         Kind::I128 => order_words(2, a, i * 2, b, j * 2),
         Kind::I256 => order_words(4, a, i * 4, b, j * 4),
         // Not handed.
-        Kind::Bool => EQUAL,
-        Kind::Variable => EQUAL,
+        Kind::Bool => Ordering::Equal,
+        Kind::Variable => Ordering::Equal,
     }
 }
 
@@ -53,7 +52,7 @@ pub fn order_values(
     m: usize,
     b: &[u8],
     j: usize,
-) -> u8
+) -> Ordering
     requires n_le_max_rows { (n ≤ max_rows) × (i < n) }
     requires m_le_max_rows { (m ≤ max_rows) × (j < m) }
     requires passes { Passes (λ c. values_fault (layout column) n c a.now) }
@@ -66,7 +65,7 @@ pub fn order_values(
         return order_variable(n, a, i, m, b, j);
     }
     if let Kind::Bool = kind {
-        return order(bits::bit(a, i) as u64, bits::bit(b, j) as u64);
+        return bits::bit(a, i).cmp(&bits::bit(b, j));
     }
     order_wide(kind, column.options.fold, a, i, b, j)
 }

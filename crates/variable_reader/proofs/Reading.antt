@@ -11,10 +11,9 @@ use lib.Seq.{drop-drop, get_or-drop, length-take-le}
 use borrow.Author.Tests.{lt-ltb, le-ltb, le-leb, lt-leb, ne_eqb}
 use Rattle.format.specs.declared.RowFault.{RowFault}
 use Rattle.format.specs.declared.RowFault.TheVariants.{Cut, Padding, TooLong}
-use Rattle.format.specs.declared.FieldRead.TheVariants.{Value, Fault}
 use Rattle.format.specs.Limits.{max_slot}
 use Rattle.format.specs.Field.{block_size}
-use Rattle.format.specs.Read.{Parsed, got, fault, all_zero, from_bad, read_block, read_blocks}
+use Rattle.format.specs.Read.{Parsed, got, fault, all_zero, from_bad, read_block, read_blocks, found_value, found_fault}
 use Rattle.variable_reader.specs.Counted.{block_at, counted, LastCounted}
 use Rattle.number.proofs.Tops.{drop_take}
 
@@ -74,8 +73,8 @@ bad_clear (y ∷ x) h = go (eqb y 0) refl h (bad_clear x)
     go false e h ih = rw e
 
 -- a fault is counted as itself
-faulty : (n c : ℕ) (f : RowFault) (l k : ℕ) (m : Parsed (List ℕ)) → l ≡ k → m ≡ fault f k → Fault f l ≡ counted n c m
-faulty n c f l k m h e = ap (Fault f) h ∙ sym (ap (counted n c) e)
+faulty : (n c : ℕ) (f : RowFault) (l k : ℕ) (m : Parsed (List ℕ)) → l ≡ k → m ≡ fault f k → found_fault f l ≡ counted n c m
+faulty n c f l k m h e = ap (found_fault f) h ∙ sym (ap (counted n c) e)
 
 module _ (t : List ℕ) (n at size end c : ℕ) (long : length t ≡ n) (inside : at + size < n) (last : end ≡ 255 → ⊥) where
   -- its data and padding, and the bytes after it
@@ -103,7 +102,7 @@ module _ (t : List ℕ) (n at size end c : ℕ) (long : length t ≡ n) (inside 
     ended more = rw (ne_eqb end 255 last) (rw (le-ltb end 1 o) (rw (le-ltb size end h)))
 
     -- padding that is not zero
-    pub ended_padding : 0 < bad → LastCounted t n at size end c (Fault Padding (bad + (n - at - size)))
+    pub ended_padding : 0 < bad → LastCounted t n at size end c (found_fault Padding (bad + (n - at - size)))
     ended_padding p more =
         faulty n c Padding _ _ (block_at t at size end c more) (ap₂ ◌+◌ padding left)
         (ended more ∙ rw (bad_clear (drop end data-in) (subst (λ (x : ℕ). 0 < x) padding p)))
@@ -112,15 +111,15 @@ module _ (t : List ℕ) (n at size end c : ℕ) (long : length t ≡ n) (inside 
     clean p = zero_clear (drop end data-in) (omega (arith, padding))
 
     -- too much, or a value
-    pub ended_long : bad ≤ 0 → max_slot < c + end → LastCounted t n at size end c (Fault TooLong (n - at - size))
+    pub ended_long : bad ≤ 0 → max_slot < c + end → LastCounted t n at size end c (found_fault TooLong (n - at - size))
     ended_long p l more =
         faulty n c TooLong _ _ (block_at t at size end c more) left (ended more ∙ rw (clean p) (rw (lt-ltb max_slot (c + end) l)))
 
     whole : length data-in ≡ size
     whole = length-take-le size (drop at t) (omega (arith, length-drop at t))
 
-    pub ended_done : bad ≤ 0 → c + end ≤ max_slot → LastCounted t n at size end c (Value (at + size + 1) (c + end))
+    pub ended_done : bad ≤ 0 → c + end ≤ max_slot → LastCounted t n at size end c (found_value (at + size + 1) (c + end))
     ended_done p l more =
-        ap₂ Value {x = at + size + 1} {y = n - length after-it} (omega (arith, length-drop (at + (size + 1)) t))
+        ap₂ found_value {x = at + size + 1} {y = n - length after-it} (omega (arith, length-drop (at + (size + 1)) t))
         (ap (λ (x : ℕ). c + x) (sym (length-take-le end data-in (omega (arith, whole)))))
         ∙ sym (ap (counted n c) {y = got (take end data-in) after-it} (ended more ∙ rw (clean p) (rw (le-ltb max_slot (c + end) l))))

@@ -1,10 +1,8 @@
 -- What the walks over the blocks of a field answer.
-use Rattle.std.specs.Prelude.{ℕ, ◌+◌, ◌-◌, ◌≡◌, Bool, List, [], length, take, drop}
-use Rattle.format.specs.declared.FieldRead.{FieldRead}
-use Rattle.format.specs.declared.FieldRead.TheVariants.{Null, Value, Fault}
+use Rattle.std.specs.Prelude.{ℕ, ◌+◌, ◌-◌, ◌≡◌, Bool, List, [], length, take, drop, Option, Some, None, Ok, Err}
 use Rattle.format.specs.Limits.{max_slot}
 use Rattle.format.specs.Field.{directed, block_size}
-use Rattle.format.specs.Read.{Parsed, got, fault, read_block, read_blocks}
+use Rattle.format.specs.Read.{Parsed, got, fault, read_block, read_blocks, FieldAnswer, found_value, found_fault}
 
 -- the blocks of a row's first field, after the lead byte, inverted back
 abbrev pub blocks_read : Bool → List ℕ → Parsed (List ℕ)
@@ -15,12 +13,12 @@ abbrev pub block_at : List ℕ → ℕ → ℕ → ℕ → ℕ → Parsed (List 
 block_at t at size end c more = read_block size max_slot c (take size (drop at t)) end (drop (at + (size + 1)) t) more
 
 -- of a row of n bytes: the field's length, and the count of the value's bytes, of which c came before
-abbrev pub counted : ℕ → ℕ → Parsed (List ℕ) → FieldRead
-counted n c (got v r) = Value (n - length r) (c + length v)
-counted n c (fault f l) = Fault f l
+abbrev pub counted : ℕ → ℕ → Parsed (List ℕ) → FieldAnswer
+counted n c (got v r) = found_value (n - length r) (c + length v)
+counted n c (fault f l) = found_fault f l
 
 -- a last block at a place of t: the answer r counts it, whatever would be read after it
-abbrev pub LastCounted : List ℕ → ℕ → ℕ → ℕ → ℕ → ℕ → FieldRead → Type 0
+abbrev pub LastCounted : List ℕ → ℕ → ℕ → ℕ → ℕ → ℕ → FieldAnswer → Type 0
 LastCounted t n at size end c r = (more : Parsed (List ℕ)) → r ≡ counted n c (block_at t at size end c more)
 
 -- the value that was read, and what is left after it
@@ -32,8 +30,12 @@ abbrev pub rest_of : Parsed (List ℕ) → List ℕ
 rest_of (got v r) = r
 rest_of (fault f l) = []
 
--- an answer that is no fault, in two numbers: the field's length, and the value's, which is 0 of a null
-abbrev pub Told : ℕ → ℕ → FieldRead → Type 0
-Told len value (Null l) = (len ≡ l) × (value ≡ 0)
-Told len value (Value l v) = (len ≡ l) × (value ≡ v)
-Told len value (Fault f l) = ⊥
+-- the bytes of a value; a null has none
+abbrev pub value_length : Option ℕ → ℕ
+value_length None = 0
+value_length (Some n) = n
+
+-- an answer that is no fault, in two numbers: the field's length, and the value's
+abbrev pub Told : ℕ → ℕ → FieldAnswer → Type 0
+Told len value (Ok read) = (len ≡ read.length) × (value ≡ value_length read.value)
+Told len value (Err found) = ⊥

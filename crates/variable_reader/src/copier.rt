@@ -1,5 +1,5 @@
 // The copying walk: the value of a field that the count walk passed, into the sheet.
-ghost use Rattle.std.specs.Prelude.{◌≡◌, ◌+◌, ◌-◌, ◌<◌, ◌≤◌, length, take, drop};
+ghost use Rattle.std.specs.Prelude.{◌≡◌, ◌+◌, ◌-◌, ◌<◌, ◌≤◌, length};
 ghost use Rattle.std.proofs.lemmas.List.Edits.{sets};
 ghost use Rattle.format.specs.Field.{directed};
 ghost use Rattle.format.specs.Limits.{max_slot};
@@ -10,7 +10,7 @@ ghost use Rattle.variable_reader.specs.Counted.{blocks_read, rest_of, value_of};
 use blocks::{BLOCK_CONTINUATION, NON_EMPTY_SENTINEL, block_size};
 use format::SortOptions;
 use number::{Word, directed};
-use runs::{byte_at, copy_words, put_byte, wide};
+use runs::{byte_at, copy_words, put_byte};
 
 // How long the field was, and how many bytes were written.
 #[derive(Clone, Copy)]
@@ -20,54 +20,46 @@ pub struct Copied {
 }
 
 // As many bytes as a number has, to twice as many: two numbers, which overlap.
-fn copy_two<W: Word>(
-    out: &mut [u8],
-    at: usize,
-    row: &[u8],
-    from: usize,
-    count: usize,
-    descending: bool,
-)
-    requires le_count { (W.SIZE ≤ count) × (count ≤ W.SIZE + W.SIZE) }
-    requires count_in_bounds { from + count ≤ length row.now }
-    requires count_in_bounds_2 { at + count ≤ length out.old }
-    ensures { out.new ≡ sets out.old at (directed descending (take count (drop from row.now))) }
+fn copy_two<W: Word>(out: &mut [u8], src: &[u8], descending: bool)
+    requires two { (W.SIZE ≤ length src.now) × (length src.now ≤ W.SIZE + W.SIZE) }
+    requires room { length out.old ≡ length src.now }
+    ensures { out.new ≡ directed descending src.now }
 {
-    let rest = count - W::SIZE;
-    directed(descending, W::low(row, from)).put(out, at);
-    let last = W::low(row, from + rest);
-    directed(descending, last).put(out, at + rest);
+    let rest = src.len() - W::SIZE;
+    directed(descending, W::low(src, 0)).put(out, 0);
+    let last = W::low(src, rest);
+    directed(descending, last).put(out, rest);
 }
 
 // Fewer bytes than a word has.
-fn copy_few(out: &mut [u8], at: usize, row: &[u8], from: usize, count: usize, descending: bool)
-    requires count_bound { count < 8 }
-    requires count_in_bounds { from + count ≤ length row.now }
-    requires count_in_bounds_2 { at + count ≤ length out.old }
-    ensures { out.new ≡ sets out.old at (directed descending (take count (drop from row.now))) }
+fn copy_few(out: &mut [u8], src: &[u8], descending: bool)
+    requires few { length src.now < 8 }
+    requires room { length out.old ≡ length src.now }
+    ensures { out.new ≡ directed descending src.now }
 {
-    if count >= 4 {
-        copy_two::<u32>(out, at, row, from, count, descending);
-    } else if count >= 2 {
-        copy_two::<u16>(out, at, row, from, count, descending);
-    } else if count > 0 {
-        put_byte(out, at, row[from], descending);
+    if src.len() >= 4 {
+        copy_two::<u32>(out, src, descending);
+    } else if src.len() >= 2 {
+        copy_two::<u16>(out, src, descending);
+    } else if src.len() > 0 {
+        put_byte(out, 0, src[0], descending);
     }
 }
 
 // The data of a last block: words, and the word that ends with it, which overlaps them.
-fn copy_last(out: &mut [u8], at: usize, row: &[u8], from: usize, count: usize, descending: bool)
-    requires count_in_bounds { from + count ≤ length row.now }
-    requires count_in_bounds_2 { at + count ≤ length out.old }
-    ensures { out.new ≡ sets out.old at (directed descending (take count (drop from row.now))) }
+fn copy_last(out: &mut [u8], src: &[u8], descending: bool)
+    requires { length out.old ≡ length src.now }
+    ensures { out.new ≡ directed descending src.now }
 {
+    let count = src.len();
     if count < 8 {
-        copy_few(out, at, row, from, count, descending);
+        copy_few(out, src, descending);
         return;
     }
-    copy_words(out, at, row, from, count - count % 8, descending);
-    let last = u64::low(row, from + (count - 8));
-    directed(descending, last).put(out, at + (count - 8));
+    let words = count - count % 8;
+    copy_words(&mut out[..words], &src[..words], descending);
+    let last = u64::low(src, count - 8);
+    directed(descending, last).put(out, count - 8);
 }
 
 // The data of the blocks of a field, after its lead byte.
@@ -86,14 +78,24 @@ fn copy_blocks(row: &[u8], descending: bool, out: &mut [u8], at: usize) -> Copie
         let size = block_size(k);
         let end = byte_at(row, from + size, descending);
         if end != BLOCK_CONTINUATION {
-            let used = wide(end);
-            copy_last(out, at + count, row, from, used, descending);
+            let used = usize::from(end);
+            let place = at + count;
+            copy_last(
+                &mut out[place..place + used],
+                &row[from..from + used],
+                descending,
+            );
             return Copied {
                 field: from + size + 1,
                 value: count + used,
             };
         }
-        copy_words(out, at + count, row, from, size, descending);
+        let place = at + count;
+        copy_words(
+            &mut out[place..place + size],
+            &row[from..from + size],
+            descending,
+        );
         from += size + 1;
         k += 1;
         count += size;

@@ -8,12 +8,12 @@ ghost use Rattle.variable_reader.specs.Counted.{blocks_read, counted, LastCounte
 
 use blocks::{BLOCK_CONTINUATION, EMPTY_SENTINEL, NON_EMPTY_SENTINEL, block_size};
 use column_facts::null_lead;
-use format::{FieldRead, MAX_SLOT, RowFault, SortOptions};
+use format::{FieldFault, FieldRead, MAX_SLOT, RowFault, SortOptions};
 use number::{Word, directed};
-use runs::{byte_at, wide};
+use runs::byte_at;
 
 // Whether the bytes from `from` up to `to` are zeros, inverted back: whole words, then the top bytes of the word that ends
-// at `to`. It says no where that word would begin before the row.
+// at `to`. It says no where that word would begin before the row. Places, here and below, and no part: that word may begin before it.
 fn clear(row: &[u8], from: usize, to: usize, descending: bool) -> bool
     requires from_le_to { from ≤ to }
     requires to_in_bounds { to ≤ length row.now }
@@ -55,6 +55,7 @@ fn unpadded(row: &[u8], from: usize, to: usize, descending: bool) -> usize
 }
 
 // A last block at a place, whose end byte says how many data bytes it has, with `count` bytes of the value before it.
+// `count` is no length of a slice: the value's bytes stand in blocks, apart from each other.
 pub fn last_block(
     row: &[u8],
     at: usize,
@@ -62,7 +63,7 @@ pub fn last_block(
     end: usize,
     count: usize,
     descending: bool,
-) -> FieldRead
+) -> Result<FieldRead, FieldFault>
     requires size_in_bounds { at + size < length row.now }
     requires fact { end ≡ 255 → ⊥ }
     requires count_le_max_slot { count ≤ max_slot }
@@ -70,23 +71,26 @@ pub fn last_block(
 {
     let left = row.len() - at - size;
     if end < 1 {
-        return FieldRead::Fault(RowFault::EndByte, left);
+        return Err(FieldFault(RowFault::EndByte, left));
     }
     if size < end {
-        return FieldRead::Fault(RowFault::EndByte, left);
+        return Err(FieldFault(RowFault::EndByte, left));
     }
     let bad = unpadded(row, at + end, at + size, descending);
     if 0 < bad {
-        return FieldRead::Fault(RowFault::Padding, bad + left);
+        return Err(FieldFault(RowFault::Padding, bad + left));
     }
     if MAX_SLOT < count + end {
-        return FieldRead::Fault(RowFault::TooLong, left);
+        return Err(FieldFault(RowFault::TooLong, left));
     }
-    FieldRead::Value(at + size + 1, count + end)
+    Ok(FieldRead {
+        length: at + size + 1,
+        value: Some(count + end),
+    })
 }
 
 // The blocks of a field, after its lead byte.
-fn count_blocks(row: &[u8], descending: bool) -> FieldRead
+fn count_blocks(row: &[u8], descending: bool) -> Result<FieldRead, FieldFault>
     requires { 0 < length row.now }
     ensures { result ≡ counted (length row.now) 0 (blocks_read descending row.now) }
 {
@@ -98,14 +102,14 @@ fn count_blocks(row: &[u8], descending: bool) -> FieldRead
     loop {
         let size = block_size(k);
         if len - at <= size {
-            return FieldRead::Fault(RowFault::Cut, 0);
+            return Err(FieldFault(RowFault::Cut, 0));
         }
         let end = byte_at(row, at + size, descending);
         if end != BLOCK_CONTINUATION {
-            return last_block(row, at, size, wide(end), count, descending);
+            return last_block(row, at, size, usize::from(end), count, descending);
         }
         if MAX_SLOT < count + size {
-            return FieldRead::Fault(RowFault::TooLong, len - at - size);
+            return Err(FieldFault(RowFault::TooLong, len - at - size));
         }
         at += size + 1;
         k += 1;
@@ -114,24 +118,30 @@ fn count_blocks(row: &[u8], descending: bool) -> FieldRead
 }
 
 // The field in front of a row.
-pub fn read(row: &[u8], options: SortOptions) -> FieldRead
+pub fn read(row: &[u8], options: SortOptions) -> Result<FieldRead, FieldFault>
     ensures { result ≡ field_read row.now (read_variable max_slot options row.now) }
 {
     let descending = options.descending;
     let len = row.len();
     if len == 0 {
-        return FieldRead::Fault(RowFault::Cut, 0);
+        return Err(FieldFault(RowFault::Cut, 0));
     }
     let lead = row[0];
     if null_lead(lead, options) {
-        return FieldRead::Null(1);
+        return Ok(FieldRead {
+            length: 1,
+            value: None,
+        });
     }
     let byte = byte_at(row, 0, descending);
     if byte == EMPTY_SENTINEL {
-        return FieldRead::Value(1, 0);
+        return Ok(FieldRead {
+            length: 1,
+            value: Some(0),
+        });
     }
     if byte != NON_EMPTY_SENTINEL {
-        return FieldRead::Fault(RowFault::Lead, len);
+        return Err(FieldFault(RowFault::Lead, len));
     }
     count_blocks(row, descending)
 }

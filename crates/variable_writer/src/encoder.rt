@@ -27,6 +27,7 @@ pub fn encode_null(out: &mut [u8], at: usize, options: SortOptions) -> usize
 
 // The bytes of val from a place to its end, eight at most, as a number, low byte first: the top bytes of the word that
 // ends there, which may start before the place.
+// The bounds of `val`, here and below: they are about a slice and a place, which no type says in plainer words.
 fn last_word(val: &[u8], from: usize) -> u64
     requires in_bounds { 8 ≤ length val.now }
     requires from_in_bounds { from < length val.now }
@@ -67,7 +68,7 @@ fn encode_full(out: &mut [u8], at: usize, val: &[u8], from: usize, size: usize, 
     requires size_in_bounds_2 { at + size < length out.old }
     ensures { out.new ≡ sets out.old at (directed descending (block size (take size (drop from val.now)) 255)) }
 {
-    copy_words(out, at, val, from, size, descending);
+    copy_words(&mut out[at..at + size], &val[from..from + size], descending);
     put_byte(out, at + size, BLOCK_CONTINUATION, descending);
 }
 

@@ -47,6 +47,7 @@ fn show_all<W: Write>(
 
 // The sheet comes back into as much room as it takes.
 fn encode<W: Write>(out: &mut W, list: &[u8], sheet: &[u8], numbers: &[u64]) -> io::Result<bool> {
+    // Arrays, here and below: fixed memory, no heap.
     let mut rows = [0xEEu8; BYTES];
     let mut offsets = [9u64; NUMBERS];
     let mut back = [0xEEu8; BYTES];

@@ -7,6 +7,7 @@ use std::io::Write;
 // One column of variable bytes, nulls first: the sheet encoded.
 fn encode_names<W: Write>(out: &mut W, name: &str, n: u64, sheet: &[u8]) -> io::Result<()> {
     let list = [16u8, 2];
+    // Arrays, here and below: the whole of each buffer is shown, at its fixed size.
     let mut rows = [0xEEu8; 20];
     let mut offsets = [9u64; 4];
     let answer = station::encode::encode(&list, n, sheet, &mut rows, &mut offsets);

@@ -45,12 +45,12 @@ pub fn word(line: &[u8], k: usize) -> &[u8] {
     &line[at..end]
 }
 
-// The value of a hex digit; 16 for any other byte.
-fn digit(byte: u8) -> u8 {
+// The value of a hex digit in lower case. No `char::to_digit`: it takes capital letters too.
+fn digit(byte: u8) -> Option<u8> {
     match byte {
-        b'0'..=b'9' => byte - b'0',
-        b'a'..=b'f' => byte - 87,
-        _ => 16,
+        b'0'..=b'9' => Some(byte - b'0'),
+        b'a'..=b'f' => Some(byte - 87),
+        _ => None,
     }
 }
 
@@ -66,11 +66,8 @@ pub fn read_hex(word: &[u8], out: &mut [u8]) -> Option<usize>
         return None;
     }
     for i in 0..k {
-        let high = digit(word[2 * i]);
-        let low = digit(word[2 * i + 1]);
-        if high == 16 || low == 16 {
-            return None;
-        }
+        let high = digit(word[2 * i])?;
+        let low = digit(word[2 * i + 1])?;
         out[i] = high << 4 | low;
     }
     Some(k)
@@ -97,11 +94,11 @@ pub fn read_numbers(word: &[u8], out: &mut [u64]) -> Option<usize>
         if byte == b',' {
             k += 1;
         } else {
-            let d = digit(byte);
+            let d = digit(byte)?;
             if 9 < d {
                 return None;
             }
-            out[k] = with_digit(out[k], d as u64);
+            out[k] = with_digit(out[k], u64::from(d));
         }
     }
     if k < out.len() { Some(k + 1) } else { None }

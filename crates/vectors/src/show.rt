@@ -1,5 +1,5 @@
 // Lines of output: names, numbers, bytes in hex.
-use format::Refusal;
+use format::{Refusal, Returned};
 use std::io;
 use std::io::Write;
 
@@ -9,7 +9,7 @@ pub fn end_line<W: Write>(out: &mut W) -> io::Result<()> {
 
 // The case's name and its four numbers.
 pub fn show<W: Write>(out: &mut W, name: &str, a: Result<(u64, u64), Refusal>) -> io::Result<()> {
-    let r = answers::numbers(a);
+    let r = Returned::from(a);
     write!(out, "{name} {} {} {} {}", r.0, r.1, r.2, r.3)
 }
 

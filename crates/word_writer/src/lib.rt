@@ -47,7 +47,7 @@ fn put_number<F: Float>(
     or_zero(valid, word).put(rows, at);
 }
 
-// The same of so many bytes.
+// The same of so many bytes. A width and no type, here and in `put_slot`: the 16 bytes of an interval are no word.
 fn put_word(
     rows: &mut [u8],
     at: usize,

@@ -1,7 +1,7 @@
 // Words of 8, 16, 32 and 64 bits, which stand in memory low byte first: what differs by width is here, and all else is generic over it.
 #![tactic(auto)]
 
-ghost use Rattle.std.specs.Prelude.{◌≡◌, ℕ, ◌+◌, ◌^◌, ◌<◌, ◌≤◌, cond, reverse, length, take, drop, replicate, refl};
+ghost use Rattle.std.specs.Prelude.{◌≡◌, ℕ, ◌+◌, ◌*◌, ◌/◌, ◌^◌, ◌<◌, ◌≤◌, cond, reverse, length, take, drop, replicate, refl};
 ghost use Rattle.std.proofs.lemmas.List.Edits.{sets};
 ghost use Rattle.format.specs.Lists.{low, low_bytes};
 
@@ -35,6 +35,10 @@ pub trait Word: Copy {
     // Its bytes turned round.
     fn swap(self) -> Self
         ensures { low_bytes SIZE (value result) ≡ reverse (low_bytes SIZE (value self)) };
+
+    // All bits where the top one is set, and else none: its signed pattern, shifted down arithmetically by all bits but one.
+    fn sign(self) -> Self
+        ensures { value result ≡ value self / TOP * ALL };
 
     // As a number of 64 bits, in which it is computed, and back.
     fn number(self) -> u64
@@ -90,6 +94,10 @@ impl Word for u8 {
         self
     }
 
+    fn sign(self) -> u8 {
+        (self.cast_signed() >> 7).cast_unsigned()
+    }
+
     fn number(self) -> u64 {
         self as u64
     }
@@ -129,6 +137,10 @@ impl Word for u16 {
 
     fn swap(self) -> u16 {
         self.swap_bytes()
+    }
+
+    fn sign(self) -> u16 {
+        (self.cast_signed() >> 15).cast_unsigned()
     }
 
     fn number(self) -> u64 {
@@ -172,6 +184,10 @@ impl Word for u32 {
         self.swap_bytes()
     }
 
+    fn sign(self) -> u32 {
+        (self.cast_signed() >> 31).cast_unsigned()
+    }
+
     fn number(self) -> u64 {
         self as u64
     }
@@ -213,6 +229,10 @@ impl Word for u64 {
 
     fn swap(self) -> u64 {
         self.swap_bytes()
+    }
+
+    fn sign(self) -> u64 {
+        (self.cast_signed() >> 63).cast_unsigned()
     }
 
     fn number(self) -> u64 {

@@ -36,18 +36,18 @@ overflow_shr-padding c = omega (arith, size_most c.args.k)
 pub returns-then-padding-ne0 : goal.returns-then-padding-ne0
 returns-then-padding-ne0 c =
     let a = c.args in
-    let shift = ap (λ (n : ℕ). a.marks / 2 ^ n) c.wide-used.ensures.0 in
+    let shift = ap (λ (n : ℕ). a.marks / 2 ^ n) c.from-used.ensures in
     end_padded a.k a.marks a.at a.end c.if-end-eq-BLOCK_CONTINUATION.false (omega arith) (omega arith) (λ z. c.if-padding-ne0.true (shift ∙ z)) _
     (omega (arith, c.lowest.ensures.0 ∙ ap (lowest 32) shift))
 
 pub returns-then-bytes_before-used-gt-MAX_SLOT : goal.returns-then-bytes_before-used-gt-MAX_SLOT
 returns-then-bytes_before-used-gt-MAX_SLOT c =
     let a = c.args in
-    let shift = ap (λ (n : ℕ). a.marks / 2 ^ n) c.wide-used.ensures.0 in
+    let shift = ap (λ (n : ℕ). a.marks / 2 ^ n) c.from-used.ensures in
     end_over a.k a.marks a.at a.end c.if-end-eq-BLOCK_CONTINUATION.false (omega arith) (omega arith) (sym shift ∙ c.if-padding-ne0.false) (omega arith)
 
 pub returns : goal.returns
 returns c =
     let a = c.args in
-    let shift = ap (λ (n : ℕ). a.marks / 2 ^ n) c.wide-used.ensures.0 in
+    let shift = ap (λ (n : ℕ). a.marks / 2 ^ n) c.from-used.ensures in
     end_whole a.k a.marks a.at a.end c.if-end-eq-BLOCK_CONTINUATION.false (omega arith) (omega arith) (sym shift ∙ c.if-padding-ne0.false) (omega arith)

@@ -1,25 +1,11 @@
--- `byte_order::below` meets its contract: −1 is the answer where a is below b, and nowhere else. Assumes nothing.
-use Prim.Native.Nat.Ordering.{eq}
-use Prim.Native.Nat.Ordering.{gt}
-use Prim.Native.Nat.Ordering.{lt}
-use Prim.Native.Nat.{Ordering}
-use mathlib.Core.Path.{◌≡◌, refl, ap, ◌∙◌}
-use lib.Dec.{eqb}
-use lib.IntN.{ℤ}
-use mir.Syntax.{w32}
-use mir.Val.{of_z}
+-- `byte_order::below` meets its contract: `Less` is the answer where a is below b, and nowhere else. Assumes nothing.
+use mathlib.Core.Path.{ap, ◌∙◌}
+use Rattle.std.specs.Ordering.{is_lt}
 use Rattle.format.specs.Order.{cmp}
-use Rattle.format.specs.Batch.{is_below}
-use Rattle.format.specs.Entries.{sign, compare_answer}
+use Rattle.byte_order.proofs.Answered.{less}
 use Rattle.byte_order.proofs.below.Goals as goal
 
-less : (o : Ordering) → eqb (of_z w32 (sign o)) 4294967295 ≡ is_below o
-less lt = refl
-less eq = refl
-less gt = refl
-
 pub returns : goal.returns
-unfolding compare_answer
 returns c =
     let args = c.args in
-    ap (λ (z : ℤ). eqb (of_z w32 z) 4294967295) c.compare.ensures.answers ∙ less (cmp args.a.now args.b.now)
+    c.is_lt.ensures ∙ ap is_lt c.compare.ensures ∙ less (cmp args.a.now args.b.now)

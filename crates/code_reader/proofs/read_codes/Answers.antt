@@ -10,7 +10,7 @@ pub returns-then-count-eq0 : goal.returns-then-count-eq0
 returns-then-count-eq0 c = empty c.args.codes.now c.if-count-eq0.true
 
 pub loop-i-init : goal.loop-i-init
-loop-i-init c = start c.args.codes.now _ c.no_column-none.ensures
+loop-i-init c = start c.args.codes.now _ c.default-columns.ensures
 
 pub returns-then-i-eq-MAX_COLUMNS : goal.returns-then-i-eq-MAX_COLUMNS
 returns-then-i-eq-MAX_COLUMNS c =

@@ -1,25 +1,18 @@
 use mathlib.Core.Path.{sym, ◌∙◌}
 use native.Mathlib.Omega.{arith}
 use Rattle.std.proofs.lemmas.Result.{err_from_is_err_and}
-use Rattle.column_reader.proofs.ColumnTurns.{start, none, more, full, bad, good}
+use Rattle.column_reader.proofs.ColumnTurns.{start, more, empty, full, bad, good}
 use Rattle.column_reader.proofs.judge.Goals as goal
 
-pub returns-then-count-eq0 : goal.returns-then-count-eq0
-returns-then-count-eq0 c = none _ _ c.if-count-eq0.true
+pub returns-then-columns-eq0 : goal.returns-then-columns-eq0
+returns-then-columns-eq0 c = empty c.args.columns.now c.if-columns-eq0.true
 
 pub loop-i-init : goal.loop-i-init
-loop-i-init c = start _ _
+loop-i-init c = start c.args.columns.now _ c.default-copy.ensures
 
 pub returns-then-i-eq-MAX_COLUMNS : goal.returns-then-i-eq-MAX_COLUMNS
 returns-then-i-eq-MAX_COLUMNS c =
     full _ _ _ c.loop-i.invariant c.loop-i-test.true c.if-i-eq-MAX_COLUMNS.true
-
-pub offset_bounds-columns-i : goal.offset_bounds-columns-i
-offset_bounds-columns-i c = omega (arith, c.loop-i.invariant.few)
-
-pub bounds-columns-i : goal.bounds-columns-i
-bounds-columns-i c =
-    omega (arith, c.loop-i.invariant.few, c.if-i-eq-MAX_COLUMNS.false)
 
 pub returns-in_err-check_column : goal.returns-in_err-check_column
 returns-in_err-check_column c =
@@ -33,4 +26,4 @@ loop-i-preserved c =
 
 pub returns : goal.returns
 returns c =
-    good _ _ _ c.loop-i.invariant c.loop-i-test.false c.if-count-eq0.false
+    good _ _ _ c.loop-i.invariant c.loop-i-test.false (omega arith)

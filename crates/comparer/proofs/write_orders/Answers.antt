@@ -7,6 +7,7 @@ use native.Mathlib.Numerals.{add-one}
 use native.Mathlib.Omega.{arith}
 use lib.ListN.{length, get_or}
 use lib.Seq.{sets}
+use Rattle.std.specs.Ordering.{ordering_index}
 use Rattle.format.specs.declared.Column.{Column}
 use Rattle.format.specs.Lists.{each}
 use Rattle.format.specs.Schemas.{cols_of}
@@ -18,10 +19,12 @@ use Rattle.sheet_reader.specs.declared.sheet.Facts.{Facts}
 use Rattle.sheet_reader.specs.Sheets.{no_facts, Known}
 use Rattle.sheet_reader.proofs.Values.{stands_passes}
 use Rattle.format.specs.CompareSheets.{rank, pair_ranks}
+use Rattle.byte_order.specs.Answers.{ordering}
+use Rattle.byte_order.proofs.Answered.{ranked}
 use Rattle.row_pairs.specs.Pairs.{pair_rows}
 use Rattle.comparer.proofs.Columns.{deciding_ties, deciding_differs, deciding_end, first_of, column_order, facts_rank, rows_known}
 use Rattle.comparer.proofs.write_orders.Goals as goal
-use Rattle.comparer.proofs.write_orders.Goals.{else-loop-c-test, then-loop-c-test+then-found-ne-EQUAL}
+use Rattle.comparer.proofs.write_orders.Goals.{else-loop-c-test, then-loop-c-test+then-is_ne}
 
 -- a column is the same in both sheets
 others_stand : (cols : List Column) (n : ℕ) (s : List ℕ) (facts : List Facts) (m : ℕ) (t : List ℕ) (known : List Facts) (k : ℕ)
@@ -55,7 +58,7 @@ loop-c-preserved c =
     deciding_ties (column_order A.n A.sheet.now A.known.now.facts c.row_at-i.result A.m A.other.now A.other_known.now.facts c.row_at-j.result) A.schema.count k
     c.loop-c.invariant c.loop-c-test.true
     (rw (part_rest A.sheet.now (get_or A.known.now.facts k no_facts).base, part_rest A.other.now (get_or A.other_known.now.facts k no_facts).base) at c.order_slots-found.ensures)
-    c.if-found-ne-EQUAL.false
+    (sym c.is_ne.ensures ∙ c.if-is_ne.false)
 
 -- the pairs that are left begin with this one, which all columns left tied, or one decided
 pub loop-k-preserved : goal.loop-k-preserved
@@ -67,24 +70,24 @@ loop-k-preserved c =
     let R = facts_rank A.n A.sheet.now A.known.now.facts A.m A.other.now A.other_known.now.facts count (pair_rows A.numbers.now A.bytes.now) in
     let f = column_order A.n A.sheet.now A.known.now.facts c.row_at-i.result A.m A.other.now A.other_known.now.facts c.row_at-j.result in
     let at = c.loop-c.c in
-    let first : c.loop-c-test.found ≡ rank (first_of (each 0 count f)) =
+    let first : c.loop-c-test.found ≡ ordering (first_of (each 0 count f)) =
     elim c.loop-c-test.branch [
       | else-loop-c-test w ↦ w.found-is ∙ deciding_end f count at c.loop-c.invariant w.loop-c-test.false
-      | then-loop-c-test+then-found-ne-EQUAL w ↦
+      | then-loop-c-test+then-is_ne w ↦
           w.found-is
           ∙ deciding_end f count count
           (deciding_differs f count at c.loop-c.invariant w.loop-c-test.true
           (rw (part_rest A.sheet.now (get_or A.known.now.facts at no_facts).base, part_rest A.other.now (get_or A.other_known.now.facts at no_facts).base)
           at w.order_slots-found.ensures)
-          w.if-found-ne-EQUAL.true)
+          (sym w.is_ne.ensures ∙ w.if-is_ne.true))
           (omega arith)
     ] in
-    let found : c.loop-c-test.found ≡ R k =
-    first
+    let found : c.rank.result ≡ R k =
+    c.rank.ensures ∙ ap ordering_index first ∙ ranked (first_of (each 0 count f))
     ∙ ap₂ (λ (i j : ℕ). rank (first_of (each 0 count (column_order A.n A.sheet.now A.known.now.facts i A.m A.other.now A.other_known.now.facts j))))
     c.row_at-i.ensures c.row_at-j.ensures in
-    let rest : each k (n - k) R ≡ (c.loop-c-test.found ∷ []) ++ each (k + 1) (n - (k + 1)) R = each_step R n k c.loop-k-test.true ∙ rw (found, add-one k) in
-    walk_piece 1 (c.loop-c-test.found ∷ []) _ c.loop-k.invariant rest refl
+    let rest : each k (n - k) R ≡ (c.rank.result ∷ []) ++ each (k + 1) (n - (k + 1)) R = each_step R n k c.loop-k-test.true ∙ rw (found, add-one k) in
+    walk_piece 1 (c.rank.result ∷ []) _ c.loop-k.invariant rest refl
 
 -- all of them are those of the sheets' rows
 pub returns : goal.returns

@@ -1,4 +1,3 @@
-use Prim.Native.Nat.{◌-◌}
 use mathlib.Core.Path.{sym, ◌∙◌}
 use native.Mathlib.Omega.{arith}
 use Rattle.std.proofs.lemmas.Result.{err_from_is_err_and}
@@ -10,7 +9,7 @@ pub returns-then-list-eq0 : goal.returns-then-list-eq0
 returns-then-list-eq0 c = empty c.args.list.now c.if-list-eq0.true
 
 pub loop-at-init : goal.loop-at-init
-loop-at-init c = start c.args.list.now _ c.no_column-none.ensures
+loop-at-init c = start c.args.list.now _ c.default-columns.ensures
 
 pub returns-then-count-eq-MAX_COLUMNS : goal.returns-then-count-eq-MAX_COLUMNS
 returns-then-count-eq-MAX_COLUMNS c =

@@ -14,4 +14,4 @@ returns g c =
     c.folded-x.ensures c.spell.ensures.spells)
     (folded_at n k A.fold A.b.now (A.j * n) (λ i. (c.type_inv.b i).fits) c.requires.1 _ _ _ (rw c.SIZE-2.ensures at c.low-2.ensures)
     c.folded-y.ensures c.spell-2.ensures.spells)
-    c.spell.ensures.fits c.spell-2.ensures.fits c.order.ensures
+    c.spell.ensures.fits c.spell-2.ensures.fits c.cmp.ensures

@@ -12,4 +12,4 @@ returns g c =
     spelled_order
     (spelled_at n k A.a.now (A.i * n) (λ i. (c.type_inv.a i).fits) c.requires.0 _ _ (rw c.SIZE.ensures at c.low-x.ensures) c.spell.ensures.spells)
     (spelled_at n k A.b.now (A.j * n) (λ i. (c.type_inv.b i).fits) c.requires.1 _ _ (rw c.SIZE-2.ensures at c.low-y.ensures) c.spell-2.ensures.spells)
-    c.spell.ensures.fits c.spell-2.ensures.fits c.order.ensures
+    c.spell.ensures.fits c.spell-2.ensures.fits c.cmp.ensures

@@ -1,6 +1,6 @@
 -- `number_order::order_words` meets its contract: the top word decides unless it ties, and so each word below it. Assumes nothing.
 use Prim.Native.Nat.{ℕ, ◌+◌, ◌-◌, ◌*◌}
-use mathlib.Core.Path.{◌≡◌, refl, ap}
+use mathlib.Core.Path.{◌≡◌, refl, ap, sym, ◌∙◌}
 use native.Mathlib.Omega.{arith}
 use Rattle.number_order.proofs.Found.{found_none, found_last}
 use Rattle.number_order.proofs.WordSteps.{signed_top, unsigned_top, words_order, words_more}
@@ -20,7 +20,7 @@ loop-left-preserved c =
     let m : ℕ = c.loop-left.left in
     let n : ℕ = m - 1 in
     words_more unsigned_top A.a.now (A.p * 8) A.b.now (A.q * 8) m n ((A.p + n) * 8) ((A.q + n) * 8) (omega arith)
-    (omega arith) (omega arith) (omega arith) (omega arith) _ c.loop-left.invariant c.if-found-ne-EQUAL.false
+    (omega arith) (omega arith) (omega arith) (omega arith) _ c.loop-left.invariant (sym c.is_ne.ensures ∙ c.if-is_ne.false)
     c.order_number-found-in-loop-left.ensures
 
 pub returns : goal.returns

@@ -12,4 +12,4 @@ returns-in_err-compare_pairs_listed c =
 pub returns : goal.returns
 returns c =
     λ list l.
-    rw c.wide.ensures (one_done list _ _ _ _ _ _ _ _ _ (c.compare_pairs_listed.ensures list l) _ _ c.in_ok-compare_pairs_listed.was)
+    rw c.from.ensures (one_done list _ _ _ _ _ _ _ _ _ (c.compare_pairs_listed.ensures list l) _ _ c.in_ok-compare_pairs_listed.was)

@@ -3,4 +3,4 @@ use Rattle.runs.proofs.Copying.{Copying}
 use Rattle.runs.proofs.copy_rest.Given as goal
 
 abbrev pub invariant-loop-i : goal.invariant-loop-i
-invariant-loop-i l = Copying l.src l.from l.count l.descending l.initial.out l.at l.out l.i
+invariant-loop-i l = Copying l.src l.descending l.initial.out l.out l.i

@@ -10,4 +10,4 @@ use Rattle.sheet_measurer.proofs.measure_sheet.Given as goal
 
 abbrev pub invariant-loop-f : goal.invariant-loop-f
 invariant-loop-f l =
-    Adding (facts_total l.n l.sheet l.f-items) (length l.f-items) l.f-index l.total × (l.total ≤ l.f-index * (max_rows * max_field))
+    Adding (facts_total l.n l.sheet l.facts) (length l.facts) l.f-index l.total × (l.total ≤ l.f-index * (max_rows * max_field))

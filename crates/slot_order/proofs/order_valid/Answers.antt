@@ -4,6 +4,7 @@ use mathlib.Core.Path.{◌≡◌, ap, ◌∙◌}
 use mathlib.Core.Bool.{false}
 use mathlib.Core.List.{List}
 use lib.ListN.{length, get_or, take, drop}
+use Rattle.std.specs.declared.cmp.Ordering.{Ordering as Answer}
 use Rattle.format.specs.declared.Column.{Column}
 use Rattle.format.specs.Limits.{max_slot}
 use Rattle.format.specs.Kinds.{column_shape}
@@ -16,7 +17,6 @@ use Rattle.laws.proofs.Parts.{part_rest}
 use Rattle.laws.proofs.Sheets.{value_fits}
 use Rattle.sheet_slots.proofs.Values.{values_pass}
 use Rattle.number_order.specs.Orders.{value_key, Ordered}
-use Rattle.number_order.proofs.Spelled.{ordered_as}
 use Rattle.value_order.proofs.Values.{values_rise, values_fall}
 use Rattle.slot_order.proofs.order_valid.Goals as goal
 
@@ -35,7 +35,7 @@ lent : (n k : ℕ) (s : List ℕ) → k ≡ packed n → take (length s - k) (dr
 lent n k s e = ap (λ (j : ℕ). take (length s - j) (drop j s)) e ∙ part_rest s (packed n)
 
 -- the values in front of what is lent are those of the columns
-lent_ordered : (col : Column) (n k : ℕ) (a : List ℕ) (i m l : ℕ) (b : List ℕ) (j : ℕ) {r : ℕ} → let key_of = value_key (column_shape col) col.options.fold in
+lent_ordered : (col : Column) (n k : ℕ) (a : List ℕ) (i m l : ℕ) (b : List ℕ) (j : ℕ) {r : Answer} → let key_of = value_key (column_shape col) col.options.fold in
     k ≡ packed n → l ≡ packed m
     → Ordered (key_of (value_at (layout col) n (take (length a - k) (drop k a)) i)) (key_of (value_at (layout col) m (take (length b - l) (drop l b)) j)) r
     → Ordered (key_of (value col n a i)) (key_of (value col m b j)) r
@@ -44,7 +44,8 @@ lent_ordered col n k a i m l b j p q o = rw (← lent n k a p, ← lent m l b q)
 pub returns-then-column : goal.returns-then-column
 returns-then-column c =
     let A = c.args in
-    values_fall (column_shape A.column) A.column.options _ _ (signs A.column.kind)
+    c.reverse.ensures
+    ∙ values_fall (column_shape A.column) A.column.options _ _ (signs A.column.kind)
     (fits A.column A.n A.a.now A.i (λ i. (c.type_inv.a i).fits) c.requires.passes c.requires.n_le_max_rows.1)
     (fits A.column A.m A.b.now A.j (λ i. (c.type_inv.b i).fits) c.requires.passes_2 c.requires.m_le_max_rows.1)
     (lent_ordered A.column A.n _ A.a.now A.i A.m _ A.b.now A.j c.packed-from.ensures.0 c.packed-start.ensures.0 c.order_values-found.ensures)

@@ -18,29 +18,30 @@ overflow_mul-number c =
 pub overflow_add-number : goal.overflow_add-number
 overflow_add-number c =
     let q = c.requires in
-    omega (arith, fits _ _ c.args.spelt _ q.fact q.seen_lt_width q.spelt_bound c.wide.ensures.1)
+    omega (arith, fits _ _ c.args.spelt c.from.result q.fact q.seen_lt_width q.spelt_bound (omega (arith, c.from.ensures, c.ranges.byte)))
 
 pub returns-then-seen-width : goal.returns-then-seen-width
 returns-then-seen-width c =
     let a = c.args in
-    folding_on a.width a.seen a.spelt a.at a.byte _ (ap (λ n. 256 * a.spelt + n) c.wide.ensures.0) c.if-seen-width.true
+    folding_on a.width a.seen a.spelt a.at a.byte _ (ap (λ n. 256 * a.spelt + n) c.from.ensures) c.if-seen-width.true
 
 pub may_stand-requires : goal.may_stand-requires
 may_stand-requires c = record {
   fact = c.requires.fact;
   spelt_bound =
       let last : suc c.args.seen ≡ c.args.width = omega (arith, c.if-seen-width.false, c.requires.seen_lt_width) in
-      subst (λ (w : ℕ). 256 * c.args.spelt + c.wide.result < 256 ^ w) last (spelt_room c.args.seen c.args.spelt _ c.requires.spelt_bound c.wide.ensures.1);
+      subst (λ (w : ℕ). 256 * c.args.spelt + c.from.result < 256 ^ w) last
+      (spelt_room c.args.seen c.args.spelt c.from.result c.requires.spelt_bound (omega (arith, c.from.ensures, c.ranges.byte)));
 }
 
 pub returns-then-may_stand : goal.returns-then-may_stand
 returns-then-may_stand c =
     let a = c.args in
-    folding_last a.width a.seen a.spelt a.at a.byte _ (ap (λ n. 256 * a.spelt + n) c.wide.ensures.0) _ c.if-seen-width.false
+    folding_last a.width a.seen a.spelt a.at a.byte _ (ap (λ n. 256 * a.spelt + n) c.from.ensures) _ c.if-seen-width.false
     (rw (sym c.may_stand.ensures ∙ c.if-may_stand.true))
 
 pub returns : goal.returns
 returns c =
     let a = c.args in
-    folding_last a.width a.seen a.spelt a.at a.byte _ (ap (λ n. 256 * a.spelt + n) c.wide.ensures.0) _ c.if-seen-width.false
+    folding_last a.width a.seen a.spelt a.at a.byte _ (ap (λ n. 256 * a.spelt + n) c.from.ensures) _ c.if-seen-width.false
     (rw (sym c.may_stand.ensures ∙ c.if-may_stand.false))

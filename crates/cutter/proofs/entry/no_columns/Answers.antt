@@ -19,4 +19,4 @@ pub bounds-columns-c : goal.bounds-columns-c
 bounds-columns-c c = omega (arith, c.requires)
 
 pub returns : goal.returns
-returns c = put_same max_columns c.args.c _ c.requires ∙ ap (replicate max_columns) c.no_column-none.ensures
+returns c = put_same max_columns c.args.c _ c.requires ∙ ap (replicate max_columns) c.default-none.ensures

@@ -18,5 +18,5 @@ returns-in-Ok c =
 pub returns-else-not-emptied : goal.returns-else-not-emptied
 returns-else-not-emptied c =
     rule_refused c.args.state _ _ c.in-Err.is
-    (c.numbers_kept.ensures ∙ ap numbers_kept c.refusal_numbers-numbers.ensures
+    (c.numbers_kept.ensures ∙ ap numbers_kept c.from-numbers.ensures
     ∙ sym (ap (λ (t : Bool). t && numbers_kept (refusal_numbers c.in-Err.r)) (sym c.emptied.ensures ∙ c.if-not-emptied.false)))

@@ -2,7 +2,6 @@
 use Prim.Native.Nat.{ℕ}
 use mathlib.Core.Path.{◌≡◌, subst}
 use mathlib.Core.List.{List}
-use native.Mathlib.Nat.{pos_of_ne-zero}
 use native.Mathlib.Omega.{arith}
 use Rattle.format.specs.declared.Schema.{Schema}
 use Rattle.format.specs.declared.Spot.TheVariants.{Start}
@@ -12,7 +11,7 @@ use Rattle.cutter_step.specs.declared.Place.{Place}
 use Rattle.cutter_walk.specs.declared.Walked.{Walked}
 use Rattle.cutter_walk.specs.Walks.{Goes}
 use Rattle.cutter_walk.proofs.Walking.{standing}
-use Rattle.cutter_walk.proofs.Fields.{field_at, limited, fields_begin, place_starts, fields_standing, fields_leave, fields_inside, fields_left, fields_go, fields_end, fields_stop}
+use Rattle.cutter_walk.proofs.Fields.{field_at, limited, fields_begin, place_starts, fields_standing, fields_leave, fields_some, fields_inside, fields_left, fields_go, fields_end, fields_stop}
 use Rattle.cutter_walk.proofs.walk.by_fields.Goals as goal
 
 -- from the place that the walk was handed
@@ -48,35 +47,35 @@ offset_bounds-lengths-c c = let t = fields_standing c.loop-i.invariant in omega 
 pub bounds-lengths-c : goal.bounds-lengths-c
 bounds-lengths-c c = let t = fields_standing c.loop-i.invariant in omega (arith, t.here, t.few)
 
-pub quick_field-read-requires : goal.quick_field-read-requires
-quick_field-read-requires c = c.plain_lengths-lengths.ensures _ (fields_standing c.loop-i.invariant).here
+pub quick_field-requires : goal.quick_field-requires
+quick_field-requires c = c.plain_lengths-lengths.ensures _ (fields_standing c.loop-i.invariant).here
 
 pub fault_shown-check-requires : goal.fault_shown-check-requires
 fault_shown-check-requires c =
     let w = c.loop-i.invariant in
-    let l = fields_left w (bytes_of c.args.piece.now (λ i. (c.type_inv.piece i).fits)) c.loop-i-test.true _ c.quick_field-read.ensures in
+    let l = fields_left w (bytes_of c.args.piece.now (λ i. (c.type_inv.piece i).fits)) c.loop-i-test.true _ c.in-Err.ensures in
     (l, omega (arith, (fields_standing w).row, w.room))
 
-pub returns-then-len-eq0 : goal.returns-then-len-eq0
-returns-then-len-eq0 c =
+pub returns-in-Err : goal.returns-in-Err
+returns-in-Err c =
     from_place c.args.place _ _ c.requires.spot_value
-    (fields_stop c.loop-i.invariant (bytes_of c.args.piece.now (λ i. (c.type_inv.piece i).fits)) c.loop-i-test.true _ c.quick_field-read.ensures _ _
-    c.fault_shown-check.ensures c.walked-then-len-eq0.ensures)
+    (fields_stop c.loop-i.invariant (bytes_of c.args.piece.now (λ i. (c.type_inv.piece i).fits)) c.loop-i-test.true _ c.in-Err.ensures _ _
+    c.fault_shown-check.ensures c.walked-in-Err.ensures)
 
 pub overflow_add-bytes : goal.overflow_add-bytes
 overflow_add-bytes c =
-    let l = fields_inside c.loop-i.invariant (bytes_of c.args.piece.now (λ i. (c.type_inv.piece i).fits)) c.loop-i-test.true _ c.quick_field-read.ensures in
+    let l = fields_inside c.loop-i.invariant (bytes_of c.args.piece.now (λ i. (c.type_inv.piece i).fits)) _ c.in-Ok.ensures in
     omega (arith, c.loop-i.invariant.room)
 
 pub overflow_add-i : goal.overflow_add-i
 overflow_add-i c =
-    let l = fields_inside c.loop-i.invariant (bytes_of c.args.piece.now (λ i. (c.type_inv.piece i).fits)) c.loop-i-test.true _ c.quick_field-read.ensures in
+    let l = fields_inside c.loop-i.invariant (bytes_of c.args.piece.now (λ i. (c.type_inv.piece i).fits)) _ c.in-Ok.ensures in
     omega (arith, c.loop-i.invariant.short, c.loop-i.invariant.last)
 
 pub overflow_add-row : goal.overflow_add-row
 overflow_add-row c =
     let w = c.loop-i.invariant in
-    let l = fields_inside w (bytes_of c.args.piece.now (λ i. (c.type_inv.piece i).fits)) c.loop-i-test.true _ c.quick_field-read.ensures in
+    let l = fields_inside w (bytes_of c.args.piece.now (λ i. (c.type_inv.piece i).fits)) _ c.in-Ok.ensures in
     omega (arith, (fields_standing w).row, w.room)
 
 pub overflow_add-rows : goal.overflow_add-rows
@@ -89,20 +88,19 @@ pub overflow_add-c-then-c-count : goal.overflow_add-c-then-c-count
 overflow_add-c-then-c-count c = let t = fields_standing c.loop-i.invariant in omega (arith, t.here, t.few)
 
 pub loop-i-smaller-then-c-count : goal.loop-i-smaller-then-c-count
-loop-i-smaller-then-c-count c = omega (arith, pos_of_ne-zero c.if-len-eq0.false)
+loop-i-smaller-then-c-count c = omega (arith, fields_some c.loop-i.invariant (bytes_of c.args.piece.now (λ i. (c.type_inv.piece i).fits)) _ c.in-Ok.ensures)
 
 pub loop-i-preserved-then-c-count : goal.loop-i-preserved-then-c-count
 loop-i-preserved-then-c-count c =
-    fields_go c.loop-i.invariant (bytes_of c.args.piece.now (λ i. (c.type_inv.piece i).fits)) c.loop-i-test.true _
-    c.quick_field-read.ensures _ c.field_length-len.ensures c.if-len-eq0.false c.if-c-count.true
+    fields_go c.loop-i.invariant (bytes_of c.args.piece.now (λ i. (c.type_inv.piece i).fits)) _ c.in-Ok.ensures c.if-c-count.true
 
 pub loop-i-smaller : goal.loop-i-smaller
-loop-i-smaller c = omega (arith, pos_of_ne-zero c.if-len-eq0.false)
+loop-i-smaller c = omega (arith, fields_some c.loop-i.invariant (bytes_of c.args.piece.now (λ i. (c.type_inv.piece i).fits)) _ c.in-Ok.ensures)
 
 pub loop-i-preserved : goal.loop-i-preserved
 loop-i-preserved c =
-    fields_end c.loop-i.invariant (bytes_of c.args.piece.now (λ i. (c.type_inv.piece i).fits)) c.loop-i-test.true _
-    c.quick_field-read.ensures _ c.field_length-len.ensures c.if-len-eq0.false c.if-c-count.false c.if-ends-n.false
+    fields_end c.loop-i.invariant (bytes_of c.args.piece.now (λ i. (c.type_inv.piece i).fits)) _ c.in-Ok.ensures c.if-c-count.false
+    c.if-ends-n.false
 
 pub returns : goal.returns
 returns c = from_place c.args.place _ _ c.requires.spot_value (fields_leave c.loop-i.invariant _ c.walked-2.ensures)

@@ -2,15 +2,16 @@
 -- fault, at the head of the loop over rows the rows that are left have the fault of all; so too what is still to count.
 -- Assumes nothing.
 use Prim.Native.Nat.{ℕ, suc, ◌+◌, ◌-◌, ◌<◌, ◌≤◌}
-use mathlib.Core.Path.{◌≡◌, refl, ap, ◌∙◌}
+use mathlib.Core.Path.{◌≡◌, refl, ap, subst, ◌∙◌}
 use mathlib.Core.Option.{none, some}
 use mathlib.Core.List.{List, ◌∷◌}
 use native.Mathlib.Numerals.{add-one}
 use native.Mathlib.Omega.{arith}
 use lib.ListN.{length, get_or, take, drop, length-drop}
+use Rattle.std.specs.declared.option.Option.{Option}
+use Rattle.std.specs.declared.option.Option.TheVariants.{Some, None}
 use Rattle.std.specs.declared.result.Result.TheVariants.{Err}
 use Rattle.format.specs.declared.Column.{Column}
-use Rattle.format.specs.declared.FieldRead.TheVariants.{Null, Value}
 use Rattle.format.specs.declared.Refusal.TheVariants as refusal
 use Rattle.format.specs.declared.RowFault.TheVariants.{Extra}
 use Rattle.format.specs.declared.Schema.{Schema}
@@ -25,12 +26,17 @@ use Rattle.basics.proofs.Bytes.{bytes_of, bytes_take, bytes_drop}
 use Rattle.laws.proofs.FaultPlace.{fault_inside}
 use Rattle.laws.proofs.InUse.{Held, in_use, next_in_use}
 use Rattle.quick_rows.specs.Quick.{Rows, most_row}
-use Rattle.quick_rows.proofs.Taken.{Says, says_rest, null_added}
+use Rattle.quick_rows.proofs.Taken.{TookOf, says_rest, null_added}
 use Rattle.quick_rows.proofs.Turns.{Fields, taken, whole}
 use Rattle.quick_rows.proofs.Passing.{InRow, bytes_small, passed}
 use Rattle.row_reader.proofs.Turns.{broken, longer, ends, faulty}
 use Rattle.row_reader.proofs.walk.check_fields.Goals as goal
-use Rattle.row_reader.proofs.walk.check_fields.Goals.{in-Null, in-Value, else-rows-test, then-rows-test+then-loop-c-test+in-Fault, then-rows-test+else-loop-c-test+then-at-row}
+use Rattle.row_reader.proofs.walk.check_fields.Goals.{in-Some, in_default, else-rows-test, then-rows-test+then-loop-c-test+in-Err, then-rows-test+else-loop-c-test+then-at-row}
+
+-- what is no value is a null
+none_is : (v : Option ℕ) → ((n : ℕ) → v ≡ Some n → ⊥) → v ≡ None
+none_is None h = refl
+none_is (Some n) h = absurd (h n refl)
 
 -- the part of a list of bytes that a row is
 part : (rows : List ℕ) → ((i : ℕ) → get_or rows i 0 < 256) → (k from : ℕ) → Bytes (take k (drop from rows))
@@ -59,11 +65,11 @@ module _ (schema : Schema) (held : Held schema) (limited : Limited schema) {row 
     here : drop c (cols_of schema) ≡ col ∷ drop (suc c) (cols_of schema)
     here = next_in_use schema held limited.few c l
 
-    past_null : {len bytes' at' : ℕ} → Says col (drop at row) (Null len) → bytes' ≡ bytes → at' ≡ at + len
+    past_null : {len bytes' at' : ℕ} → TookOf col (drop at row) len None → bytes' ≡ bytes → at' ≡ at + len
         → Fields (cols_of schema) row bytes₀ bytes' at' (c + 1)
     past_null said p o = taken t here none _ _ _ said (omega (arith, null_added (layout col))) o
 
-    past_value : {len value more bytes' at' : ℕ} → Says col (drop at row) (Value len value)
+    past_value : {len value more bytes' at' : ℕ} → TookOf col (drop at row) len (Some value)
         → ((s : Slot) → slot_length s ≡ value → more ≡ added (layout col) s) → bytes' ≡ bytes + more → at' ≡ at + len
         → Fields (cols_of schema) row bytes₀ bytes' at' (c + 1)
     past_value said adds p o =
@@ -74,8 +80,9 @@ pub overflow_add-bytes : goal.overflow_add-bytes
 overflow_add-bytes c =
     let A = c.args in
     let l = c.loop-c in
-    let said = says_rest _ _ l.at _ (part A.rows.now (λ i. (c.type_inv.rows i).fits) _ _) c.in-Value.ensures in
-    let next = past_value A.schema c.well_formed.0 c.requires.limited l.invariant.1 c.loop-c-test.true said c.added_bytes-bytes.ensures refl refl in
+    let said = says_rest _ _ l.at _ (part A.rows.now (λ i. (c.type_inv.rows i).fits) _ _) c.in-Ok.ensures in
+    let value = subst (TookOf _ _ c.in-Ok.read.length) c.in-Some.is said in
+    let next = past_value A.schema c.well_formed.0 c.requires.limited l.invariant.1 c.loop-c-test.true value c.added_bytes-bytes.ensures refl refl in
     let row = stands A.rows.now A.offsets.now c.requires.n_le_max_rows c.rows-test.true c.rows.invariant.1 in
     omega (arith, bytes_small row _ (few_more A.schema c.well_formed.0 c.requires.limited next))
 
@@ -84,7 +91,7 @@ overflow_sub-place c =
     let A = c.args in
     let l = c.loop-c in
     let col = get_or A.schema.columns l.c no_column in
-    let said = says_rest col _ l.at _ (part A.rows.now (λ i. (c.type_inv.rows i).fits) _ _) c.in-Fault.ensures in
+    let said = says_rest col _ l.at _ (part A.rows.now (λ i. (c.type_inv.rows i).fits) _ _) c.in-Err.ensures in
     let rest = fault_inside (column_shape col) col.options _ _ _ said in
     omega (arith, rest, length-drop {A = ℕ})
 
@@ -92,15 +99,15 @@ pub loop-c-preserved : goal.loop-c-preserved
 loop-c-preserved c =
     let A = c.args in
     let l = c.loop-c in
-    let bytes = part A.rows.now (λ i. (c.type_inv.rows i).fits) _ _ in (
+    let said = says_rest _ _ l.at _ (part A.rows.now (λ i. (c.type_inv.rows i).fits) _ _) c.in-Ok.ensures in (
       l.invariant.0,
       elim c.match-read.branch [
-        | in-Null w ↦
-            past_null A.schema c.well_formed.0 c.requires.limited l.invariant.1 c.loop-c-test.true (says_rest _ _ l.at _ bytes w.in-Null.ensures)
-            w.bytes-is w.at-is
-        | in-Value w ↦
-            past_value A.schema c.well_formed.0 c.requires.limited l.invariant.1 c.loop-c-test.true (says_rest _ _ l.at _ bytes w.in-Value.ensures)
-            w.added_bytes-bytes.ensures w.bytes-is w.at-is
+        | in-Some w ↦
+            past_value A.schema c.well_formed.0 c.requires.limited l.invariant.1 c.loop-c-test.true
+            (subst (TookOf _ _ c.in-Ok.read.length) w.in-Some.is said) w.added_bytes-bytes.ensures w.bytes-is refl
+        | in_default w ↦
+            past_null A.schema c.well_formed.0 c.requires.limited l.invariant.1 c.loop-c-test.true
+            (subst (TookOf _ _ c.in-Ok.read.length) (none_is _ w.in_default.not-Some) said) w.bytes-is refl
       ],
     )
 
@@ -120,9 +127,9 @@ returns c =
     rw c.and.ensures
     (elim c.rows-test.branch [
       | else-rows-test w ↦ rw (w.check-is, w.bytes-is, c.rows.invariant.0) (ends c.rows.invariant.1 c.requires.n_le_max_rows w.rows-test.false)
-      | then-rows-test+then-loop-c-test+in-Fault w ↦
+      | then-rows-test+then-loop-c-test+in-Err w ↦
           let t = w.loop-c.invariant.1 in
-          let said = says_rest _ _ w.loop-c.at _ (part A.rows.now (λ i. (c.type_inv.rows i).fits) _ _) w.in-Fault.ensures in
+          let said = says_rest _ _ w.loop-c.at _ (part A.rows.now (λ i. (c.type_inv.rows i).fits) _ _) w.in-Err.ensures in
           let row = stands A.rows.now A.offsets.now c.requires.n_le_max_rows w.rows-test.true c.rows.invariant.1 in
           rw w.check-is (faulty row (broken t _ (here A.schema c.well_formed.0 c.requires.limited t w.loop-c-test.true) _ _ said))
       | then-rows-test+else-loop-c-test+then-at-row w ↦

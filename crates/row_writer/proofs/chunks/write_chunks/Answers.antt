@@ -34,24 +34,24 @@ pub write_column-requires-clause-roomy : goal.write_column-requires-clause-roomy
 write_column-requires-clause-roomy c =
     let A = c.args in
     let s = A.sheet.now in
-    let k = c.loop-c.c in
-    let f = get_or A.facts k no_facts in
+    let k = c.loop-f.f-index in
+    let f = get_or A.facts.now k no_facts in
     let begun : min c.loop-from.from A.n ≡ c.loop-from.from = omega arith in
     rw (part_rest s f.base) (λ r a b.
     let inside : r < A.n = omega (arith, c.chunk_end-to.ensures) in
     let long =
-    field_long A.n k r f.base f.column s (c.requires.all_stand k c.loop-c-test.true) (bytes_of s (λ i. (c.type_inv.sheet i).fits)) inside in
+    field_long A.n k r f.base f.column s (c.requires.all_stand k c.loop-f-test.true) (bytes_of s (λ i. (c.type_inv.sheet i).fits)) inside in
     let room =
-    chunk_room c.loop-c.invariant c.loop-c-test.true (length c.loop-from.rows)
-    (λ r a b. row_room (rw begun at c.loop-from.invariant) c.requires.at_starts c.requires.count_in_bounds r a (omega (arith, c.chunk_end-to.ensures))) r a b in
-    omega (arith, long, room, c.loop-c.invariant.same))
+    chunk_room c.loop-f.invariant c.loop-f-test.true (length c.loop-from.rows)
+    (λ r a b. row_room (rw begun at c.loop-from.invariant) c.requires.at_starts c.requires.total_in_bounds r a (omega (arith, c.chunk_end-to.ensures))) r a b in
+    omega (arith, long, room, c.loop-f.invariant.same))
 
-pub loop-c-preserved : goal.loop-c-preserved
-loop-c-preserved c =
+pub loop-f-preserved : goal.loop-f-preserved
+loop-f-preserved c =
     let A = c.args in
     let begun : min c.loop-from.from A.n ≡ c.loop-from.from = omega arith in
-    let w = rw (part_rest A.sheet.now (get_or A.facts c.loop-c.c no_facts).base) at c.write_column.ensures in
-    chunk_more c.loop-c.invariant c.loop-c-test.true (omega (arith, c.chunk_end-to.ensures))
+    let w = rw (part_rest A.sheet.now (get_or A.facts.now c.loop-f.f-index no_facts).base) at c.write_column.ensures in
+    chunk_more c.loop-f.invariant c.loop-f-test.true (omega (arith, c.chunk_end-to.ensures))
     (apart (rw begun at c.loop-from.invariant) c.requires.at_starts _ (omega (arith, c.chunk_end-to.ensures))) _ _ w
 
 pub loop-from-preserved : goal.loop-from-preserved
@@ -59,7 +59,7 @@ loop-from-preserved c =
     let begun : min c.loop-from.from c.args.n ≡ c.loop-from.from = omega arith in
     rw (← c.chunk_end-to.ensures)
     (chunks_more (rw begun at c.loop-from.invariant) _ (omega (arith, c.chunk_end-to.ensures)) (omega (arith, c.chunk_end-to.ensures)) _ _
-    (chunk_end c.loop-c.invariant c.loop-c-test.false))
+    (chunk_end c.loop-f.invariant c.loop-f-test.false))
 
 -- ---- the chunk was the last
 pub returns-2 : goal.returns-2
@@ -70,4 +70,4 @@ returns-2 c =
     chunks_end
     (rw all at
     (chunks_more (rw begun at c.loop-from.invariant) _ (omega (arith, c.chunk_end-to.ensures)) (omega (arith, c.chunk_end-to.ensures)) _ _
-    (chunk_end c.loop-c.invariant c.loop-c-test.false)))
+    (chunk_end c.loop-f.invariant c.loop-f-test.false)))

@@ -1,33 +1,20 @@
-use Prim.Native.Nat.{ℕ, ◌-◌, ◌<◌, ◌≤◌}
-use mathlib.Core.Path.{◌≡◌, sym, ap, ◌∙◌}
+use Prim.Native.Nat.{ℕ, ◌-◌, ◌≤◌}
+use mathlib.Core.Path.{◌≡◌, refl, sym, ap, ◌∙◌}
 use mathlib.Core.List.{List}
 use native.Mathlib.Omega.{arith}
 use lib.ListN.{length, get_or, take, drop, length-drop}
-use lib.Seq.{get_or-take}
 use Rattle.std.proofs.lemmas.Result.{err_from_is_err_and}
 use Rattle.format.specs.declared.Column.{Column}
-use Rattle.format.specs.declared.Schema.{Schema}
 use Rattle.format.specs.Check.{Check}
 use Rattle.std.specs.declared.result.Result.TheVariants.{Ok}
 use Rattle.format.specs.Sheet.{layout, bits_fault, column_fault, column_bytes, column_slots, nulls_in}
 use Rattle.bits.proofs.Nulls.{bits_passed}
-use Rattle.laws.proofs.InUse.{Held, in_use}
+use Rattle.laws.proofs.InUse.{used_narrow}
 use Rattle.laws.proofs.Parts.{part_rest}
 use Rattle.laws.proofs.Sheets.{column_passed, column_room}
-use Rattle.format.specs.Schemas.{Limited, cols_of, no_column}
+use Rattle.format.specs.Schemas.{no_column}
 use Rattle.sheet_reader.proofs.SheetTurns.{start, bad, more, after, good}
 use Rattle.sheet_reader.proofs.sheet.check_sheet.Goals as goal
-
--- as many columns are in use as the schema counts, and column c is that of the array
-module _ (schema : Schema) (held : Held schema) (limited : Limited schema) (c : ℕ) where
-  past : schema.count ≤ c → length (cols_of schema) ≤ c
-  past h = omega (arith, in_use schema held limited.few)
-
-  there : c < schema.count → c < length (cols_of schema)
-  there h = omega (arith, in_use schema held limited.few)
-
-  is : c < schema.count → get_or schema.columns c no_column ≡ get_or (cols_of schema) c no_column
-  is h = sym (get_or-take schema.count schema.columns c no_column h)
 
 -- a column that was checked in the part of the sheet from `at` on, which the code takes as a range
 module _ (n c at : ℕ) (col : Column) (s : List ℕ) (check : Check)
@@ -60,28 +47,28 @@ pub loop-c-init : goal.loop-c-init
 loop-c-init c = start _ _ _ _
 
 pub check_column-requires : goal.check_column-requires
-check_column-requires c =
-    record { n_le_max_rows = c.requires.n_le_max_rows; kind_bound = c.requires.limited.narrow c.loop-c.c c.loop-c-test.true }
+check_column-requires c = record {
+  n_le_max_rows = c.requires.n_le_max_rows;
+  kind_bound = used_narrow c.args.schema c.in_use-column-items.ensures.says c.in_use-column-items.ensures.long c.requires.limited c.loop-c.c c.loop-c-test.true;
+}
 
 pub returns-in_err-check_column : goal.returns-in_err-check_column
 returns-in_err-check_column c =
     let p = err_from_is_err_and c.from_residual.result c.from_residual.ensures.1 in
-    rw (p.1, p.2) (let schema = c.args.schema in
-    let col = get_or schema.columns c.loop-c.c no_column in
-    bad _ _ _ _ _ _ _ c.loop-c.invariant col (there schema c.well_formed.0 c.requires.limited _ c.loop-c-test.true)
-    (is schema c.well_formed.0 c.requires.limited _ c.loop-c-test.true) _
+    let col = get_or c.in_use-column-items.result.now c.loop-c.c no_column in
+    rw (p.1, p.2, ← c.in_use-column-items.ensures.says) (bad _ _ _ _ _ _ _ c.loop-c.invariant col c.loop-c-test.true refl _
     (sym (said _ _ c.loop-c.at col c.args.sheet.now _ c.check_column.ensures) ∙ c.in_err-check_column.was))
 
 pub column_bytes-requires : goal.column_bytes-requires
 column_bytes-requires c = record {
   n_le_max_rows = c.requires.n_le_max_rows;
-  part_in_bounds = bytes_there c.args.n c.loop-c.c c.loop-c.at (get_or c.args.schema.columns c.loop-c.c no_column) c.args.sheet.now _
+  part_in_bounds = bytes_there c.args.n c.loop-c.c c.loop-c.at (get_or c.in_use-column-items.result.now c.loop-c.c no_column) c.args.sheet.now _
       c.check_column.ensures c.in_ok-check_column.was;
 }
 
 pub overflow_add-next : goal.overflow_add-next
 overflow_add-next c =
-    let col = get_or c.args.schema.columns c.loop-c.c no_column in
+    let col = get_or c.in_use-column-items.result.now c.loop-c.c no_column in
     let s = c.args.sheet.now in
     omega (
       arith,
@@ -92,26 +79,24 @@ overflow_add-next c =
 
 pub null_rows-nulls-requires : goal.null_rows-nulls-requires
 null_rows-nulls-requires c =
-    let checked = bits_passed _ _ _ (valid c.args.n c.loop-c.c c.loop-c.at (get_or c.args.schema.columns c.loop-c.c no_column) c.args.sheet.now _
+    let checked = bits_passed _ _ _ (valid c.args.n c.loop-c.c c.loop-c.at (get_or c.in_use-column-items.result.now c.loop-c.c no_column) c.args.sheet.now _
     c.check_column.ensures c.in_ok-check_column.was) in
     record { n_le_max_rows = c.requires.n_le_max_rows; n_in_bounds = checked.0; n_value = checked.1 }
 
 -- ---- the end of a turn
 pub loop-c-preserved : goal.loop-c-preserved
 loop-c-preserved c =
-    let schema = c.args.schema in
-    let col = get_or schema.columns c.loop-c.c no_column in
+    let col = get_or c.in_use-column-items.result.now c.loop-c.c no_column in
     let s = c.args.sheet.now in
     let null = c.null_rows-nulls.ensures.value (layout col) ∙ ap (λ (t : List ℕ). nulls_in (column_slots (layout col) c.args.n t)) (part_rest s c.loop-c.at) in
-    more _ _ _ _ _ _ _ c.loop-c.invariant col (there schema c.well_formed.0 c.requires.limited _ c.loop-c-test.true)
-    (is schema c.well_formed.0 c.requires.limited _ c.loop-c-test.true)
+    more _ _ _ _ _ _ _ c.loop-c.invariant col c.loop-c-test.true refl
     (passes _ _ c.loop-c.at col s _ c.check_column.ensures c.in_ok-check_column.was) _ _ null c.null_rows-nulls.ensures.upper_bound
-    c.requires.n_le_max_rows (wide _ c.loop-c.at _ col s c.column_bytes.ensures) (omega arith)
+    c.requires.n_le_max_rows (wide _ c.loop-c.at _ col s c.column_bytes.ensures) (omega (arith, c.in_use-column-items.ensures.long, c.requires.limited.few))
 
 pub returns-then-at-sheet : goal.returns-then-at-sheet
 returns-then-at-sheet c =
-    after _ _ _ _ _ _ _ c.loop-c.invariant (past c.args.schema c.well_formed.0 c.requires.limited _ c.loop-c-test.false) c.if-at-sheet.true
+    rw (← c.in_use-column-items.ensures.says) (after _ _ _ _ _ _ _ c.loop-c.invariant c.loop-c-test.false c.if-at-sheet.true)
 
 pub returns : goal.returns
 returns c =
-    good _ _ _ _ _ _ _ c.loop-c.invariant (past c.args.schema c.well_formed.0 c.requires.limited _ c.loop-c-test.false) c.if-at-sheet.false
+    rw (← c.in_use-column-items.ensures.says) (good _ _ _ _ _ _ _ c.loop-c.invariant c.loop-c-test.false c.if-at-sheet.false)

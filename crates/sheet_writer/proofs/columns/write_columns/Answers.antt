@@ -15,9 +15,8 @@ use Rattle.bits.specs.Ones.{ones_in}
 use Rattle.basics.specs.Wrote.{Wrote}
 use Rattle.basics.proofs.Bytes.{bytes_of}
 use Rattle.laws.proofs.InUse.{Held, next_in_use}
-use Rattle.flag_packer.specs.declared.Flag.TheVariants.{Valid}
 use Rattle.cursors.specs.Cursors.{Readable}
-use Rattle.flag_packer.specs.Flags.{flags_at}
+use Rattle.flag_packer.specs.Flags.{valid_at, flags_at}
 use Rattle.sheet_writer.specs.Writing.{Writable, values_at}
 use Rattle.sheet_writer.proofs.Parts.{flags_long, validity_nulls}
 use Rattle.sheet_writer.proofs.Stand.{Standing, column_to_come, stand_here, stand_room, stand_more}
@@ -31,7 +30,7 @@ module _ (schema : Schema) (held : Held schema) {rows cursors₀ out₀ cursors 
   col = get_or schema.columns c no_column
 
   abbrev flags : List ℕ
-  flags = flags_at Valid col rows cursors
+  flags = flags_at (valid_at col rows) cursors
 
   next : drop c (cols_of schema) ≡ col ∷ drop (suc c) (cols_of schema)
   next = next_in_use schema held w.limited.few c l
@@ -55,7 +54,7 @@ module _ (schema : Schema) (held : Held schema) {rows cursors₀ out₀ cursors 
     there = wrote_there p flags_room
 
     short : length (take (at' - at) (drop at out')) ≤ packed_for max_rows
-    short = rw there (omega (arith, flags_long col rows cursors Valid, few))
+    short = rw there (omega (arith, flags_long col rows cursors (valid_at col rows), few))
 
     module _ (ones : ℕ) (e : ones ≡ ones_in (take (at' - at) (drop at out'))) where
       ones_are : ones ≡ ones_in flags
@@ -65,20 +64,20 @@ module _ (schema : Schema) (held : Held schema) {rows cursors₀ out₀ cursors 
       some : ones ≤ length cursors₀
       some = omega (arith, ones_are, validity_nulls col rows cursors, t.many)
 
-pub pack-values-requires-clause-readable : goal.pack-values-requires-clause-readable
-pack-values-requires-clause-readable c =
+pub pack_valid-values-requires-clause-readable : goal.pack_valid-values-requires-clause-readable
+pack_valid-values-requires-clause-readable c =
     let bytes = bytes_of c.args.rows.now (λ i. (c.type_inv.rows i).fits) in
     readable c.args.schema c.well_formed.0 c.requires bytes c.loop-c.invariant c.loop-c-test.true
 
-pub pack-values-requires-clause-cursors_in_bounds : goal.pack-values-requires-clause-cursors_in_bounds
-pack-values-requires-clause-cursors_in_bounds c =
+pub pack_valid-values-requires-clause-cursors_in_bounds : goal.pack_valid-values-requires-clause-cursors_in_bounds
+pack_valid-values-requires-clause-cursors_in_bounds c =
     let A = c.args in
     let l = c.loop-c in
     let bytes = bytes_of A.rows.now (λ i. (c.type_inv.rows i).fits) in
     omega (
       arith,
       flags_room A.schema c.well_formed.0 c.requires bytes l.invariant c.loop-c-test.true,
-      flags_long (get_or A.schema.columns l.c no_column) A.rows.now l.cursors Valid,
+      flags_long (get_or A.schema.columns l.c no_column) A.rows.now l.cursors (valid_at (get_or A.schema.columns l.c no_column) A.rows.now),
     )
 
 pub slice_bounds-count_ones-end : goal.slice_bounds-count_ones-end
@@ -87,19 +86,19 @@ slice_bounds-count_ones-end c =
     omega (
       arith,
       flags_room c.args.schema c.well_formed.0 c.requires bytes c.loop-c.invariant c.loop-c-test.true,
-      c.pack-values.ensures.place,
-      c.pack-values.auto.sheet,
+      c.pack_valid-values.ensures.place,
+      c.pack_valid-values.auto.sheet,
     )
 
 pub count_ones-requires : goal.count_ones-requires
 count_ones-requires c =
     let bytes = bytes_of c.args.rows.now (λ i. (c.type_inv.rows i).fits) in
-    short c.args.schema c.well_formed.0 c.requires bytes c.loop-c.invariant c.loop-c-test.true c.pack-values.ensures
+    short c.args.schema c.well_formed.0 c.requires bytes c.loop-c.invariant c.loop-c-test.true c.pack_valid-values.ensures
 
 pub overflow_sub-nulls : goal.overflow_sub-nulls
 overflow_sub-nulls c =
     let bytes = bytes_of c.args.rows.now (λ i. (c.type_inv.rows i).fits) in
-    some c.args.schema c.well_formed.0 c.requires bytes c.loop-c.invariant c.loop-c-test.true c.pack-values.ensures _ c.count_ones.ensures.value
+    some c.args.schema c.well_formed.0 c.requires bytes c.loop-c.invariant c.loop-c-test.true c.pack_valid-values.ensures _ c.count_ones.ensures.value
 
 pub write_values-at-requires-clause-readable : goal.write_values-at-requires-clause-readable
 write_values-at-requires-clause-readable c =
@@ -111,7 +110,7 @@ write_values-at-requires-clause-cursors_in_bounds c =
     let A = c.args in
     let l = c.loop-c in
     let bytes = bytes_of A.rows.now (λ i. (c.type_inv.rows i).fits) in
-    room_after c.pack-values.ensures (values_at (get_or A.schema.columns l.c no_column) A.rows.now l.cursors)
+    room_after c.pack_valid-values.ensures (values_at (get_or A.schema.columns l.c no_column) A.rows.now l.cursors)
     (room A.schema c.well_formed.0 c.requires bytes l.invariant c.loop-c-test.true)
 
 pub loop-c-preserved : goal.loop-c-preserved
@@ -120,7 +119,7 @@ loop-c-preserved c =
     let l = c.loop-c in
     let bytes = bytes_of A.rows.now (λ i. (c.type_inv.rows i).fits) in
     let col = get_or A.schema.columns l.c no_column in
-    let both = wrote_both {a = flags_at Valid col A.rows.now l.cursors} c.pack-values.ensures c.write_values-at.ensures.wrote in
-    let counted = ones_are A.schema c.well_formed.0 c.requires bytes l.invariant c.loop-c-test.true c.pack-values.ensures _ c.count_ones.ensures.value in
+    let both = wrote_both {a = flags_at (valid_at col A.rows.now) l.cursors} c.pack_valid-values.ensures c.write_values-at.ensures.wrote in
+    let counted = ones_are A.schema c.well_formed.0 c.requires bytes l.invariant c.loop-c-test.true c.pack_valid-values.ensures _ c.count_ones.ensures.value in
     stand_more l.invariant bytes col (next_in_use A.schema c.well_formed.0 c.requires.limited.few l.c c.loop-c-test.true) c.requires.few both
     c.write_values-at.ensures.cursors_after c.count_ones.result counted

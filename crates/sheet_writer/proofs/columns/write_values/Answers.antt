@@ -8,7 +8,7 @@ use Rattle.format.specs.Kinds.{shape}
 use Rattle.basics.specs.Wrote.{Wrote}
 use Rattle.basics.proofs.Bytes.{bytes_of}
 use Rattle.basics.proofs.Sorts.{wide_arm}
-use Rattle.flag_packer.specs.declared.Flag.TheVariants.{True}
+use Rattle.flag_packer.specs.Flags.{true_at}
 use Rattle.sheet_writer.proofs.Parts.{flags_long, bool_values, bool_there, bool_next, wide_values, variable_values, variable_readable, variable_next}
 use Rattle.sheet_writer.proofs.columns.write_values.Goals as goal
 
@@ -19,14 +19,14 @@ fits at x e h = omega (arith, ap length e)
 same : {a b : List ℕ} {at : ℕ} {x y : List ℕ} {next : ℕ} → a ≡ b → Wrote b at x y next → Wrote a at x y next
 same e w = rw e w
 
-pub pack-end-requires-clause-flagged : goal.pack-end-requires-clause-flagged
-pack-end-requires-clause-flagged c = ap shape c.in-Bool.is
+pub pack_true-end-requires-clause-boolean : goal.pack_true-end-requires-clause-boolean
+pack_true-end-requires-clause-boolean c = ap shape c.in-Bool.is
 
-pub pack-end-requires-clause-cursors_in_bounds : goal.pack-end-requires-clause-cursors_in_bounds
-pack-end-requires-clause-cursors_in_bounds c =
+pub pack_true-end-requires-clause-cursors_in_bounds : goal.pack_true-end-requires-clause-cursors_in_bounds
+pack_true-end-requires-clause-cursors_in_bounds c =
     let A = c.args in
     let room = fits A.at A.sheet.now (bool_values A.column A.rows.now A.cursors.now c.in-Bool.is) c.requires.cursors_in_bounds in
-    omega (arith, room, flags_long A.column A.rows.now A.cursors.now True)
+    omega (arith, room, flags_long A.column A.rows.now A.cursors.now (true_at A.column A.rows.now))
 
 pub advance-requires : goal.advance-requires
 advance-requires c =
@@ -35,7 +35,7 @@ advance-requires c =
     λ r l. omega (arith, bool_there A.column A.rows.now A.cursors.now c.in-Bool.is bytes c.requires.readable r l, c.well_formed)
 
 pub returns-in-Bool-clause-wrote : goal.returns-in-Bool-clause-wrote
-returns-in-Bool-clause-wrote c = let A = c.args in same (bool_values A.column A.rows.now A.cursors.now c.in-Bool.is) c.pack-end.ensures
+returns-in-Bool-clause-wrote c = let A = c.args in same (bool_values A.column A.rows.now A.cursors.now c.in-Bool.is) c.pack_true-end.ensures
 
 pub returns-in-Bool-clause-cursors_after : goal.returns-in-Bool-clause-cursors_after
 returns-in-Bool-clause-cursors_after c =

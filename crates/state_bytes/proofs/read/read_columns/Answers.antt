@@ -6,7 +6,7 @@ use Rattle.state_bytes.proofs.read.read_columns.Goals as goal
 
 pub loop-i-init : goal.loop-i-init
 loop-i-init c =
-    columns_begin (λ j. column_of (code_at c.args.codes.now j)) c.args.count c.requires.count_le_max_columns _ c.no_column-none.ensures
+    columns_begin (λ j. column_of (code_at c.args.codes.now j)) c.args.count c.requires.count_le_max_columns _ c.default-columns.ensures
 
 pub coded_column-requires : goal.coded_column-requires
 coded_column-requires c = omega (arith, c.requires)

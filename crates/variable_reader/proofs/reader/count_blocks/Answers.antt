@@ -9,7 +9,7 @@ returns-then-len-at c =
 
 pub returns-then-end : goal.returns-then-end
 returns-then-end c =
-    counting_last c.loop-at.invariant _ c.block_size-size.ensures _ (omega arith) (c.wide.ensures.0 ∙ c.byte_at-end.ensures) _
+    counting_last c.loop-at.invariant _ c.block_size-size.ensures _ (omega arith) (c.from.ensures ∙ c.byte_at-end.ensures) _
     c.last_block.ensures
 
 pub returns-then-count-size-gt-MAX_SLOT : goal.returns-then-count-size-gt-MAX_SLOT

@@ -4,6 +4,7 @@ use mathlib.Core.Bool.{Bool, cond}
 use native.Mathlib.Omega.{arith}
 use borrow.Author.Tests.{lt-ltb}
 use Rattle.format.specs.Field.{block_size}
+use Rattle.variable_reader.specs.Counted.{Told}
 use Rattle.variable_reader.proofs.Counting.{Counting, counting_last, counting_next}
 use Rattle.variable_reader.proofs.short.short_blocks.Goals as goal
 
@@ -13,9 +14,9 @@ small k h = sym (ap (λ (b : Bool). cond b 8 32) (lt-ltb k 4 h))
 
 pub returns-then-end : goal.returns-then-end
 returns-then-end c some =
-    sym (c.lengths.ensures some)
-    ∙ counting_last c.loop-k.invariant 8 (small _ c.loop-k-test.true) _ (omega arith) (c.wide.ensures.0 ∙ c.byte_at-end.ensures) _
-    c.last_block.ensures
+    let counts = counting_last c.loop-k.invariant 8 (small _ c.loop-k-test.true) _ (omega arith)
+    (c.from.ensures ∙ c.byte_at-end.ensures) _ c.last_block.ensures in
+    subst (Told c.lengths.result.field c.lengths.result.value) counts (c.lengths.ensures some)
 
 pub loop-k-preserved : goal.loop-k-preserved
 loop-k-preserved c =

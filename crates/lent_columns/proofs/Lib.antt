@@ -1,2 +1,0 @@
--- What the walks share.
-pub mod Copying
