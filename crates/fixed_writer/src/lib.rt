@@ -82,8 +82,8 @@ pub fn encode(
             w as usize,
             descending,
         ),
-        Kind::I128 => put_words::<2>(out, place, values, r * 16, descending),
-        Kind::I256 => put_words::<4>(out, place, values, r * 32, descending),
+        Kind::I128 => put_words(out, place, values, r * 16, 2, descending),
+        Kind::I256 => put_words(out, place, values, r * 32, 4, descending),
         // Not handed.
         Kind::Bool => place,
         Kind::Variable => place,

@@ -39,7 +39,6 @@ pub fn take_number<W: Word>(
 }
 
 // A signed number of so many words of 64 bits: from the lowest word, which stands last, up to the top one, which has the sign.
-// To do: a const parameter, as in `put_words`, here and in `order_words`.
 pub fn take_words(
     out: &mut [u8],
     at: usize,

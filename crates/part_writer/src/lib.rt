@@ -45,20 +45,23 @@ pub fn encode_month_day_nano(
 }
 
 // A signed number of so many words of 64 bits: the top word, which has the sign, and then the others, from the highest down.
-pub fn put_words<const WORDS: usize>(
+// Always inlined: a call with a count that is known takes no loop.
+#[inline(always)]
+pub fn put_words(
     out: &mut [u8],
     at: usize,
     values: &[u8],
     from: usize,
+    words: usize,
     descending: bool,
 ) -> usize
-    requires words_nonzero { 0 < WORDS }
-    requires words_in_bounds { from + 8 * WORDS ≤ length values.now }
-    requires words_in_bounds_2 { at + 8 * WORDS ≤ length out.old }
-    ensures { Wrote (directed descending (signed_key (take (8 * WORDS) (drop from values.now)))) at
+    requires words_nonzero { 0 < words }
+    requires words_in_bounds { from + 8 * words ≤ length values.now }
+    requires words_in_bounds_2 { at + 8 * words ≤ length out.old }
+    ensures { Wrote (directed descending (signed_key (take (8 * words) (drop from values.now)))) at
         out.old out.new result }
 {
-    let top = WORDS - 1;
+    let top = words - 1;
     let mut next = put_number::<u64>(out, at, values, from + 8 * top, Coding::Signed, descending);
     for left in (0..top).rev() {
         next = put_number::<u64>(

@@ -1,14 +1,14 @@
 -- Copying bytes, inverted under descending, in steps of any count. Assumes nothing.
 use Prim.Native.Nat.{ℕ, ◌+◌, ◌-◌, ◌<◌, ◌≤◌}
-use mathlib.Core.Path.{◌≡◌, refl, sym, ap, ◌∙◌}
+use mathlib.Core.Path.{◌≡◌, refl, sym, ap, ap₂, ◌∙◌}
 use mathlib.Core.Bool.{Bool}
 use mathlib.Core.List.{List, [], ◌∷◌, ◌++◌, append-nil}
 use native.Mathlib.Omega.{arith}
 use lib.ListN.{length, get_or, set, take, drop, length-drop, drop_of_length-le, take-append-drop}
-use lib.Seq.{sets, sets-eq, drop-cons, drop-drop, length-take-le}
+use lib.Seq.{sets, sets-eq, drop-cons, drop-drop, take-add, length-take-le}
 use Rattle.format.specs.Field.{directed}
 use Rattle.format.specs.Lists.{low, low_bytes}
-use Rattle.basics.proofs.Append.{over_sets, Walk, walk_start, walk_piece, walk_end}
+use Rattle.basics.proofs.Append.{over_sets, sets_append, Walk, walk_start, walk_piece, walk_end}
 use Rattle.laws.proofs.Directed.{length_directed, directed_none, directed_append, directed_take, directed_drop}
 use Rattle.number.proofs.Words.{read_back}
 
@@ -21,6 +21,31 @@ sets_whole xs out e =
 -- so many bytes, and the others
 pub directed_cut : (d : Bool) (i : ℕ) (l : List ℕ) → directed d (take i l) ++ directed d (drop i l) ≡ directed d l
 directed_cut d i l = sym (directed_append d (take i l) (drop i l)) ∙ ap (directed d) (take-append-drop i l)
+
+-- so many bytes, then the others
+cut : (l : List ℕ) (q m w : ℕ) (d : Bool) → w ≤ m
+    → directed d (take m (drop q l)) ≡ directed d (take w (drop q l)) ++ directed d (take (m - w) (drop (q + w) l))
+cut l q m w d h =
+    ap (λ (k : ℕ). directed d (take k (drop q l))) {x = m} {y = w + (m - w)} (omega arith)
+    ∙ ap (directed d) (take-add w (m - w) (drop q l))
+    ∙ directed_append d (take w (drop q l)) (take (m - w) (drop w (drop q l)))
+    ∙ ap (λ (z : List ℕ). directed d (take w (drop q l)) ++ directed d (take (m - w) z)) (drop-drop w q l)
+
+-- two runs, one after the other
+module _ (l : List ℕ) (q m w : ℕ) (d : Bool) (out₀ : List ℕ) (at : ℕ) (out last : List ℕ) (h : w ≤ m) (inside : q + m ≤ length l) where
+  abbrev front : List ℕ
+  front = directed d (take w (drop q l))
+
+  abbrev back : List ℕ
+  back = directed d (take (m - w) (drop (q + w) l))
+
+  long : at + w ≡ at + length front
+  long = omega (arith, length_directed d (take w (drop q l)), length-take-le w (drop q l) (omega (arith, length-drop q l)))
+
+  pub copy_two : out ≡ sets out₀ at front → last ≡ sets out (at + w) back → last ≡ sets out₀ at (directed d (take m (drop q l)))
+  copy_two e f =
+      f ∙ ap₂ (λ (z : List ℕ) (k : ℕ). sets z k back) e long
+      ∙ sym (ap (sets out₀ at) (cut l q m w d h) ∙ sets_append front back out₀ at)
 
 -- i bytes are copied
 pub record Copying (l : List ℕ) (d : Bool) (out₀ out : List ℕ) (i : ℕ) : Type 0 where

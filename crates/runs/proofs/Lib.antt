@@ -3,3 +3,4 @@ pub mod Direction
 pub mod Copying
 pub mod Written
 pub mod Parts
+pub mod Twice

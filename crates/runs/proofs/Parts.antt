@@ -1,16 +1,14 @@
 -- Pieces written into parts of a buffer. Assumes nothing.
 use Prim.Native.Nat.{ℕ, ◌+◌, ◌-◌, ◌≤◌}
-use mathlib.Core.Path.{◌≡◌, sym, ap, ap₂, ◌∙◌}
+use mathlib.Core.Path.{◌≡◌, sym, ap, ◌∙◌}
 use mathlib.Core.Bool.{Bool}
-use mathlib.Core.List.{List, ◌++◌, append_assoc, append-nil}
+use mathlib.Core.List.{List, ◌++◌, append_assoc}
 use native.Mathlib.Omega.{arith}
-use lib.ListN.{length, take, drop, replicate, length-drop, length-replicate, drop_of_length-le}
-use lib.Seq.{sets, sets-eq, drop-drop, length-take-le, take-take}
+use lib.ListN.{length, take, drop, replicate, length-drop, length-replicate}
+use lib.Seq.{sets, sets-eq, drop-drop, length-take-le}
 use borrow.Rule.Slice.PartMut.{put_mid}
-use Rattle.std.proofs.lemmas.List.{take-append-le}
 use Rattle.format.specs.Field.{directed}
-use Rattle.laws.proofs.Directed.{length_directed, directed_take}
-use Rattle.runs.proofs.Copying.{directed_cut}
+use Rattle.laws.proofs.Directed.{length_directed}
 
 -- a piece as long as the part
 pub part_put : (at n : ℕ) (out piece : List ℕ) → length piece ≡ n → at + n ≤ length out → put_mid at (at + n - at) out piece ≡ sets out at piece
@@ -48,27 +46,3 @@ part_copied at n from d out src piece e inside fits =
     let long : length bytes ≡ n
     = length_directed d (take n (drop from src)) ∙ length-take-le n (drop from src) (omega (arith, length-drop from src)) in
     ap (put_mid at (at + n - at) out) is ∙ part_put at n out bytes long fits
-
--- ---- bytes that are written twice: two pieces of one run, which overlap, are the run
-
--- the first w bytes, and then all after the first k, which are no more
-pub copy_twice : (l : List ℕ) (d : Bool) (k w : ℕ) (mid rest last : List ℕ) → k ≤ w → w ≤ length l → mid ≡ directed d (take w l) ++ rest
-    → length mid ≡ length l → last ≡ sets mid k (directed d (drop k l)) → last ≡ directed d l
-copy_twice l d k w mid rest last hk hw e same f =
-    f
-    ∙ sets-eq back mid k (omega (arith, long, same))
-    ∙ ap₂ (λ (x y : List ℕ). x ++ back ++ y) front (drop_of_length-le mid {i = k + length back} (omega (arith, long, same)))
-    ∙ append-nil (directed d (take k l) ++ back) ∙ directed_cut d k l
-  where
-    back : List ℕ
-    back = directed d (drop k l)
-
-    long : length back ≡ length l - k
-    long = length_directed d (drop k l) ∙ length-drop k l
-
-    first : k ≤ length (directed d (take w l))
-    first = omega (arith, length_directed d (take w l), length-take-le w l hw)
-
-    front : take k mid ≡ directed d (take k l)
-    front =
-        ap (take k) e ∙ take-append-le k (directed d (take w l)) rest first ∙ sym (directed_take d k (take w l)) ∙ ap (directed d) (take-take k w l hk)

@@ -6,5 +6,5 @@ use Rattle.part_writer.proofs.Words.{lower}
 use Rattle.part_writer.proofs.put_words.Given as goal
 
 abbrev pub invariant-loop-left : goal.invariant-loop-left
-invariant-loop-left g l =
+invariant-loop-left l =
     (l.left ≤ l.initial.left) × Walk (lower l.descending l.values l.from l.initial.left) (lower l.descending l.values l.from l.left) l.initial.out l.initial.next l.out l.next

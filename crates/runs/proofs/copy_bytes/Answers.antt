@@ -9,7 +9,8 @@ use borrow.Rule.Slice.PartMut.{put_mid}
 use Rattle.format.specs.Field.{directed}
 use Rattle.laws.proofs.Directed.{length_directed}
 use Rattle.laws.proofs.Parts.{part_rest}
-use Rattle.runs.proofs.Parts.{part_put, copy_twice}
+use Rattle.runs.proofs.Parts.{part_put}
+use Rattle.runs.proofs.Twice.{whole_twice}
 use Rattle.runs.proofs.copy_bytes.Goals as goal
 
 pub returns : goal.returns
@@ -22,7 +23,7 @@ returns c =
     let many : length mid ≡ length l
     = omega (arith, c.copy_words.auto.out, c.requires, length-append c.copy_words.new.out (drop w c.args.out.now), length-drop w c.args.out.now) in
     let long : length c.copy_rest.new.out ≡ length l - w = omega (arith, ap length rest, length_directed d (drop w l), length-drop w l) in
-    copy_twice l d w w mid (drop w c.args.out.now) _ (omega arith) (omega arith)
+    whole_twice l d w w mid (drop w c.args.out.now) _ (omega arith) (omega arith)
     (ap (λ (z : List ℕ). z ++ drop w c.args.out.now) c.copy_words.ensures) many
     (ap (λ (m : ℕ). put_mid w m mid c.copy_rest.new.out) {x = length mid - w} {y = w + (length l - w) - w} (omega (arith, many))
     ∙ part_put w (length l - w) mid c.copy_rest.new.out long (omega (arith, many))

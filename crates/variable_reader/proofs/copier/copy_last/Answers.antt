@@ -5,7 +5,7 @@ use mathlib.Core.Path.{◌≡◌, ap, ◌∙◌}
 use mathlib.Core.List.{List, ◌++◌}
 use lib.ListN.{length, drop, length-append, length-drop}
 use lib.Seq.{sets}
-use Rattle.runs.proofs.Parts.{copy_twice}
+use Rattle.runs.proofs.Twice.{whole_twice}
 use Rattle.variable_reader.proofs.Twice.{last_is}
 use Rattle.variable_reader.proofs.copier.copy_last.Goals as goal
 
@@ -19,5 +19,5 @@ returns c =
     let last = last_is l 8 d _ _ (λ i. (c.type_inv.src i).fits) (omega (arith, c.if-count-lt8.false)) c.low-last.ensures c.directed.ensures in
     let many : length (front ++ rest) ≡ length l
     = omega (arith, c.copy_words.auto.out, c.requires, length-append front rest, length-drop w c.args.out.now) in
-    copy_twice l d (length l - 8) w (front ++ rest) rest _ (omega arith) (omega arith) (ap (λ (z : List ℕ). z ++ rest) c.copy_words.ensures) many
+    whole_twice l d (length l - 8) w (front ++ rest) rest _ (omega arith) (omega arith) (ap (λ (z : List ℕ). z ++ rest) c.copy_words.ensures) many
     (c.put.ensures ∙ ap (sets (front ++ rest) (length l - 8)) last)
